@@ -1,0 +1,24 @@
+use borrow.Author.Needs.{needs}
+use mathlib.Core.Path.{_≡_, sym}
+use lib.ListN.{length}
+use Rattle.laws.proofs.Places.{inside, past, length-mapped}
+use Rattle.config.specs.Tables.{noRequiredConf, requiredConfIn}
+use Rattle.config.proofs.RequiredConfs.get.Statement.{statement}
+use Rattle.config.proofs.RequiredConfs.get.Tie as tie
+
+returns : tie.Need-returns
+unfolding requiredConfIn
+returns c =
+    let a = c .before .before .args in
+    let e : length (a .t1 .at) ≡ 16 = search (needs, length-mapped) in
+    inside (a .t1 .at) (a .i) 16 _ _ e (c .before .if1 .taken)
+
+returns-2 : tie.Need-returns-2
+unfolding requiredConfIn
+returns-2 c =
+    let a = c .before .args in
+    let e : length (a .t1 .at) ≡ 16 = search (needs, length-mapped) in
+    sym (past (a .t1 .at) (a .i) 16 noRequiredConf e (c .if1 .left))
+
+pub get-spec : {M : Type 1} → statement M
+get-spec = tie.close (tie.spec (λ c. search needs) (λ c. search needs) returns returns-2)

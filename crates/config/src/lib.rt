@@ -1,0 +1,615 @@
+// The parts of a configuration at their real sizes. Each kind stands in a table of its own, and a table type says how many it holds.
+ghost use mathlib.Core.Path.{_≡_};
+ghost use Rattle.config.specs.Tables.{noRunnableConfs, noVariableConfs, noAreaConfs, noRequiredConfs, noProvidedConfs, noLinks, noOperationConfs, noTimerConfs, noDataEvents, noReturnEvents, runnableConfIn, variableConfIn, areaConfIn, requiredConfIn, providedConfIn, linkIn, operationConfIn, timerConfIn, dataEventIn, returnEventIn, addRunnableConf, addVariableConf, addAreaConf, addRequiredConf, addProvidedConf, addLink, addOperationConf, addTimerConf, addDataEvent, addReturnEvent, noConfig};
+
+pub struct RunnableConf {
+    pub component: u8,
+    pub concurrent: bool,
+    pub init: bool,
+    pub interval: u32,
+    pub capacity: u8,
+}
+
+// The runnables, numbered from 0 in file order; the first n places are in use.
+pub struct RunnableConfs {
+    pub n: u8,
+    pub at: [RunnableConf; RunnableConfs::MAX],
+}
+
+impl RunnableConfs {
+    pub const MAX: usize = 16;
+
+    pub fn none() -> RunnableConfs
+        ensures { λ r. ⌜ r ≡ noRunnableConfs ⌝ }
+    {
+        RunnableConfs {
+            n: 0,
+            at: [RunnableConf::BLANK; RunnableConfs::MAX],
+        }
+    }
+
+    // What stands at place i, or the blank part past the last place.
+    pub fn get(self, i: u8) -> RunnableConf
+        ensures { λ r. ⌜ r ≡ runnableConfIn self i ⌝ }
+    {
+        let k = i as usize;
+        if k < RunnableConfs::MAX {
+            return self.at[k];
+        }
+        RunnableConf::BLANK
+    }
+
+    // One more, at the first unused place; nothing changes where there is none.
+    pub fn with(self, x: RunnableConf) -> RunnableConfs
+        ensures { λ r. ⌜ r ≡ addRunnableConf self x ⌝ }
+    {
+        let n = self.n;
+        let k = n as usize;
+        if k < RunnableConfs::MAX {
+            let mut t = self;
+            t.at[k] = x;
+            t.n = n + 1;
+            return t;
+        }
+        self
+    }
+}
+
+impl RunnableConf {
+    pub const BLANK: RunnableConf = RunnableConf {
+        component: 0,
+        concurrent: false,
+        init: false,
+        interval: 0,
+        capacity: 0,
+    };
+}
+
+pub struct VariableConf {
+    pub component: u8,
+    pub initialed: bool,
+    pub initial: u32,
+}
+
+// The variables, numbered from 0 in file order; the first n places are in use.
+pub struct VariableConfs {
+    pub n: u8,
+    pub at: [VariableConf; VariableConfs::MAX],
+}
+
+impl VariableConfs {
+    pub const MAX: usize = 16;
+
+    pub fn none() -> VariableConfs
+        ensures { λ r. ⌜ r ≡ noVariableConfs ⌝ }
+    {
+        VariableConfs {
+            n: 0,
+            at: [VariableConf::BLANK; VariableConfs::MAX],
+        }
+    }
+
+    // What stands at place i, or the blank part past the last place.
+    pub fn get(self, i: u8) -> VariableConf
+        ensures { λ r. ⌜ r ≡ variableConfIn self i ⌝ }
+    {
+        let k = i as usize;
+        if k < VariableConfs::MAX {
+            return self.at[k];
+        }
+        VariableConf::BLANK
+    }
+
+    // One more, at the first unused place; nothing changes where there is none.
+    pub fn with(self, x: VariableConf) -> VariableConfs
+        ensures { λ r. ⌜ r ≡ addVariableConf self x ⌝ }
+    {
+        let n = self.n;
+        let k = n as usize;
+        if k < VariableConfs::MAX {
+            let mut t = self;
+            t.at[k] = x;
+            t.n = n + 1;
+            return t;
+        }
+        self
+    }
+}
+
+impl VariableConf {
+    pub const BLANK: VariableConf = VariableConf {
+        component: 0,
+        initialed: false,
+        initial: 0,
+    };
+}
+
+pub struct AreaConf {
+    pub component: u8,
+}
+
+// The exclusive areas, numbered from 0 in file order; the first n places are in use.
+pub struct AreaConfs {
+    pub n: u8,
+    pub at: [AreaConf; AreaConfs::MAX],
+}
+
+impl AreaConfs {
+    pub const MAX: usize = 16;
+
+    pub fn none() -> AreaConfs
+        ensures { λ r. ⌜ r ≡ noAreaConfs ⌝ }
+    {
+        AreaConfs {
+            n: 0,
+            at: [AreaConf::BLANK; AreaConfs::MAX],
+        }
+    }
+
+    // What stands at place i, or the blank part past the last place.
+    pub fn get(self, i: u8) -> AreaConf
+        ensures { λ r. ⌜ r ≡ areaConfIn self i ⌝ }
+    {
+        let k = i as usize;
+        if k < AreaConfs::MAX {
+            return self.at[k];
+        }
+        AreaConf::BLANK
+    }
+
+    // One more, at the first unused place; nothing changes where there is none.
+    pub fn with(self, x: AreaConf) -> AreaConfs
+        ensures { λ r. ⌜ r ≡ addAreaConf self x ⌝ }
+    {
+        let n = self.n;
+        let k = n as usize;
+        if k < AreaConfs::MAX {
+            let mut t = self;
+            t.at[k] = x;
+            t.n = n + 1;
+            return t;
+        }
+        self
+    }
+}
+
+impl AreaConf {
+    pub const BLANK: AreaConf = AreaConf { component: 0 };
+}
+
+pub struct RequiredConf {
+    pub component: u8,
+    pub capacity: u8,
+}
+
+// The required elements, numbered from 0 in file order; the first n places are in use.
+pub struct RequiredConfs {
+    pub n: u8,
+    pub at: [RequiredConf; RequiredConfs::MAX],
+}
+
+impl RequiredConfs {
+    pub const MAX: usize = 16;
+
+    pub fn none() -> RequiredConfs
+        ensures { λ r. ⌜ r ≡ noRequiredConfs ⌝ }
+    {
+        RequiredConfs {
+            n: 0,
+            at: [RequiredConf::BLANK; RequiredConfs::MAX],
+        }
+    }
+
+    // What stands at place i, or the blank part past the last place.
+    pub fn get(self, i: u8) -> RequiredConf
+        ensures { λ r. ⌜ r ≡ requiredConfIn self i ⌝ }
+    {
+        let k = i as usize;
+        if k < RequiredConfs::MAX {
+            return self.at[k];
+        }
+        RequiredConf::BLANK
+    }
+
+    // One more, at the first unused place; nothing changes where there is none.
+    pub fn with(self, x: RequiredConf) -> RequiredConfs
+        ensures { λ r. ⌜ r ≡ addRequiredConf self x ⌝ }
+    {
+        let n = self.n;
+        let k = n as usize;
+        if k < RequiredConfs::MAX {
+            let mut t = self;
+            t.at[k] = x;
+            t.n = n + 1;
+            return t;
+        }
+        self
+    }
+}
+
+impl RequiredConf {
+    pub const BLANK: RequiredConf = RequiredConf {
+        component: 0,
+        capacity: 0,
+    };
+}
+
+pub struct ProvidedConf {
+    pub component: u8,
+    pub queued: bool,
+}
+
+// The provided elements, numbered from 0 in file order; the first n places are in use.
+pub struct ProvidedConfs {
+    pub n: u8,
+    pub at: [ProvidedConf; ProvidedConfs::MAX],
+}
+
+impl ProvidedConfs {
+    pub const MAX: usize = 16;
+
+    pub fn none() -> ProvidedConfs
+        ensures { λ r. ⌜ r ≡ noProvidedConfs ⌝ }
+    {
+        ProvidedConfs {
+            n: 0,
+            at: [ProvidedConf::BLANK; ProvidedConfs::MAX],
+        }
+    }
+
+    // What stands at place i, or the blank part past the last place.
+    pub fn get(self, i: u8) -> ProvidedConf
+        ensures { λ r. ⌜ r ≡ providedConfIn self i ⌝ }
+    {
+        let k = i as usize;
+        if k < ProvidedConfs::MAX {
+            return self.at[k];
+        }
+        ProvidedConf::BLANK
+    }
+
+    // One more, at the first unused place; nothing changes where there is none.
+    pub fn with(self, x: ProvidedConf) -> ProvidedConfs
+        ensures { λ r. ⌜ r ≡ addProvidedConf self x ⌝ }
+    {
+        let n = self.n;
+        let k = n as usize;
+        if k < ProvidedConfs::MAX {
+            let mut t = self;
+            t.at[k] = x;
+            t.n = n + 1;
+            return t;
+        }
+        self
+    }
+}
+
+impl ProvidedConf {
+    pub const BLANK: ProvidedConf = ProvidedConf {
+        component: 0,
+        queued: false,
+    };
+}
+
+pub struct Link {
+    pub provided: u8,
+    pub required: u8,
+}
+
+// The links, numbered from 0 in file order; the first n places are in use.
+pub struct Links {
+    pub n: u8,
+    pub at: [Link; Links::MAX],
+}
+
+impl Links {
+    pub const MAX: usize = 32;
+
+    pub fn none() -> Links
+        ensures { λ r. ⌜ r ≡ noLinks ⌝ }
+    {
+        Links {
+            n: 0,
+            at: [Link::BLANK; Links::MAX],
+        }
+    }
+
+    // What stands at place i, or the blank part past the last place.
+    pub fn get(self, i: u8) -> Link
+        ensures { λ r. ⌜ r ≡ linkIn self i ⌝ }
+    {
+        let k = i as usize;
+        if k < Links::MAX {
+            return self.at[k];
+        }
+        Link::BLANK
+    }
+
+    // One more, at the first unused place; nothing changes where there is none.
+    pub fn with(self, x: Link) -> Links
+        ensures { λ r. ⌜ r ≡ addLink self x ⌝ }
+    {
+        let n = self.n;
+        let k = n as usize;
+        if k < Links::MAX {
+            let mut t = self;
+            t.at[k] = x;
+            t.n = n + 1;
+            return t;
+        }
+        self
+    }
+}
+
+impl Link {
+    pub const BLANK: Link = Link {
+        provided: 0,
+        required: 0,
+    };
+}
+
+pub struct OperationConf {
+    pub component: u8,
+    pub asynchronous: bool,
+    pub server: u8,
+    pub timeout: u32,
+}
+
+// The operations, numbered from 0 in file order; the first n places are in use.
+pub struct OperationConfs {
+    pub n: u8,
+    pub at: [OperationConf; OperationConfs::MAX],
+}
+
+impl OperationConfs {
+    pub const MAX: usize = 8;
+
+    pub fn none() -> OperationConfs
+        ensures { λ r. ⌜ r ≡ noOperationConfs ⌝ }
+    {
+        OperationConfs {
+            n: 0,
+            at: [OperationConf::BLANK; OperationConfs::MAX],
+        }
+    }
+
+    // What stands at place i, or the blank part past the last place.
+    pub fn get(self, i: u8) -> OperationConf
+        ensures { λ r. ⌜ r ≡ operationConfIn self i ⌝ }
+    {
+        let k = i as usize;
+        if k < OperationConfs::MAX {
+            return self.at[k];
+        }
+        OperationConf::BLANK
+    }
+
+    // One more, at the first unused place; nothing changes where there is none.
+    pub fn with(self, x: OperationConf) -> OperationConfs
+        ensures { λ r. ⌜ r ≡ addOperationConf self x ⌝ }
+    {
+        let n = self.n;
+        let k = n as usize;
+        if k < OperationConfs::MAX {
+            let mut t = self;
+            t.at[k] = x;
+            t.n = n + 1;
+            return t;
+        }
+        self
+    }
+}
+
+impl OperationConf {
+    pub const BLANK: OperationConf = OperationConf {
+        component: 0,
+        asynchronous: false,
+        server: 0,
+        timeout: 0,
+    };
+}
+
+pub struct TimerConf {
+    pub runnable: u8,
+    pub period: u32,
+}
+
+// The timers, numbered from 0 in file order; the first n places are in use.
+pub struct TimerConfs {
+    pub n: u8,
+    pub at: [TimerConf; TimerConfs::MAX],
+}
+
+impl TimerConfs {
+    pub const MAX: usize = 8;
+
+    pub fn none() -> TimerConfs
+        ensures { λ r. ⌜ r ≡ noTimerConfs ⌝ }
+    {
+        TimerConfs {
+            n: 0,
+            at: [TimerConf::BLANK; TimerConfs::MAX],
+        }
+    }
+
+    // What stands at place i, or the blank part past the last place.
+    pub fn get(self, i: u8) -> TimerConf
+        ensures { λ r. ⌜ r ≡ timerConfIn self i ⌝ }
+    {
+        let k = i as usize;
+        if k < TimerConfs::MAX {
+            return self.at[k];
+        }
+        TimerConf::BLANK
+    }
+
+    // One more, at the first unused place; nothing changes where there is none.
+    pub fn with(self, x: TimerConf) -> TimerConfs
+        ensures { λ r. ⌜ r ≡ addTimerConf self x ⌝ }
+    {
+        let n = self.n;
+        let k = n as usize;
+        if k < TimerConfs::MAX {
+            let mut t = self;
+            t.at[k] = x;
+            t.n = n + 1;
+            return t;
+        }
+        self
+    }
+}
+
+impl TimerConf {
+    pub const BLANK: TimerConf = TimerConf {
+        runnable: 0,
+        period: 0,
+    };
+}
+
+pub struct DataEvent {
+    pub runnable: u8,
+    pub required: u8,
+}
+
+// The data events, numbered from 0 in file order; the first n places are in use.
+pub struct DataEvents {
+    pub n: u8,
+    pub at: [DataEvent; DataEvents::MAX],
+}
+
+impl DataEvents {
+    pub const MAX: usize = 32;
+
+    pub fn none() -> DataEvents
+        ensures { λ r. ⌜ r ≡ noDataEvents ⌝ }
+    {
+        DataEvents {
+            n: 0,
+            at: [DataEvent::BLANK; DataEvents::MAX],
+        }
+    }
+
+    // What stands at place i, or the blank part past the last place.
+    pub fn get(self, i: u8) -> DataEvent
+        ensures { λ r. ⌜ r ≡ dataEventIn self i ⌝ }
+    {
+        let k = i as usize;
+        if k < DataEvents::MAX {
+            return self.at[k];
+        }
+        DataEvent::BLANK
+    }
+
+    // One more, at the first unused place; nothing changes where there is none.
+    pub fn with(self, x: DataEvent) -> DataEvents
+        ensures { λ r. ⌜ r ≡ addDataEvent self x ⌝ }
+    {
+        let n = self.n;
+        let k = n as usize;
+        if k < DataEvents::MAX {
+            let mut t = self;
+            t.at[k] = x;
+            t.n = n + 1;
+            return t;
+        }
+        self
+    }
+}
+
+impl DataEvent {
+    pub const BLANK: DataEvent = DataEvent {
+        runnable: 0,
+        required: 0,
+    };
+}
+
+pub struct ReturnEvent {
+    pub runnable: u8,
+    pub operation: u8,
+}
+
+// The return events, numbered from 0 in file order; the first n places are in use.
+pub struct ReturnEvents {
+    pub n: u8,
+    pub at: [ReturnEvent; ReturnEvents::MAX],
+}
+
+impl ReturnEvents {
+    pub const MAX: usize = 16;
+
+    pub fn none() -> ReturnEvents
+        ensures { λ r. ⌜ r ≡ noReturnEvents ⌝ }
+    {
+        ReturnEvents {
+            n: 0,
+            at: [ReturnEvent::BLANK; ReturnEvents::MAX],
+        }
+    }
+
+    // What stands at place i, or the blank part past the last place.
+    pub fn get(self, i: u8) -> ReturnEvent
+        ensures { λ r. ⌜ r ≡ returnEventIn self i ⌝ }
+    {
+        let k = i as usize;
+        if k < ReturnEvents::MAX {
+            return self.at[k];
+        }
+        ReturnEvent::BLANK
+    }
+
+    // One more, at the first unused place; nothing changes where there is none.
+    pub fn with(self, x: ReturnEvent) -> ReturnEvents
+        ensures { λ r. ⌜ r ≡ addReturnEvent self x ⌝ }
+    {
+        let n = self.n;
+        let k = n as usize;
+        if k < ReturnEvents::MAX {
+            let mut t = self;
+            t.at[k] = x;
+            t.n = n + 1;
+            return t;
+        }
+        self
+    }
+}
+
+impl ReturnEvent {
+    pub const BLANK: ReturnEvent = ReturnEvent {
+        runnable: 0,
+        operation: 0,
+    };
+}
+
+// A configuration: its ten kinds of parts.
+pub struct Config {
+    pub runnables: RunnableConfs,
+    pub variables: VariableConfs,
+    pub areas: AreaConfs,
+    pub required: RequiredConfs,
+    pub provided: ProvidedConfs,
+    pub links: Links,
+    pub operations: OperationConfs,
+    pub timers: TimerConfs,
+    pub devents: DataEvents,
+    pub revents: ReturnEvents,
+}
+
+impl Config {
+    // No part of any kind.
+    pub fn none() -> Config
+        ensures { λ r. ⌜ r ≡ noConfig ⌝ }
+    {
+        Config {
+            runnables: RunnableConfs::none(),
+            variables: VariableConfs::none(),
+            areas: AreaConfs::none(),
+            required: RequiredConfs::none(),
+            provided: ProvidedConfs::none(),
+            links: Links::none(),
+            operations: OperationConfs::none(),
+            timers: TimerConfs::none(),
+            devents: DataEvents::none(),
+            revents: ReturnEvents::none(),
+        }
+    }
+}

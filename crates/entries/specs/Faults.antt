@@ -1,0 +1,109 @@
+-- When a configuration is sound: refusals 23 to 26, entry by entry, and blank places ("Numbers of refusal", reading a configuration; "A sound state", first sentence).
+-- A part names only parts of kinds that come before its own in the file, so the faults of an entry are the same while reading and afterwards.
+-- Assumes nothing.
+use Prim.Native.Nat.{ℕ, _+_, _-_}
+use mathlib.Core.Bool.{Bool, true, false, not}
+use lib.Dec.{ltb, leb, eqb}
+use Rattle.laws.specs.Choice.{pick, both, either, alike}
+use Rattle.laws.specs.Loop.{allBelow}
+use Rattle.config.specs.declared.Config.{Config}
+use Rattle.config.specs.Tables.{runnableConfIn, requiredConfIn, providedConfIn}
+use Rattle.entries.specs.declared.Entry.{Entry}
+use Rattle.entries.specs.Entries.{maxOf, countOf, placesOf, entryOf}
+
+-- components are 0 to 15
+abbrev pub maxComponent : ℕ
+maxComponent = 15
+
+-- an hour in milliseconds: the top of intervals, timeouts and periods
+abbrev pub maxTime : ℕ
+maxTime = 3600000
+
+-- the top of a capacity; 0 marks a plain runnable or an unqueued element
+abbrev pub maxCapacity : ℕ
+maxCapacity = 16
+
+-- a time of at least 1
+abbrev pub isTime : ℕ → Bool
+isTime n = both (ltb 0 n) (leb n maxTime)
+
+-- the numbers of an entry are in range; numbers of parts are not looked at here
+unfoldable pub inRange : ℕ → Entry → Bool
+inRange tag e =
+    pick (eqb tag 0x10) (both (leb (e .first) maxComponent) (both (leb (e .second) 3) (both (leb (e .number) maxTime) (leb (e .third) maxCapacity))))
+    (pick (eqb tag 0x11) (both (leb (e .first) maxComponent) (leb (e .second) 1))
+    (pick (eqb tag 0x12) (leb (e .first) maxComponent)
+    (pick (eqb tag 0x13) (both (leb (e .first) maxComponent) (leb (e .second) maxCapacity))
+    (pick (eqb tag 0x14) (both (leb (e .first) maxComponent) (leb (e .second) 1))
+    (pick (eqb tag 0x16) (both (leb (e .first) maxComponent) (both (leb (e .second) 1) (isTime (e .number))))
+    (pick (eqb tag 0x17) (isTime (e .number))
+    true))))))
+
+-- every part that an entry names is there
+unfoldable pub namesThere : Config → ℕ → Entry → Bool
+namesThere cfg tag e =
+    pick (eqb tag 0x15) (both (ltb (e .first) (cfg .provided .n)) (ltb (e .second) (cfg .required .n)))
+    (pick (eqb tag 0x16) (ltb (e .third) (cfg .runnables .n))
+    (pick (eqb tag 0x17) (ltb (e .first) (cfg .runnables .n))
+    (pick (eqb tag 0x18) (both (ltb (e .first) (cfg .runnables .n)) (ltb (e .second) (cfg .required .n)))
+    (pick (eqb tag 0x19) (both (ltb (e .first) (cfg .runnables .n)) (ltb (e .second) (cfg .operations .n)))
+    true))))
+
+-- a runnable with a request capacity is a server, any other plain
+unfoldable pub isServer : Config → ℕ → Bool
+isServer cfg r = ltb 0 (runnableConfIn (cfg .runnables) r .capacity)
+
+-- a required element with a capacity is queued
+unfoldable pub isQueued : Config → ℕ → Bool
+isQueued cfg q = ltb 0 (requiredConfIn (cfg .required) q .capacity)
+
+-- the pair of an entry lies above another's, by the first number and then by the second
+unfoldable pub rises : Entry → Entry → Bool
+rises d e = either (ltb (d .first) (e .first)) (both (eqb (d .first) (e .first)) (ltb (d .second) (e .second)))
+
+-- the pair at place i lies above the one before it
+unfoldable pub risesAt : Config → ℕ → ℕ → Entry → Bool
+risesAt cfg tag i e = either (eqb i 0) (rises (entryOf cfg tag (i - 1)) e)
+
+-- no bad pairing: no init flag on a server, no initial without its mark, links join like kinds, operations stand on servers, timers and events on plain runnables, and link and event pairs rise
+unfoldable pub pairsWell : Config → ℕ → ℕ → Entry → Bool
+pairsWell cfg tag i e =
+    pick (eqb tag 0x10) (either (leb (e .second) 1) (eqb (e .third) 0))
+    (pick (eqb tag 0x11) (either (eqb (e .second) 1) (eqb (e .number) 0))
+    (pick (eqb tag 0x15) (both (alike (providedConfIn (cfg .provided) (e .first) .queued) (isQueued cfg (e .second))) (risesAt cfg tag i e))
+    (pick (eqb tag 0x16) (isServer cfg (e .third))
+    (pick (eqb tag 0x17) (not (isServer cfg (e .first)))
+    (pick (eqb tag 0x18) (both (not (isServer cfg (e .first))) (risesAt cfg tag i e))
+    (pick (eqb tag 0x19) (both (not (isServer cfg (e .first))) (risesAt cfg tag i e))
+    true))))))
+
+-- the first fault of an entry at place i of its kind: too many, a number out of range, a part that isn't there, a bad pairing; 0 for none
+unfoldable pub entryFault : Config → ℕ → ℕ → Entry → ℕ
+entryFault cfg tag i e =
+    pick (ltb i (maxOf tag))
+    (pick (inRange tag e)
+    (pick (namesThere cfg tag e)
+    (pick (pairsWell cfg tag i e)
+    0
+    26)
+    25)
+    24)
+    23
+
+-- an entry of zeros
+unfoldable pub isNoEntry : Entry → Bool
+isNoEntry e = both (eqb (e .first) 0) (both (eqb (e .second) 0) (both (eqb (e .third) 0) (eqb (e .number) 0)))
+
+-- one place of a kind: without fault where it is in use, else blank
+unfoldable pub placeSound : Config → ℕ → ℕ → Bool
+placeSound cfg tag i =
+    pick (ltb i (countOf cfg tag)) (eqb (entryFault cfg tag i (entryOf cfg tag i)) 0) (isNoEntry (entryOf cfg tag i))
+
+-- all of a kind: its table has its length, no more are in use than there may be, and each place is sound
+unfoldable pub kindSound : Config → ℕ → Bool
+kindSound cfg tag =
+    both (eqb (placesOf cfg tag) (maxOf tag)) (both (leb (countOf cfg tag) (maxOf tag)) (allBelow (placeSound cfg tag) (maxOf tag)))
+
+-- all ten kinds, whose tags are 10 to 19
+unfoldable pub configSound : Config → Bool
+configSound cfg = allBelow (λ (j : ℕ). kindSound cfg (0x10 + j)) 10

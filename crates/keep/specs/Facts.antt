@@ -1,0 +1,159 @@
+-- A sound state as facts, one field a clause, each over only the tables that it reads; and, for each step, what it may rely on once it is not refused.
+-- Assumes nothing.
+use Prim.Native.Nat.{ℕ, _+_, _≤_, _<_}
+use mathlib.Core.Bool.{Bool, true, false, not}
+use mathlib.Core.Path.{_≡_}
+use lib.Dec.{ltb, leb, eqb}
+use lib.ListN.{length, getD}
+use Rattle.laws.specs.Choice.{pick, both, either, bit}
+use Rattle.values.specs.Values.{isPayload}
+use Rattle.values.specs.declared.Value.{Value}
+use Rattle.config.specs.declared.Config.{Config}
+use Rattle.config.specs.Tables.{maxRunnableConfs, maxVariableConfs, maxAreaConfs, maxRequiredConfs, maxOperationConfs, maxTimerConfs, runnableConfIn, areaConfIn, requiredConfIn, providedConfIn, operationConfIn, timerConfIn}
+use Rattle.entries.specs.Faults.{isServer, isQueued, configSound}
+use Rattle.state.specs.declared.Client.{Client}
+use Rattle.state.specs.declared.Runnables.{Runnables}
+use Rattle.state.specs.declared.Areas.{Areas}
+use Rattle.state.specs.declared.Operations.{Operations}
+use Rattle.state.specs.declared.Slots.{Slots}
+use Rattle.state.specs.declared.State.{State}
+use Rattle.state.specs.Parts.{noClient}
+use Rattle.state.specs.Tables.{maxSlots, runnableIn, variableIn, areaIn, elementIn, operationIn, timerIn, slotIn}
+use Rattle.state.specs.Queues.{topArea}
+use Rattle.rules.specs.Sound.{componentOf, slotsOf, holders, clientsAs, numbered, shaped, runnablesSound, variablesSound, elementsSound, operationsSound, timersSound, slotsSound}
+use Rattle.rules.specs.Steps.{isDue, lowestEmpty, operationsLet, timersLet, runnablesLet}
+
+-- ---- the clauses over two tables and more, at every place
+
+-- a runnable's count equals its slots
+pub record Counted (rs : Runnables) (ss : Slots) : Type 0 where
+  pub counted : (r : ℕ) → r < maxRunnableConfs → runnableIn rs r .instances ≡ slotsOf ss r
+
+-- a taken area stands once in exactly one stack, a free one in none
+pub record Held (cfg : Config) (t : Areas) (ss : Slots) : Type 0 where
+  pub there : (a : ℕ) → a < maxAreaConfs → areaIn t a .taken ≡ true → a < cfg .areas .n
+  pub once : (a : ℕ) → a < maxAreaConfs → holders ss a ≡ bit (areaIn t a .taken)
+
+-- no two clients share operation and number; each has a number below its operation's, or equal while that is Calling; a Calling operation has one with its number
+pub record Clients (os : Operations) (rs : Runnables) (ss : Slots) : Type 0 where
+  pub single : (o m : ℕ) → clientsAs rs ss o m ≤ 1
+  pub queued : (r : ℕ) → r < maxRunnableConfs → (j : ℕ) → j < runnableIn rs r .requests .queued → numbered os (getD (runnableIn rs r .requests .at) j noClient) ≡ true
+  pub served : (k : ℕ) → k < maxSlots → slotIn ss k .owed .serving ≡ true → numbered os (slotIn ss k .owed .client) ≡ true
+  pub called : (o : ℕ) → o < maxOperationConfs → operationIn os o .calling ≡ true → clientsAs rs ss o (operationIn os o .number) ≡ 1
+
+-- ---- a sound state
+
+pub record Sound (cfg : Config) (st : State) : Type 0 where
+  pub config : configSound cfg ≡ true
+  pub shape : shaped st ≡ true
+  pub runnables : runnablesSound cfg (st .runnables) ≡ true
+  pub variables : variablesSound cfg (st .variables) ≡ true
+  pub elements : elementsSound cfg (st .elements) ≡ true
+  pub operations : operationsSound cfg (st .operations) ≡ true
+  pub timers : timersSound cfg (st .timers) ≡ true
+  pub slots : slotsSound cfg (st .slots) ≡ true
+  pub counts : Counted (st .runnables) (st .slots)
+  pub areas : Held cfg (st .areas) (st .slots)
+  pub clients : Clients (st .operations) (st .runnables) (st .slots)
+
+-- ---- what a step may rely on
+
+-- an instance is in the slot i
+pub record There (st : State) (i : ℕ) : Type 0 where
+  pub used : slotIn (st .slots) i .used ≡ true
+
+-- it neither waits nor is finished
+pub record Acts (st : State) (i : ℕ) : Type 0 where
+  pub there : There st i
+  pub running : slotIn (st .slots) i .life .waiting ≡ false
+  pub unfinished : slotIn (st .slots) i .life .finished ≡ false
+
+pub record CanWriteVariable (cfg : Config) (st : State) (i v : ℕ) (x : Value) : Type 0 where
+  pub who : Acts st i
+  pub inside : v < cfg .variables .n
+  pub payload : isPayload x ≡ true
+
+pub record CanEnter (cfg : Config) (st : State) (i a : ℕ) : Type 0 where
+  pub who : Acts st i
+  pub inside : a < cfg .areas .n
+  pub own : areaConfIn (cfg .areas) a .component ≡ componentOf cfg (slotIn (st .slots) i .life .runnable)
+  pub free : areaIn (st .areas) a .taken ≡ false
+
+pub record CanExit (cfg : Config) (st : State) (i a : ℕ) : Type 0 where
+  pub who : Acts st i
+  pub inside : a < cfg .areas .n
+  pub some : 0 < slotIn (st .slots) i .stack .held
+  pub top : topArea (slotIn (st .slots) i .stack) ≡ a
+
+-- read, and updated: an unqueued required element
+pub record CanRead (cfg : Config) (st : State) (i q : ℕ) : Type 0 where
+  pub who : Acts st i
+  pub inside : q < cfg .required .n
+  pub unqueued : isQueued cfg q ≡ false
+
+-- write and send: a payload from a provided element, queued or not
+pub record CanFeed (cfg : Config) (st : State) (i p : ℕ) (v : Value) : Type 0 where
+  pub who : Acts st i
+  pub inside : p < cfg .provided .n
+  pub payload : isPayload v ≡ true
+
+pub record CanInvalidate (cfg : Config) (st : State) (i p : ℕ) : Type 0 where
+  pub who : Acts st i
+  pub inside : p < cfg .provided .n
+  pub unqueued : providedConfIn (cfg .provided) p .queued ≡ false
+
+-- receive from a queue that is not empty
+pub record CanReceive (cfg : Config) (st : State) (i q : ℕ) : Type 0 where
+  pub who : Acts st i
+  pub inside : q < cfg .required .n
+  pub queued : isQueued cfg q ≡ true
+  pub some : 0 < elementIn (st .elements) q .queue .queued
+
+-- a call that is answered Ok
+pub record CanCall (cfg : Config) (st : State) (i o : ℕ) (v : Value) : Type 0 where
+  pub who : Acts st i
+  pub inside : o < cfg .operations .n
+  pub own : operationConfIn (cfg .operations) o .component ≡ componentOf cfg (slotIn (st .slots) i .life .runnable)
+  pub payload : isPayload v ≡ true
+  pub shut : operationIn (st .operations) o .calling ≡ false
+  pub number : operationIn (st .operations) o .number ≡ 65535 → ⊥
+  pub room : runnableIn (st .runnables) (operationConfIn (cfg .operations) o .server) .requests .queued < runnableConfIn (cfg .runnables) (operationConfIn (cfg .operations) o .server) .capacity
+
+-- a synchronous result that is given
+pub record CanCollect (cfg : Config) (st : State) (i o : ℕ) : Type 0 where
+  pub there : There st i
+  pub inside : o < cfg .operations .n
+  pub waiting : slotIn (st .slots) i .life .waiting ≡ true
+  pub on : slotIn (st .slots) i .life .on ≡ o
+  pub shut : operationIn (st .operations) o .calling ≡ false
+
+pub record CanHandBack (cfg : Config) (st : State) (i : ℕ) (v : Value) : Type 0 where
+  pub who : Acts st i
+  pub payload : isPayload v ≡ true
+  pub serving : slotIn (st .slots) i .owed .serving ≡ true
+
+pub record CanEnd (st : State) (i : ℕ) : Type 0 where
+  pub there : There st i
+  pub none : slotIn (st .slots) i .owed .serving ≡ false
+  pub flat : slotIn (st .slots) i .stack .held ≡ 0
+
+pub record CanSpawn (cfg : Config) (st : State) (r : ℕ) : Type 0 where
+  pub inside : r < cfg .runnables .n
+  pub rested : runnableIn (st .runnables) r .interval ≡ 0
+  pub alone : either (eqb (runnableIn (st .runnables) r .instances) 0) (runnableConfIn (cfg .runnables) r .concurrent) ≡ true
+  pub due : isDue (runnableConfIn (cfg .runnables) r) (runnableIn (st .runnables) r) ≡ true
+  pub slot : lowestEmpty (st .slots) < maxSlots
+
+pub record CanTimeout (cfg : Config) (st : State) (o : ℕ) : Type 0 where
+  pub inside : o < cfg .operations .n
+  pub calling : operationIn (st .operations) o .calling ≡ true
+  pub zero : operationIn (st .operations) o .count ≡ 0
+
+pub record CanTick (cfg : Config) (st : State) (t : ℕ) : Type 0 where
+  pub inside : t < cfg .timers .n
+  pub zero : timerIn (st .timers) t .count ≡ 0
+
+pub record CanWait (cfg : Config) (st : State) (t : ℕ) : Type 0 where
+  pub operations : operationsLet cfg (st .operations) t ≡ true
+  pub timers : timersLet cfg (st .timers) t ≡ true
+  pub runnables : runnablesLet cfg (st .runnables) t ≡ true

@@ -1,0 +1,305 @@
+-- When a state is sound, as a test that computes ("A sound state"). Each sentence is a named clause over the tables that it reads.
+-- A state that code holds has tables of the right lengths; as a definition ranges over any lists, the lengths are tested too.
+-- Assumes nothing.
+use Prim.Native.Nat.{ℕ, _+_}
+use mathlib.Core.Bool.{Bool, true, false, not}
+use mathlib.Core.List.{List, [], _∷_}
+use lib.Dec.{ltb, leb, eqb}
+use lib.ListN.{length, getD}
+use Rattle.laws.specs.Choice.{pick, both, either, alike, bit, allOf}
+use Rattle.laws.specs.Loop.{allBelow, sumBelow, countBelow}
+use Rattle.laws.specs.Row.{filled}
+use Rattle.values.specs.Values.{voidV, isVoid, isPayload}
+use Rattle.values.specs.declared.Value.{Value}
+use Rattle.config.specs.declared.Config.{Config}
+use Rattle.config.specs.declared.RunnableConf.{RunnableConf}
+use Rattle.config.specs.declared.OperationConf.{OperationConf}
+use Rattle.config.specs.Tables.{maxRunnableConfs, maxVariableConfs, maxAreaConfs, maxRequiredConfs, maxOperationConfs, maxTimerConfs, runnableConfIn, areaConfIn, requiredConfIn, operationConfIn, timerConfIn}
+use Rattle.entries.specs.Faults.{isServer, configSound}
+use Rattle.state.specs.declared.Client.{Client}
+use Rattle.state.specs.declared.Requests.{Requests}
+use Rattle.state.specs.declared.Runnable.{Runnable}
+use Rattle.state.specs.declared.Runnables.{Runnables}
+use Rattle.state.specs.declared.Variable.{Variable}
+use Rattle.state.specs.declared.Variables.{Variables}
+use Rattle.state.specs.declared.Areas.{Areas}
+use Rattle.state.specs.declared.Element.{Element}
+use Rattle.state.specs.declared.Elements.{Elements}
+use Rattle.state.specs.declared.Operation.{Operation}
+use Rattle.state.specs.declared.Operations.{Operations}
+use Rattle.state.specs.declared.Timer.{Timer}
+use Rattle.state.specs.declared.Timers.{Timers}
+use Rattle.state.specs.declared.Life.{Life}
+use Rattle.state.specs.declared.Owed.{Owed}
+use Rattle.state.specs.declared.Stack.{Stack}
+use Rattle.state.specs.declared.Slot.{Slot}
+use Rattle.state.specs.declared.Slots.{Slots}
+use Rattle.state.specs.declared.State.{State}
+use Rattle.state.specs.Parts.{noClient, maxRequests, maxValues}
+use Rattle.state.specs.Tables.{maxSlots, runnableIn, variableIn, areaIn, elementIn, operationIn, timerIn, slotIn}
+
+-- the component of a runnable
+abbrev pub componentOf : Config → ℕ → ℕ
+componentOf cfg r = runnableConfIn (cfg .runnables) r .component
+
+-- ---- clients and queues
+
+-- the client that stands where there is none
+unfoldable pub isNoClient : Client → Bool
+isNoClient c = both (eqb (c .operation) 0) (both (eqb (c .number) 0) (isVoid (c .argument)))
+
+-- a client of the server r: it names an operation of that server, and its argument is a payload
+unfoldable pub clientFits : Config → ℕ → Client → Bool
+clientFits cfg r c =
+    both (ltb (c .operation) (cfg .operations .n))
+    (both (eqb (operationConfIn (cfg .operations) (c .operation) .server) r) (isPayload (c .argument)))
+
+-- requests keep to the capacity, each is a client of that server, and the places behind them are blank
+unfoldable pub requestsSound : Config → ℕ → Requests → Bool
+requestsSound cfg r q =
+    both (leb (q .queued) (runnableConfIn (cfg .runnables) r .capacity)) (filled (clientFits cfg r) isNoClient noClient maxRequests (q .queued) (q .at))
+
+-- queued values keep to the capacity, each is a payload, and the places behind them are blank
+unfoldable pub valuesSound : ℕ → ℕ → List Value → Bool
+valuesSound capacity n l = both (leb n capacity) (filled isPayload isVoid voidV maxValues n l)
+
+-- ---- one part at a time
+
+-- a runnable: its interval is at most the configured one, it has at most one instance without the concurrent flag, only a plain runnable that is there is pending, and its requests are sound
+unfoldable pub runnableSound : Config → ℕ → Runnable → Bool
+runnableSound cfg r x =
+    allOf
+    (leb (x .interval) (runnableConfIn (cfg .runnables) r .interval)
+    ∷ either (runnableConfIn (cfg .runnables) r .concurrent) (leb (x .instances) 1)
+    ∷ either (not (x .pending)) (both (ltb r (cfg .runnables .n)) (not (isServer cfg r)))
+    ∷ requestsSound cfg r (x .requests)
+    ∷ [])
+
+-- a variable holds a payload, an unused one Void
+unfoldable pub variableSound : Config → ℕ → Variable → Bool
+variableSound cfg v x = pick (ltb v (cfg .variables .n)) (isPayload (x .value)) (isVoid (x .value))
+
+-- what an unqueued element may hold: a payload, NeverReceived or Invalid
+unfoldable pub isStored : Value → Bool
+isStored v = either (isPayload v) (both (either (eqb (v .kind) 6) (eqb (v .kind) 7)) (eqb (v .number) 0))
+
+-- an element: an unqueued one holds what it may and has no queue; a queued one, or one that isn't there, holds no value and has its flag off
+unfoldable pub elementSound : Config → ℕ → Element → Bool
+elementSound cfg q x =
+    both
+    (pick (both (ltb q (cfg .required .n)) (eqb (requiredConfIn (cfg .required) q .capacity) 0))
+    (isStored (x .value))
+    (both (isVoid (x .value)) (not (x .updated))))
+    (valuesSound (requiredConfIn (cfg .required) q .capacity) (x .queue .queued) (x .queue .at))
+
+-- what Done may hold: a payload or Timeout
+unfoldable pub isOutcome : Value → Bool
+isOutcome v = either (isPayload v) (both (eqb (v .kind) 5) (eqb (v .number) 0))
+
+-- a Calling operation is there, its count is at most the timeout, its number at most 65,534, and it holds no value
+unfoldable pub callingSound : Config → ℕ → Operation → Bool
+callingSound cfg o x =
+    allOf
+    (ltb o (cfg .operations .n)
+    ∷ leb (x .count) (operationConfIn (cfg .operations) o .timeout)
+    ∷ leb (x .number) 65534
+    ∷ isVoid (x .done)
+    ∷ [])
+
+-- a Done operation has count 0; one that isn't there is at number 0, Done(Void)
+unfoldable pub doneSound : Config → ℕ → Operation → Bool
+doneSound cfg o x = both (eqb (x .count) 0) (pick (ltb o (cfg .operations .n)) (isOutcome (x .done)) (both (eqb (x .number) 0) (isVoid (x .done))))
+
+-- an operation: its number fits, and it is soundly Calling or Done
+unfoldable pub operationSound : Config → ℕ → Operation → Bool
+operationSound cfg o x = both (leb (x .number) 65535) (pick (x .calling) (callingSound cfg o x) (doneSound cfg o x))
+
+-- a timer's count is at most its period
+unfoldable pub timerSound : Config → ℕ → Timer → Bool
+timerSound cfg t x = leb (x .count) (timerConfIn (cfg .timers) t .period)
+
+-- ---- one slot at a time
+
+-- a waiting instance waits on a synchronous operation of its component
+unfoldable pub waitsWell : Config → Life → Bool
+waitsWell cfg l =
+    allOf
+    (ltb (l .on) (cfg .operations .n)
+    ∷ not (operationConfIn (cfg .operations) (l .on) .asynchronous)
+    ∷ eqb (operationConfIn (cfg .operations) (l .on) .component) (componentOf cfg (l .runnable))
+    ∷ [])
+
+-- an instance is of a runnable that is there; a plain one is never finished; it waits well, or names no operation
+unfoldable pub lifeSound : Config → Life → Bool
+lifeSound cfg l =
+    allOf
+    (ltb (l .runnable) (cfg .runnables .n)
+    ∷ either (not (l .finished)) (isServer cfg (l .runnable))
+    ∷ pick (l .waiting) (waitsWell cfg l) (eqb (l .on) 0)
+    ∷ [])
+
+-- a server's instance has a client exactly until it is finished, a plain one has none; the client is one of that server
+unfoldable pub owedSound : Config → Life → Owed → Bool
+owedSound cfg l w =
+    both (alike (w .serving) (both (isServer cfg (l .runnable)) (not (l .finished))))
+    (pick (w .serving) (clientFits cfg (l .runnable) (w .client)) (isNoClient (w .client)))
+
+-- an area in a stack is there and of the instance's component
+unfoldable pub areaFits : Config → ℕ → ℕ → Bool
+areaFits cfg component a = both (ltb a (cfg .areas .n)) (eqb (areaConfIn (cfg .areas) a .component) component)
+
+abbrev pub isZero : ℕ → Bool
+isZero n = eqb n 0
+
+-- a stack holds areas that fit, and the places above its top are blank
+unfoldable pub stackSound : Config → Life → Stack → Bool
+stackSound cfg l s =
+    both (leb (s .held) maxAreaConfs) (filled (areaFits cfg (componentOf cfg (l .runnable))) isZero 0 maxAreaConfs (s .held) (s .at))
+
+-- an empty slot is blank
+unfoldable pub isNoSlot : Slot → Bool
+isNoSlot x =
+    allOf
+    (eqb (x .life .runnable) 0
+    ∷ not (x .life .waiting)
+    ∷ eqb (x .life .on) 0
+    ∷ not (x .life .finished)
+    ∷ not (x .owed .serving)
+    ∷ isNoClient (x .owed .client)
+    ∷ eqb (x .stack .held) 0
+    ∷ filled isZero isZero 0 maxAreaConfs 0 (x .stack .at)
+    ∷ [])
+
+-- a slot: empty, or with a sound instance in it
+unfoldable pub slotSound : Config → Slot → Bool
+slotSound cfg x =
+    pick (x .used) (allOf (lifeSound cfg (x .life) ∷ owedSound cfg (x .life) (x .owed) ∷ stackSound cfg (x .life) (x .stack) ∷ [])) (isNoSlot x)
+
+-- ---- counts: a runnable's count equals its slots
+
+unfoldable pub ofRunnable : ℕ → Slot → Bool
+ofRunnable r x = both (x .used) (eqb (x .life .runnable) r)
+
+-- how many slots are of the runnable r
+unfoldable pub slotsOf : Slots → ℕ → ℕ
+slotsOf t r = countBelow (λ (k : ℕ). ofRunnable r (slotIn t k)) maxSlots
+
+unfoldable pub countSound : Runnables → Slots → ℕ → Bool
+countSound rs ss r = eqb (runnableIn rs r .instances) (slotsOf ss r)
+
+-- ---- areas: a taken one stands once in exactly one stack, a free one in none
+
+-- how often the area a stands in a stack
+unfoldable pub timesIn : ℕ → Stack → ℕ
+timesIn a s = countBelow (λ (j : ℕ). eqb (getD (s .at) j 0) a) (s .held)
+
+-- how often it stands in all stacks
+unfoldable pub holders : Slots → ℕ → ℕ
+holders t a = sumBelow (λ (k : ℕ). timesIn a (slotIn t k .stack)) maxSlots
+
+-- one that isn't there is free
+unfoldable pub areaSound : Config → Areas → Slots → ℕ → Bool
+areaSound cfg t ss a = both (either (not (areaIn t a .taken)) (ltb a (cfg .areas .n))) (eqb (holders ss a) (bit (areaIn t a .taken)))
+
+-- ---- clients: no two share operation and number
+
+unfoldable pub isClient : ℕ → ℕ → Client → Bool
+isClient o m c = both (eqb (c .operation) o) (eqb (c .number) m)
+
+-- how many requests of a queue have the operation o and the number m
+unfoldable pub queuedAs : ℕ → ℕ → Requests → ℕ
+queuedAs o m q = countBelow (λ (j : ℕ). isClient o m (getD (q .at) j noClient)) (q .queued)
+
+-- whether the client of an instance does
+unfoldable pub servedAs : ℕ → ℕ → Owed → ℕ
+servedAs o m w = bit (both (w .serving) (isClient o m (w .client)))
+
+-- how many clients do, queued or on an instance
+unfoldable pub clientsAs : Runnables → Slots → ℕ → ℕ → ℕ
+clientsAs rs ss o m =
+    sumBelow (λ (r : ℕ). queuedAs o m (runnableIn rs r .requests)) maxRunnableConfs
+    + sumBelow (λ (k : ℕ). servedAs o m (slotIn ss k .owed)) maxSlots
+
+-- a client's number is below its operation's, or equal while that is Calling
+unfoldable pub numbered : Operations → Client → Bool
+numbered os c =
+    either (ltb (c .number) (operationIn os (c .operation) .number))
+    (both (operationIn os (c .operation) .calling) (eqb (c .number) (operationIn os (c .operation) .number)))
+
+-- a client has such a number, and shares operation and number with no other
+unfoldable pub clientSound : Operations → Runnables → Slots → Client → Bool
+clientSound os rs ss c = both (numbered os c) (eqb (clientsAs rs ss (c .operation) (c .number)) 1)
+
+-- every queued client of the runnable r
+unfoldable pub queuedSound : Operations → Runnables → Slots → ℕ → Bool
+queuedSound os rs ss r =
+    allBelow (λ (j : ℕ). clientSound os rs ss (getD (runnableIn rs r .requests .at) j noClient)) (runnableIn rs r .requests .queued)
+
+-- the client on the instance k
+unfoldable pub servedSound : Operations → Runnables → Slots → ℕ → Bool
+servedSound os rs ss k = either (not (slotIn ss k .owed .serving)) (clientSound os rs ss (slotIn ss k .owed .client))
+
+-- a Calling operation has exactly one client with its number
+unfoldable pub calledSound : Operations → Runnables → Slots → ℕ → Bool
+calledSound os rs ss o = either (not (operationIn os o .calling)) (eqb (clientsAs rs ss o (operationIn os o .number)) 1)
+
+-- ---- the clauses over whole tables
+
+unfoldable pub runnablesSound : Config → Runnables → Bool
+runnablesSound cfg t = allBelow (λ (r : ℕ). runnableSound cfg r (runnableIn t r)) maxRunnableConfs
+
+unfoldable pub variablesSound : Config → Variables → Bool
+variablesSound cfg t = allBelow (λ (v : ℕ). variableSound cfg v (variableIn t v)) maxVariableConfs
+
+unfoldable pub elementsSound : Config → Elements → Bool
+elementsSound cfg t = allBelow (λ (q : ℕ). elementSound cfg q (elementIn t q)) maxRequiredConfs
+
+unfoldable pub operationsSound : Config → Operations → Bool
+operationsSound cfg t = allBelow (λ (o : ℕ). operationSound cfg o (operationIn t o)) maxOperationConfs
+
+unfoldable pub timersSound : Config → Timers → Bool
+timersSound cfg t = allBelow (λ (k : ℕ). timerSound cfg k (timerIn t k)) maxTimerConfs
+
+unfoldable pub slotsSound : Config → Slots → Bool
+slotsSound cfg t = allBelow (λ (k : ℕ). slotSound cfg (slotIn t k)) maxSlots
+
+unfoldable pub countsSound : Runnables → Slots → Bool
+countsSound rs ss = allBelow (countSound rs ss) maxRunnableConfs
+
+unfoldable pub areasSound : Config → Areas → Slots → Bool
+areasSound cfg t ss = allBelow (areaSound cfg t ss) maxAreaConfs
+
+unfoldable pub clientsSound : Operations → Runnables → Slots → Bool
+clientsSound os rs ss =
+    both (allBelow (queuedSound os rs ss) maxRunnableConfs)
+    (both (allBelow (servedSound os rs ss) maxSlots) (allBelow (calledSound os rs ss) maxOperationConfs))
+
+-- the seven tables have their lengths
+unfoldable pub shaped : State → Bool
+shaped st =
+    allOf
+    (eqb (length (st .runnables .at)) maxRunnableConfs
+    ∷ eqb (length (st .variables .at)) maxVariableConfs
+    ∷ eqb (length (st .areas .at)) maxAreaConfs
+    ∷ eqb (length (st .elements .at)) maxRequiredConfs
+    ∷ eqb (length (st .operations .at)) maxOperationConfs
+    ∷ eqb (length (st .timers .at)) maxTimerConfs
+    ∷ eqb (length (st .slots .at)) maxSlots
+    ∷ [])
+
+-- a sound state of a sound configuration
+unfoldable pub soundOf : Config → State → Bool
+soundOf cfg st =
+    allOf
+    (configSound cfg
+    ∷ shaped st
+    ∷ runnablesSound cfg (st .runnables)
+    ∷ variablesSound cfg (st .variables)
+    ∷ elementsSound cfg (st .elements)
+    ∷ operationsSound cfg (st .operations)
+    ∷ timersSound cfg (st .timers)
+    ∷ slotsSound cfg (st .slots)
+    ∷ countsSound (st .runnables) (st .slots)
+    ∷ areasSound cfg (st .areas) (st .slots)
+    ∷ clientsSound (st .operations) (st .runnables) (st .slots)
+    ∷ [])

@@ -1,0 +1,12 @@
+use mathlib.Core.Path.{refl}
+use Rattle.state.specs.Parts.{noRequests}
+use Rattle.state.proofs.start_runnable.Statement.{statement}
+use Rattle.state.proofs.start_runnable.Tie as tie
+
+returns : tie.Need-returns
+unfolding noRequests
+returns c = refl
+
+pub start-runnable-spec : {M : Type 1} → statement M
+start-runnable-spec =
+    tie.close (tie.spec returns)

@@ -1,0 +1,41 @@
+use borrow.Author.Needs.{needs}
+use native.Mathlib.Omega.{arith}
+use mathlib.Core.Path.{_≡_}
+use Prim.Native.Nat.{ℕ, _≤_, _-_}
+use Rattle.laws.specs.Row.{eachBelow}
+use Rattle.laws.proofs.Places.{each-none, each-more}
+use Rattle.config.specs.Tables.{runnableConfIn}
+use Rattle.state.specs.Parts.{noRequests, noRunnable}
+use Rattle.state.specs.Tables.{noRunnables, withRunnable}
+use Rattle.state.specs.Start.{startRunnable, startRunnables}
+use Rattle.state.specs.declared.Runnable.{Runnable}
+use Rattle.state.specs.declared.Runnables.{Runnables}
+use Rattle.state.proofs.start_runnables.Statement.{statement}
+use Rattle.state.proofs.start_runnables.Tie as tie
+
+abbrev Inv-loop : tie.InvT-loop
+Inv-loop t n s₀ k₀ s k = (k ≤ n) × (_≡_ {A = Runnables} s (record { at = eachBelow (λ (j : ℕ) (x : Runnable). startRunnable (runnableConfIn t j)) noRunnable k (noRunnables .at) }))
+
+abbrev μ-loop : tie.MeasureT-loop
+μ-loop t n s₀ k₀ s k = n - k
+
+loop-holds : tie.Need-loop-holds Inv-loop μ-loop
+unfolding noRunnables noRunnable noRequests
+loop-holds c = (search needs, rw each-none)
+
+loop-less : tie.Need-loop-less Inv-loop μ-loop
+loop-less c = omega arith
+
+loop-again : tie.Need-loop-again Inv-loop μ-loop
+unfolding withRunnable
+loop-again c = (omega arith, rw (c .with .ensures, c .before .start-runnable .ensures, c .before .before .get .ensures, c .before .before .before .before .loop .inv .1, each-more))
+
+returns : tie.Need-returns Inv-loop μ-loop
+unfolding startRunnables
+returns c =
+    let k : c .before .loop .k ≡ c .before .before .args .t .n = omega arith in
+    rw (c .before .loop .inv .1, k)
+
+pub start-runnables-spec : {M : Type 1} → statement M
+start-runnables-spec =
+    tie.close (tie.spec Inv-loop μ-loop loop-holds (λ c κs. search needs) (λ c κs. search needs) (λ c κs. search needs) (λ c. search needs) loop-less loop-again returns)
