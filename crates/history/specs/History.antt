@@ -1,0 +1,159 @@
+-- What a recording tells of its calls, read off its steps and their answers alone: no state of the machine, no number of an operation.
+-- A call is named by the place of its step in the recording, counted from 1; 0 is no call. The answer of an accepted step is the one that it claims.
+-- Assumes nothing.
+use Prim.Native.Nat.{ℕ, zero, suc, _+_, _≤_, _<_}
+use mathlib.Core.Bool.{Bool, true, false}
+use mathlib.Core.List.{List, [], _∷_, _++_}
+use mathlib.Core.Option.{Option, none, some}
+use mathlib.Core.Path.{_≡_}
+use lib.Dec.{eqb}
+use lib.ListN.{getD, set, drop, replicate}
+use Rattle.laws.specs.Choice.{pick, both, bit}
+use Rattle.values.specs.declared.Value.{Value}
+use Rattle.values.specs.declared.Step.{Step}
+use Rattle.values.specs.Values.{voidV, okV, timeoutV, sameValue}
+use Rattle.config.specs.declared.Config.{Config}
+use Rattle.config.specs.Tables.{maxRunnableConfs, maxOperationConfs, operationConfIn}
+use Rattle.entries.specs.Faults.{isServer}
+use Rattle.state.specs.Tables.{maxSlots}
+
+-- a request: the call step that queued it, and its operation
+pub record Request : Type 0 where
+  pub at : ℕ
+  pub on : ℕ
+
+abbrev pub noRequest : Request
+noRequest = record { at = 0; on = 0 }
+
+-- how a call ended: by its timeout, or by an instance, spawned for the call named, that handed back the value
+pub data How : Type 0 where
+  byTimeout : How
+  byInstance : ℕ → Value → How
+
+-- an ending: the operation, the call that it ended, and how
+pub record Ending : Type 0 where
+  pub on : ℕ
+  pub call : ℕ
+  pub how : How
+
+pub record History : Type 0 where
+  -- the steps so far
+  pub place : ℕ
+  -- of each runnable: the requests that wait, oldest first
+  pub queued : List (List Request)
+  -- of each slot: the request that its spawn took
+  pub taken : List Request
+  -- of each operation: its latest started call
+  pub latest : List ℕ
+  -- the calls that ended, the last one first
+  pub endings : List Ending
+
+-- before any step
+unfoldable pub nothing : History
+nothing = record { place = 0; queued = replicate maxRunnableConfs []; taken = replicate maxSlots noRequest; latest = replicate maxOperationConfs 0; endings = [] }
+
+abbrev pub queuedAt : History → ℕ → List Request
+queuedAt h r = getD (h .queued) r []
+
+abbrev pub takenBy : History → ℕ → Request
+takenBy h i = getD (h .taken) i noRequest
+
+abbrev pub latestOn : History → ℕ → ℕ
+latestOn h o = getD (h .latest) o 0
+
+-- ---- what one step adds
+
+-- a step that starts, takes and ends no call
+abbrev pub passed : History → History
+passed h = record { place = h .place + 1; queued = h .queued; taken = h .taken; latest = h .latest; endings = h .endings }
+
+-- a call of o starts: this step's request joins the end of its server's queue
+abbrev pub begins : Config → History → ℕ → History
+begins cfg h o = record {
+  place = h .place + 1;
+  queued = set (h .queued) (operationConfIn (cfg .operations) o .server) (queuedAt h (operationConfIn (cfg .operations) o .server) ++ (record { at = h .place + 1; on = o } ∷ []));
+  taken = h .taken;
+  latest = set (h .latest) o (h .place + 1);
+  endings = h .endings;
+}
+
+-- the latest call of o ends
+abbrev pub closes : History → ℕ → How → History
+closes h o w = record {
+  place = h .place + 1;
+  queued = h .queued;
+  taken = h .taken;
+  latest = h .latest;
+  endings = record { on = o; call = latestOn h o; how = w } ∷ h .endings;
+}
+
+-- the slot i has an instance that took q
+abbrev pub takes : History → ℕ → Request → History
+takes h i q = record { place = h .place + 1; queued = h .queued; taken = set (h .taken) i q; latest = h .latest; endings = h .endings }
+
+-- the slot i has an instance that took the oldest request of r
+abbrev pub takesOldest : History → ℕ → ℕ → History
+takesOldest h i r = record {
+  place = h .place + 1;
+  queued = set (h .queued) r (drop 1 (queuedAt h r));
+  taken = set (h .taken) i (getD (queuedAt h r) 0 noRequest);
+  latest = h .latest;
+  endings = h .endings;
+}
+
+-- an accepted step: a call answered Ok starts one, a hand back answered 1 and a timeout end one, a spawn of a server takes a request; all others pass
+unfoldable pub observe : Config → History → Step → History
+observe cfg h s =
+    pick (eqb (s .code) 11) (pick (sameValue (s .claim) okV) (begins cfg h (s .what)) (passed h))
+    (pick (eqb (s .code) 13) (pick (eqb (s .claim .number) 1) (closes h (takenBy h (s .who) .on) (byInstance (takenBy h (s .who) .at) (s .argument))) (passed h))
+    (pick (eqb (s .code) 14) (takes h (s .who) noRequest)
+    (pick (eqb (s .code) 15) (pick (isServer cfg (s .what)) (takesOldest h (s .claim .number) (s .what)) (takes h (s .claim .number) noRequest))
+    (pick (eqb (s .code) 16) (closes h (s .what) byTimeout)
+    (passed h)))))
+
+unfoldable pub historyFrom : Config → History → List Step → History
+historyFrom cfg h [] = h
+historyFrom cfg h (s ∷ rs) = historyFrom cfg (observe cfg h s) rs
+
+-- the history of a recording
+unfoldable pub historyOf : Config → List Step → History
+historyOf cfg rs = historyFrom cfg nothing rs
+
+-- ---- questions to a history
+
+-- how often the call k ended
+unfoldable pub endsOf : ℕ → List Ending → ℕ
+endsOf k [] = 0
+endsOf k (e ∷ es) = bit (eqb (e .call) k) + endsOf k es
+
+-- the last ending on o
+unfoldable pub lastOn : ℕ → List Ending → Option Ending
+lastOn o [] = none
+lastOn o (e ∷ es) = pick (eqb (e .on) o) (some e) (lastOn o es)
+
+-- an ending is by a timeout, or by an instance that was spawned for this very call
+abbrev pub Proper : ℕ → How → Type 0
+Proper k byTimeout = Unit {0}
+Proper k (byInstance j v) = j ≡ k
+
+-- the step at place k of the recording, counted from 1, is a call on o that was answered Ok
+unfoldable pub Started : List Step → ℕ → ℕ → Type 0
+Started [] k o = ⊥
+Started (s ∷ rs) zero o = ⊥
+Started (s ∷ rs) (suc zero) o = (s .code ≡ 11) × (s .what ≡ o) × (s .claim ≡ okV)
+Started (s ∷ rs) (suc (suc k)) o = Started rs (suc k) o
+
+-- ---- the second reading of "followed by its place in the queue": all requests ever queued at r, and how many were taken there
+
+-- the requests that rs queues at r, oldest first; n steps stand before rs
+unfoldable pub allQueued : Config → ℕ → ℕ → List Step → List Request
+allQueued cfg r n [] = []
+allQueued cfg r n (s ∷ rs) =
+    pick (both (eqb (s .code) 11) (both (sameValue (s .claim) okV) (eqb (operationConfIn (cfg .operations) (s .what) .server) r)))
+    (record { at = n + 1; on = s .what } ∷ allQueued cfg r (n + 1) rs)
+    (allQueued cfg r (n + 1) rs)
+
+-- how many instances of r were spawned
+unfoldable pub allSpawns : ℕ → List Step → ℕ
+allSpawns r [] = 0
+allSpawns r (s ∷ rs) = bit (both (eqb (s .code) 15) (eqb (s .what) r)) + allSpawns r rs

@@ -1,0 +1,120 @@
+-- The promises, as types, in the order of demand 3. They are proved in proofs/, by citing; nothing else stands here.
+-- `Run cfg rs st` says that every step of rs, in turn from the start state, is accepted with the answer it claims, and that st is the state reached.
+-- Assumes nothing.
+use Prim.Native.Nat.{ℕ, _+_, _≤_, _<_}
+use mathlib.Core.Bool.{Bool, true, false}
+use mathlib.Core.List.{List, [], _∷_, _++_, List·Memᴰ}
+use mathlib.Core.Logic.{_↔_}
+use mathlib.Core.Option.{Option, none, some}
+use mathlib.Core.Path.{_≡_}
+use lib.ListN.{length, getD, drop}
+use Rattle.values.specs.declared.Value.{Value}
+use Rattle.values.specs.declared.Step.{Step}
+use Rattle.values.specs.declared.Answer.{Answer}
+use Rattle.values.specs.declared.Answer.the-variants.{Taken, Refused}
+use Rattle.values.specs.Values.{numberV}
+use Rattle.config.specs.declared.Config.{Config}
+use Rattle.config.specs.Tables.{maxRunnableConfs, maxAreaConfs, maxRequiredConfs, maxOperationConfs, runnableConfIn, requiredConfIn}
+use Rattle.entries.specs.Faults.{configSound}
+use Rattle.state.specs.declared.State.{State}
+use Rattle.state.specs.Tables.{maxSlots, runnableIn, areaIn, elementIn, operationIn, slotIn}
+use Rattle.state.specs.Start.{startOf}
+use Rattle.rules.specs.Sound.{timesIn}
+use Rattle.rules.specs.Step.{stepOf}
+use Rattle.history.specs.History.{Request, noRequest, How, byTimeout, byInstance, Ending, History, historyOf, queuedAt, takenBy, latestOn, endsOf, lastOn, Proper, Started, allQueued, allSpawns}
+
+-- every step of rs is accepted, from st to st′
+unfoldable pub Accepted : Config → State → List Step → State → Type 0
+Accepted cfg st [] st′ = st ≡ st′
+Accepted cfg st (s ∷ rs) st′ = (stepOf cfg st s .answer ≡ Taken (s .claim)) × Accepted cfg (stepOf cfg st s .state) rs st′
+
+abbrev pub Run : Config → List Step → State → Type 0
+Run cfg rs st = Accepted cfg (startOf cfg) rs st
+
+-- a taken area has exactly one holder
+abbrev pub TakenHasOne : Type 0
+TakenHasOne =
+    (cfg : Config) (rs : List Step) (st : State) → configSound cfg ≡ true → Run cfg rs st
+    → (a : ℕ) → a < maxAreaConfs → areaIn (st .areas) a .taken ≡ true
+    → (i : ℕ) × (i < maxSlots) × (timesIn a (slotIn (st .slots) i .stack) ≡ 1) × ((j : ℕ) → j < maxSlots → (j ≡ i → ⊥) → timesIn a (slotIn (st .slots) j .stack) ≡ 0)
+
+-- a free area has none
+abbrev pub FreeHasNone : Type 0
+FreeHasNone =
+    (cfg : Config) (rs : List Step) (st : State) → configSound cfg ≡ true → Run cfg rs st
+    → (a : ℕ) → a < maxAreaConfs → areaIn (st .areas) a .taken ≡ false → (i : ℕ) → i < maxSlots → timesIn a (slotIn (st .slots) i .stack) ≡ 0
+
+-- no queue passes its capacity: requests, and values
+abbrev pub RequestsFit : Type 0
+RequestsFit =
+    (cfg : Config) (rs : List Step) (st : State) → configSound cfg ≡ true → Run cfg rs st
+    → (r : ℕ) → r < maxRunnableConfs → runnableIn (st .runnables) r .requests .queued ≤ runnableConfIn (cfg .runnables) r .capacity
+
+abbrev pub ValuesFit : Type 0
+ValuesFit =
+    (cfg : Config) (rs : List Step) (st : State) → configSound cfg ≡ true → Run cfg rs st
+    → (q : ℕ) → q < maxRequiredConfs → elementIn (st .elements) q .queue .queued ≤ requiredConfIn (cfg .required) q .capacity
+
+-- each started call ends at most once
+abbrev pub EndsOnce : Type 0
+EndsOnce =
+    (cfg : Config) (rs : List Step) (st : State) → configSound cfg ≡ true → Run cfg rs st
+    → (k : ℕ) → endsOf k (historyOf cfg rs .endings) ≤ 1
+
+-- what an ending names is a call step answered Ok on that operation, and it is by its timeout or by an instance spawned for that very call
+abbrev pub EndsProperly : Type 0
+EndsProperly =
+    (cfg : Config) (rs : List Step) (st : State) → configSound cfg ≡ true → Run cfg rs st
+    → (e : Ending) → List·Memᴰ e (historyOf cfg rs .endings) → Started rs (e .call) (e .on) × Proper (e .call) (e .how)
+
+-- a timeout is taken at count zero of an open call
+abbrev pub TimeoutAtZero : Type 0
+TimeoutAtZero =
+    (cfg : Config) (before after : List Step) (s : Step) (st : State) → configSound cfg ≡ true → Run cfg (before ++ (s ∷ after)) st → s .code ≡ 16
+    → (m : State) × Run cfg before m × (operationIn (m .operations) (s .what) .calling ≡ true) × (operationIn (m .operations) (s .what) .count ≡ 0)
+
+-- a result answers a Number only if the latest call ended on that operation was ended by an instance spawned for it that handed back that number, and that call ends only this once in the whole recording: before any timeout of it
+abbrev pub NumberIsFinal : Type 0
+NumberIsFinal =
+    (cfg : Config) (before after : List Step) (s : Step) (n : ℕ) (st : State) → configSound cfg ≡ true → Run cfg (before ++ (s ∷ after)) st → s .code ≡ 12 → s .claim ≡ numberV n
+    → (e : Ending) × (lastOn (s .what) (historyOf cfg before .endings) ≡ some e) × (e .how ≡ byInstance (e .call) (numberV n)) × (endsOf (e .call) (historyOf cfg (before ++ (s ∷ after)) .endings) ≡ 1)
+
+-- the same of the state reached: an operation Done with a Number
+abbrev pub DoneIsFinal : Type 0
+DoneIsFinal =
+    (cfg : Config) (rs : List Step) (st : State) → configSound cfg ≡ true → Run cfg rs st
+    → (o n : ℕ) → o < maxOperationConfs → operationIn (st .operations) o .calling ≡ false → operationIn (st .operations) o .done ≡ numberV n
+    → (e : Ending) × (lastOn o (historyOf cfg rs .endings) ≡ some e) × (e .how ≡ byInstance (e .call) (numberV n)) × (endsOf (e .call) (historyOf cfg rs .endings) ≡ 1)
+
+-- ---- that the history misses and invents nothing
+
+-- an operation is open exactly if its latest call has no ending yet
+abbrev pub OpenIsUnended : Type 0
+OpenIsUnended =
+    (cfg : Config) (rs : List Step) (st : State) → configSound cfg ≡ true → Run cfg rs st
+    → (o : ℕ) → o < maxOperationConfs
+    → (operationIn (st .operations) o .calling ≡ true) ↔ ((0 < latestOn (historyOf cfg rs) o) × (endsOf (latestOn (historyOf cfg rs) o) (historyOf cfg rs .endings) ≡ 0))
+
+-- the latest call of an operation is a call step answered Ok on it
+abbrev pub LatestStarted : Type 0
+LatestStarted =
+    (cfg : Config) (rs : List Step) (st : State) → configSound cfg ≡ true → Run cfg rs st
+    → (o : ℕ) → o < maxOperationConfs → 0 < latestOn (historyOf cfg rs) o → Started rs (latestOn (historyOf cfg rs) o) o
+
+-- the followed queues are as long as the machine's
+abbrev pub QueuesFollowed : Type 0
+QueuesFollowed =
+    (cfg : Config) (rs : List Step) (st : State) → configSound cfg ≡ true → Run cfg rs st
+    → (r : ℕ) → r < maxRunnableConfs → length (queuedAt (historyOf cfg rs) r) ≡ runnableIn (st .runnables) r .requests .queued
+
+-- the n-th spawn of a server takes the n-th request queued there: what waits is all that was queued, less one for each spawn
+abbrev pub FirstInFirstOut : Type 0
+FirstInFirstOut =
+    (cfg : Config) (rs : List Step) (st : State) → configSound cfg ≡ true → Run cfg rs st
+    → (r : ℕ) → r < cfg .runnables .n → 0 < runnableConfIn (cfg .runnables) r .capacity → queuedAt (historyOf cfg rs) r ≡ drop (allSpawns r rs) (allQueued cfg r 0 rs)
+
+-- and so a spawn takes the request whose number in that order is the number of spawns before it
+abbrev pub SpawnTakesNext : Type 0
+SpawnTakesNext =
+    (cfg : Config) (before : List Step) (s : Step) (st : State) → configSound cfg ≡ true → Run cfg (before ++ (s ∷ [])) st → s .code ≡ 15 → 0 < runnableConfIn (cfg .runnables) (s .what) .capacity
+    → takenBy (historyOf cfg (before ++ (s ∷ []))) (s .claim .number) ≡ getD (allQueued cfg (s .what) 0 before) (allSpawns (s .what) before) noRequest

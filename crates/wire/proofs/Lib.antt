@@ -1,0 +1,2 @@
+-- Laws of bytes that the readers and writers of both files cite.
+pub mod Laws
