@@ -1,7 +1,744 @@
 // Entries of a configuration: one shape for every kind of part, and the faults of an entry.
+ghost use mathlib.Core.Path.{_≡_};
+ghost use mathlib.Core.Bool.{not};
+ghost use lib.Dec.{leb, ltb, eqb};
+ghost use Rattle.laws.specs.Choice.{both, either, alike, bit};
+ghost use Rattle.config.specs.Tables.{addRunnableConf, addVariableConf, addAreaConf, addRequiredConf, addProvidedConf, addLink, addOperationConf, addTimerConf, addDataEvent, addReturnEvent, providedConfIn};
+ghost use Rattle.entries.specs.Entries.{maxOf, countOf, entryOf, placed, runnableEntry, variableEntry, areaEntry, requiredEntry, providedEntry, linkEntry, operationEntry, timerEntry, dataEventEntry, returnEventEntry, runnablePart, variablePart, areaPart, requiredPart, providedPart, linkPart, operationPart, timerPart, dataEventPart, returnEventPart, withRunnableConfs, withVariableConfs, withAreaConfs, withRequiredConfs, withProvidedConfs, withLinks, withOperationConfs, withTimerConfs, withDataEvents, withReturnEvents};
+ghost use Rattle.entries.specs.Faults.{maxComponent, maxTime, maxCapacity, isTime, inRange, namesThere, isServer, isQueued, rises, risesAt, pairsWell, entryFault, isNoEntry, placeSound, kindSound, configSound};
+use config::AreaConf;
+use config::AreaConfs;
+use config::Config;
+use config::DataEvent;
+use config::DataEvents;
+use config::Link;
+use config::Links;
+use config::OperationConf;
+use config::OperationConfs;
+use config::ProvidedConf;
+use config::ProvidedConfs;
+use config::RequiredConf;
+use config::RequiredConfs;
+use config::ReturnEvent;
+use config::ReturnEvents;
+use config::RunnableConf;
+use config::RunnableConfs;
+use config::TimerConf;
+use config::TimerConfs;
+use config::VariableConf;
+use config::VariableConfs;
+
 pub struct Entry {
     pub first: u8,
     pub second: u8,
     pub third: u8,
     pub number: u32,
+}
+
+impl Entry {
+    pub const MAX_COMPONENT: u8 = 15;
+
+    pub const MAX_CAPACITY: u8 = 16;
+
+    // An hour in milliseconds.
+    pub const MAX_TIME: u32 = 3600000;
+
+    pub const BLANK: Entry = Entry {
+        first: 0,
+        second: 0,
+        third: 0,
+        number: 0,
+    };
+}
+
+// A flag as a number.
+fn bit_of(b: bool) -> u8
+    ensures { λ r. ⌜ r ≡ bit b ⌝ }
+{
+    if b { 1 } else { 0 }
+}
+
+// How many parts of a kind there may be.
+pub fn max_of(tag: u8) -> u8
+    ensures { λ r. ⌜ r ≡ maxOf tag ⌝ }
+{
+    match tag {
+        0x10 => RunnableConfs::MAX as u8,
+        0x11 => VariableConfs::MAX as u8,
+        0x12 => AreaConfs::MAX as u8,
+        0x13 => RequiredConfs::MAX as u8,
+        0x14 => ProvidedConfs::MAX as u8,
+        0x15 => Links::MAX as u8,
+        0x16 => OperationConfs::MAX as u8,
+        0x17 => TimerConfs::MAX as u8,
+        0x18 => DataEvents::MAX as u8,
+        0x19 => ReturnEvents::MAX as u8,
+        _ => 0,
+    }
+}
+
+// How many there are.
+pub fn count_of(cfg: Config, tag: u8) -> u8
+    ensures { λ r. ⌜ r ≡ countOf cfg tag ⌝ }
+{
+    match tag {
+        0x10 => cfg.runnables.n,
+        0x11 => cfg.variables.n,
+        0x12 => cfg.areas.n,
+        0x13 => cfg.required.n,
+        0x14 => cfg.provided.n,
+        0x15 => cfg.links.n,
+        0x16 => cfg.operations.n,
+        0x17 => cfg.timers.n,
+        0x18 => cfg.devents.n,
+        0x19 => cfg.revents.n,
+        _ => 0,
+    }
+}
+
+// Each kind's part as an entry, and back.
+fn runnable_entry(x: RunnableConf) -> Entry
+    ensures { λ r. ⌜ r ≡ runnableEntry x ⌝ }
+{
+    Entry {
+        first: x.component,
+        second: bit_of(x.concurrent) + 2 * bit_of(x.init),
+        third: x.capacity,
+        number: x.interval,
+    }
+}
+
+fn runnable_part(e: Entry) -> RunnableConf
+    ensures { λ r. ⌜ r ≡ runnablePart e ⌝ }
+{
+    RunnableConf {
+        component: e.first,
+        concurrent: e.second % 2 == 1,
+        init: 1 < e.second,
+        interval: e.number,
+        capacity: e.third,
+    }
+}
+
+fn variable_entry(x: VariableConf) -> Entry
+    ensures { λ r. ⌜ r ≡ variableEntry x ⌝ }
+{
+    Entry {
+        first: x.component,
+        second: bit_of(x.initialed),
+        third: 0,
+        number: x.initial,
+    }
+}
+
+fn variable_part(e: Entry) -> VariableConf
+    ensures { λ r. ⌜ r ≡ variablePart e ⌝ }
+{
+    VariableConf {
+        component: e.first,
+        initialed: e.second == 1,
+        initial: e.number,
+    }
+}
+
+fn area_entry(x: AreaConf) -> Entry
+    ensures { λ r. ⌜ r ≡ areaEntry x ⌝ }
+{
+    Entry {
+        first: x.component,
+        second: 0,
+        third: 0,
+        number: 0,
+    }
+}
+
+fn area_part(e: Entry) -> AreaConf
+    ensures { λ r. ⌜ r ≡ areaPart e ⌝ }
+{
+    AreaConf { component: e.first }
+}
+
+fn required_entry(x: RequiredConf) -> Entry
+    ensures { λ r. ⌜ r ≡ requiredEntry x ⌝ }
+{
+    Entry {
+        first: x.component,
+        second: x.capacity,
+        third: 0,
+        number: 0,
+    }
+}
+
+fn required_part(e: Entry) -> RequiredConf
+    ensures { λ r. ⌜ r ≡ requiredPart e ⌝ }
+{
+    RequiredConf {
+        component: e.first,
+        capacity: e.second,
+    }
+}
+
+fn provided_entry(x: ProvidedConf) -> Entry
+    ensures { λ r. ⌜ r ≡ providedEntry x ⌝ }
+{
+    Entry {
+        first: x.component,
+        second: bit_of(x.queued),
+        third: 0,
+        number: 0,
+    }
+}
+
+fn provided_part(e: Entry) -> ProvidedConf
+    ensures { λ r. ⌜ r ≡ providedPart e ⌝ }
+{
+    ProvidedConf {
+        component: e.first,
+        queued: e.second == 1,
+    }
+}
+
+fn link_entry(x: Link) -> Entry
+    ensures { λ r. ⌜ r ≡ linkEntry x ⌝ }
+{
+    Entry {
+        first: x.provided,
+        second: x.required,
+        third: 0,
+        number: 0,
+    }
+}
+
+fn link_part(e: Entry) -> Link
+    ensures { λ r. ⌜ r ≡ linkPart e ⌝ }
+{
+    Link {
+        provided: e.first,
+        required: e.second,
+    }
+}
+
+fn operation_entry(x: OperationConf) -> Entry
+    ensures { λ r. ⌜ r ≡ operationEntry x ⌝ }
+{
+    Entry {
+        first: x.component,
+        second: bit_of(x.asynchronous),
+        third: x.server,
+        number: x.timeout,
+    }
+}
+
+fn operation_part(e: Entry) -> OperationConf
+    ensures { λ r. ⌜ r ≡ operationPart e ⌝ }
+{
+    OperationConf {
+        component: e.first,
+        asynchronous: e.second == 1,
+        server: e.third,
+        timeout: e.number,
+    }
+}
+
+fn timer_entry(x: TimerConf) -> Entry
+    ensures { λ r. ⌜ r ≡ timerEntry x ⌝ }
+{
+    Entry {
+        first: x.runnable,
+        second: 0,
+        third: 0,
+        number: x.period,
+    }
+}
+
+fn timer_part(e: Entry) -> TimerConf
+    ensures { λ r. ⌜ r ≡ timerPart e ⌝ }
+{
+    TimerConf {
+        runnable: e.first,
+        period: e.number,
+    }
+}
+
+fn data_event_entry(x: DataEvent) -> Entry
+    ensures { λ r. ⌜ r ≡ dataEventEntry x ⌝ }
+{
+    Entry {
+        first: x.runnable,
+        second: x.required,
+        third: 0,
+        number: 0,
+    }
+}
+
+fn data_event_part(e: Entry) -> DataEvent
+    ensures { λ r. ⌜ r ≡ dataEventPart e ⌝ }
+{
+    DataEvent {
+        runnable: e.first,
+        required: e.second,
+    }
+}
+
+fn return_event_entry(x: ReturnEvent) -> Entry
+    ensures { λ r. ⌜ r ≡ returnEventEntry x ⌝ }
+{
+    Entry {
+        first: x.runnable,
+        second: x.operation,
+        third: 0,
+        number: 0,
+    }
+}
+
+fn return_event_part(e: Entry) -> ReturnEvent
+    ensures { λ r. ⌜ r ≡ returnEventPart e ⌝ }
+{
+    ReturnEvent {
+        runnable: e.first,
+        operation: e.second,
+    }
+}
+
+// The entry of the part of a kind at place i.
+pub fn entry_of(cfg: Config, tag: u8, i: u8) -> Entry
+    ensures { λ r. ⌜ r ≡ entryOf cfg tag i ⌝ }
+{
+    match tag {
+        0x10 => {
+            let t = cfg.runnables;
+            runnable_entry(t.get(i))
+        }
+        0x11 => {
+            let t = cfg.variables;
+            variable_entry(t.get(i))
+        }
+        0x12 => {
+            let t = cfg.areas;
+            area_entry(t.get(i))
+        }
+        0x13 => {
+            let t = cfg.required;
+            required_entry(t.get(i))
+        }
+        0x14 => {
+            let t = cfg.provided;
+            provided_entry(t.get(i))
+        }
+        0x15 => {
+            let t = cfg.links;
+            link_entry(t.get(i))
+        }
+        0x16 => {
+            let t = cfg.operations;
+            operation_entry(t.get(i))
+        }
+        0x17 => {
+            let t = cfg.timers;
+            timer_entry(t.get(i))
+        }
+        0x18 => {
+            let t = cfg.devents;
+            data_event_entry(t.get(i))
+        }
+        0x19 => {
+            let t = cfg.revents;
+            return_event_entry(t.get(i))
+        }
+        _ => Entry::BLANK,
+    }
+}
+
+// One part more of a kind, as its entry says.
+fn place_runnable(cfg: Config, e: Entry) -> Config
+    ensures { λ r. ⌜ r ≡ withRunnableConfs cfg (addRunnableConf (cfg .runnables) (runnablePart e)) ⌝ }
+{
+    let t = cfg.runnables;
+    let grown = t.with(runnable_part(e));
+    let mut next = cfg;
+    next.runnables = grown;
+    next
+}
+
+fn place_variable(cfg: Config, e: Entry) -> Config
+    ensures { λ r. ⌜ r ≡ withVariableConfs cfg (addVariableConf (cfg .variables) (variablePart e)) ⌝ }
+{
+    let t = cfg.variables;
+    let grown = t.with(variable_part(e));
+    let mut next = cfg;
+    next.variables = grown;
+    next
+}
+
+fn place_area(cfg: Config, e: Entry) -> Config
+    ensures { λ r. ⌜ r ≡ withAreaConfs cfg (addAreaConf (cfg .areas) (areaPart e)) ⌝ }
+{
+    let t = cfg.areas;
+    let grown = t.with(area_part(e));
+    let mut next = cfg;
+    next.areas = grown;
+    next
+}
+
+fn place_required(cfg: Config, e: Entry) -> Config
+    ensures { λ r. ⌜ r ≡ withRequiredConfs cfg (addRequiredConf (cfg .required) (requiredPart e)) ⌝ }
+{
+    let t = cfg.required;
+    let grown = t.with(required_part(e));
+    let mut next = cfg;
+    next.required = grown;
+    next
+}
+
+fn place_provided(cfg: Config, e: Entry) -> Config
+    ensures { λ r. ⌜ r ≡ withProvidedConfs cfg (addProvidedConf (cfg .provided) (providedPart e)) ⌝ }
+{
+    let t = cfg.provided;
+    let grown = t.with(provided_part(e));
+    let mut next = cfg;
+    next.provided = grown;
+    next
+}
+
+fn place_link(cfg: Config, e: Entry) -> Config
+    ensures { λ r. ⌜ r ≡ withLinks cfg (addLink (cfg .links) (linkPart e)) ⌝ }
+{
+    let t = cfg.links;
+    let grown = t.with(link_part(e));
+    let mut next = cfg;
+    next.links = grown;
+    next
+}
+
+fn place_operation(cfg: Config, e: Entry) -> Config
+    ensures { λ r. ⌜ r ≡ withOperationConfs cfg (addOperationConf (cfg .operations) (operationPart e)) ⌝ }
+{
+    let t = cfg.operations;
+    let grown = t.with(operation_part(e));
+    let mut next = cfg;
+    next.operations = grown;
+    next
+}
+
+fn place_timer(cfg: Config, e: Entry) -> Config
+    ensures { λ r. ⌜ r ≡ withTimerConfs cfg (addTimerConf (cfg .timers) (timerPart e)) ⌝ }
+{
+    let t = cfg.timers;
+    let grown = t.with(timer_part(e));
+    let mut next = cfg;
+    next.timers = grown;
+    next
+}
+
+fn place_data_event(cfg: Config, e: Entry) -> Config
+    ensures { λ r. ⌜ r ≡ withDataEvents cfg (addDataEvent (cfg .devents) (dataEventPart e)) ⌝ }
+{
+    let t = cfg.devents;
+    let grown = t.with(data_event_part(e));
+    let mut next = cfg;
+    next.devents = grown;
+    next
+}
+
+fn place_return_event(cfg: Config, e: Entry) -> Config
+    ensures { λ r. ⌜ r ≡ withReturnEvents cfg (addReturnEvent (cfg .revents) (returnEventPart e)) ⌝ }
+{
+    let t = cfg.revents;
+    let grown = t.with(return_event_part(e));
+    let mut next = cfg;
+    next.revents = grown;
+    next
+}
+
+pub fn placed(cfg: Config, tag: u8, e: Entry) -> Config
+    ensures { λ r. ⌜ r ≡ placed cfg tag e ⌝ }
+{
+    match tag {
+        0x10 => place_runnable(cfg, e),
+        0x11 => place_variable(cfg, e),
+        0x12 => place_area(cfg, e),
+        0x13 => place_required(cfg, e),
+        0x14 => place_provided(cfg, e),
+        0x15 => place_link(cfg, e),
+        0x16 => place_operation(cfg, e),
+        0x17 => place_timer(cfg, e),
+        0x18 => place_data_event(cfg, e),
+        0x19 => place_return_event(cfg, e),
+        _ => cfg,
+    }
+}
+
+// At least 1, at most an hour.
+fn is_time(n: u32) -> bool
+    ensures { λ r. ⌜ r ≡ isTime n ⌝ }
+{
+    if 0 < n {
+        return n <= Entry::MAX_TIME;
+    }
+    false
+}
+
+// A component, and a second number up to a top.
+fn ranges(e: Entry, top: u8) -> bool
+    ensures { λ r. ⌜ r ≡ both (leb (e .first) maxComponent) (leb (e .second) top) ⌝ }
+{
+    if e.first <= Entry::MAX_COMPONENT {
+        return e.second <= top;
+    }
+    false
+}
+
+fn runnable_ranges(e: Entry) -> bool
+    ensures { λ r. ⌜ r ≡ both (leb (e .first) maxComponent) (both (leb (e .second) 3) (both (leb (e .number) maxTime) (leb (e .third) maxCapacity))) ⌝ }
+{
+    if e.first <= Entry::MAX_COMPONENT {
+        if e.second <= 3 {
+            if e.number <= Entry::MAX_TIME {
+                return e.third <= Entry::MAX_CAPACITY;
+            }
+        }
+    }
+    false
+}
+
+fn operation_ranges(e: Entry) -> bool
+    ensures { λ r. ⌜ r ≡ both (leb (e .first) maxComponent) (both (leb (e .second) 1) (isTime (e .number))) ⌝ }
+{
+    if e.first <= Entry::MAX_COMPONENT {
+        if e.second <= 1 {
+            return is_time(e.number);
+        }
+    }
+    false
+}
+
+// 24: the numbers of an entry that name no part.
+pub fn in_range(tag: u8, e: Entry) -> bool
+    ensures { λ r. ⌜ r ≡ inRange tag e ⌝ }
+{
+    match tag {
+        0x10 => runnable_ranges(e),
+        0x11 => ranges(e, 1),
+        0x12 => e.first <= Entry::MAX_COMPONENT,
+        0x13 => ranges(e, Entry::MAX_CAPACITY),
+        0x14 => ranges(e, 1),
+        0x16 => operation_ranges(e),
+        0x17 => is_time(e.number),
+        _ => true,
+    }
+}
+
+// The first number below one count, the second below another.
+fn pair_there(e: Entry, m: u8, n: u8) -> bool
+    ensures { λ r. ⌜ r ≡ both (ltb (e .first) m) (ltb (e .second) n) ⌝ }
+{
+    if e.first < m {
+        return e.second < n;
+    }
+    false
+}
+
+// 25: every part that an entry names is there.
+pub fn names_there(cfg: Config, tag: u8, e: Entry) -> bool
+    ensures { λ r. ⌜ r ≡ namesThere cfg tag e ⌝ }
+{
+    match tag {
+        0x15 => pair_there(e, cfg.provided.n, cfg.required.n),
+        0x16 => e.third < cfg.runnables.n,
+        0x17 => e.first < cfg.runnables.n,
+        0x18 => pair_there(e, cfg.runnables.n, cfg.required.n),
+        0x19 => pair_there(e, cfg.runnables.n, cfg.operations.n),
+        _ => true,
+    }
+}
+
+pub fn is_server(cfg: Config, r: u8) -> bool
+    ensures { λ b. ⌜ b ≡ isServer cfg r ⌝ }
+{
+    let t = cfg.runnables;
+    let x = t.get(r);
+    0 < x.capacity
+}
+
+pub fn is_queued(cfg: Config, q: u8) -> bool
+    ensures { λ b. ⌜ b ≡ isQueued cfg q ⌝ }
+{
+    let t = cfg.required;
+    let x = t.get(q);
+    0 < x.capacity
+}
+
+// The pair of an entry lies above another's.
+pub fn rises(d: Entry, e: Entry) -> bool
+    ensures { λ r. ⌜ r ≡ rises d e ⌝ }
+{
+    if d.first < e.first {
+        return true;
+    }
+    if d.first == e.first {
+        return d.second < e.second;
+    }
+    false
+}
+
+pub fn rises_at(cfg: Config, tag: u8, i: u8, e: Entry) -> bool
+    ensures { λ r. ⌜ r ≡ risesAt cfg tag i e ⌝ }
+{
+    if i == 0 {
+        return true;
+    }
+    rises(entry_of(cfg, tag, i - 1), e)
+}
+
+fn runnable_pairs(e: Entry) -> bool
+    ensures { λ r. ⌜ r ≡ either (leb (e .second) 1) (eqb (e .third) 0) ⌝ }
+{
+    if e.second <= 1 {
+        return true;
+    }
+    e.third == 0
+}
+
+fn variable_pairs(e: Entry) -> bool
+    ensures { λ r. ⌜ r ≡ either (eqb (e .second) 1) (eqb (e .number) 0) ⌝ }
+{
+    if e.second == 1 {
+        return true;
+    }
+    e.number == 0
+}
+
+// A link joins two elements that are both queued or both not.
+fn link_alike(cfg: Config, e: Entry) -> bool
+    ensures { λ r. ⌜ r ≡ alike (providedConfIn (cfg .provided) (e .first) .queued) (isQueued cfg (e .second)) ⌝ }
+{
+    let t = cfg.provided;
+    let x = t.get(e.first);
+    let q = is_queued(cfg, e.second);
+    if x.queued {
+        return q;
+    }
+    if q {
+        return false;
+    }
+    true
+}
+
+fn link_pairs(cfg: Config, tag: u8, i: u8, e: Entry) -> bool
+    ensures { λ r. ⌜ r ≡ both (alike (providedConfIn (cfg .provided) (e .first) .queued) (isQueued cfg (e .second))) (risesAt cfg tag i e) ⌝ }
+{
+    if link_alike(cfg, e) {
+        return rises_at(cfg, tag, i, e);
+    }
+    false
+}
+
+fn is_plain(cfg: Config, r: u8) -> bool
+    ensures { λ b. ⌜ b ≡ not (isServer cfg r) ⌝ }
+{
+    if is_server(cfg, r) {
+        return false;
+    }
+    true
+}
+
+fn event_pairs(cfg: Config, tag: u8, i: u8, e: Entry) -> bool
+    ensures { λ r. ⌜ r ≡ both (not (isServer cfg (e .first))) (risesAt cfg tag i e) ⌝ }
+{
+    if is_plain(cfg, e.first) {
+        return rises_at(cfg, tag, i, e);
+    }
+    false
+}
+
+// 26: no bad pairing.
+pub fn pairs_well(cfg: Config, tag: u8, i: u8, e: Entry) -> bool
+    ensures { λ r. ⌜ r ≡ pairsWell cfg tag i e ⌝ }
+{
+    match tag {
+        0x10 => runnable_pairs(e),
+        0x11 => variable_pairs(e),
+        0x15 => link_pairs(cfg, tag, i, e),
+        0x16 => is_server(cfg, e.third),
+        0x17 => is_plain(cfg, e.first),
+        0x18 => event_pairs(cfg, tag, i, e),
+        0x19 => event_pairs(cfg, tag, i, e),
+        _ => true,
+    }
+}
+
+// The first fault of an entry at place i of its kind, or 0.
+pub fn entry_fault(cfg: Config, tag: u8, i: u8, e: Entry) -> u8
+    ensures { λ r. ⌜ r ≡ entryFault cfg tag i e ⌝ }
+{
+    if i < max_of(tag) {
+        if in_range(tag, e) {
+            if names_there(cfg, tag, e) {
+                if pairs_well(cfg, tag, i, e) {
+                    return 0;
+                }
+                return 26;
+            }
+            return 25;
+        }
+        return 24;
+    }
+    23
+}
+
+pub fn is_no_entry(e: Entry) -> bool
+    ensures { λ r. ⌜ r ≡ isNoEntry e ⌝ }
+{
+    if e.first == 0 {
+        if e.second == 0 {
+            if e.third == 0 {
+                return e.number == 0;
+            }
+        }
+    }
+    false
+}
+
+// A place in use has no fault, any other is blank.
+pub fn place_sound(cfg: Config, tag: u8, i: u8) -> bool
+    ensures { λ r. ⌜ r ≡ placeSound cfg tag i ⌝ }
+{
+    let e = entry_of(cfg, tag, i);
+    if i < count_of(cfg, tag) {
+        return entry_fault(cfg, tag, i, e) == 0;
+    }
+    is_no_entry(e)
+}
+
+pub fn kind_sound(cfg: Config, tag: u8) -> bool
+    ensures { λ r. ⌜ r ≡ kindSound cfg tag ⌝ }
+{
+    let top = max_of(tag);
+    if top < count_of(cfg, tag) {
+        return false;
+    }
+    let mut i: u8 = 0;
+    while i < top {
+        if place_sound(cfg, tag, i) {
+            i = i + 1;
+        } else {
+            return false;
+        }
+    }
+    true
+}
+
+// 1, of a configuration: every place of all ten kinds.
+pub fn config_sound(cfg: Config) -> bool
+    ensures { λ r. ⌜ r ≡ configSound cfg ⌝ }
+{
+    let mut j: u8 = 0;
+    while j < 10 {
+        if kind_sound(cfg, 0x10 + j) {
+            j = j + 1;
+        } else {
+            return false;
+        }
+    }
+    true
 }

@@ -9,6 +9,16 @@ use Rattle.laws.specs.Choice.{pick}
 use Rattle.wire.specs.declared.Wrote.{Wrote}
 use Rattle.wire.specs.declared.Wrote.the-variants.{To, Refused}
 
+-- the number of refusal that an answer to writing stands for; 0 where the text was written ("Numbers of refusal", writing)
+abbrev pub refusalIn : Wrote → ℕ
+refusalIn (To n) = 0
+refusalIn (Refused r) = r
+
+-- how far the text reaches; 0 beside a refusal ("Numbers of refusal", writing)
+abbrev pub lengthIn : Wrote → ℕ
+lengthIn (To n) = n
+lengthIn (Refused r) = 0
+
 -- the number of two bytes ("The files")
 abbrev pub be16 : ℕ → ℕ → ℕ
 be16 a b = a * 256 + b

@@ -1,0 +1,12 @@
+use Rattle.entries.proofs.link_pairs.Statement.{statement}
+use Rattle.entries.proofs.link_pairs.Tie as tie
+
+returns : tie.Need-returns
+returns c = rw (c .rises-at .ensures, ← c .before .before .link-alike .ensures, c .before .if1 .taken)
+
+returns-2 : tie.Need-returns-2
+returns-2 c = rw (← c .before .link-alike .ensures, c .if1 .left)
+
+pub link-pairs-spec : {M : Type 1} → statement M
+link-pairs-spec =
+    tie.close (tie.spec (λ c κs. tt) (λ c κs. tt) returns returns-2)

@@ -1,0 +1,9 @@
+use Rattle.entries.proofs.operation_entry.Statement.{statement}
+use Rattle.entries.proofs.operation_entry.Tie as tie
+
+returns : tie.Need-returns
+returns c = rw (c .bit-of .ensures)
+
+pub operation-entry-spec : {M : Type 1} → statement M
+operation-entry-spec =
+    tie.close (tie.spec (λ c κs. tt) returns)

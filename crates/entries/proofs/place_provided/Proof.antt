@@ -1,0 +1,9 @@
+use Rattle.entries.proofs.place_provided.Statement.{statement}
+use Rattle.entries.proofs.place_provided.Tie as tie
+
+returns : tie.Need-returns
+returns c = rw (c .with .ensures, c .before .provided-part .ensures)
+
+pub place-provided-spec : {M : Type 1} → statement M
+place-provided-spec =
+    tie.close (tie.spec (λ c κs. tt) (λ c κs. tt) returns)

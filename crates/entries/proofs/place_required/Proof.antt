@@ -1,0 +1,9 @@
+use Rattle.entries.proofs.place_required.Statement.{statement}
+use Rattle.entries.proofs.place_required.Tie as tie
+
+returns : tie.Need-returns
+returns c = rw (c .with .ensures, c .before .required-part .ensures)
+
+pub place-required-spec : {M : Type 1} → statement M
+place-required-spec =
+    tie.close (tie.spec (λ c κs. tt) (λ c κs. tt) returns)

@@ -1,0 +1,9 @@
+use Rattle.entries.proofs.place_return_event.Statement.{statement}
+use Rattle.entries.proofs.place_return_event.Tie as tie
+
+returns : tie.Need-returns
+returns c = rw (c .with .ensures, c .before .return-event-part .ensures)
+
+pub place-return-event-spec : {M : Type 1} → statement M
+place-return-event-spec =
+    tie.close (tie.spec (λ c κs. tt) (λ c κs. tt) returns)

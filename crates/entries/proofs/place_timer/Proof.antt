@@ -1,0 +1,9 @@
+use Rattle.entries.proofs.place_timer.Statement.{statement}
+use Rattle.entries.proofs.place_timer.Tie as tie
+
+returns : tie.Need-returns
+returns c = rw (c .with .ensures, c .before .timer-part .ensures)
+
+pub place-timer-spec : {M : Type 1} → statement M
+place-timer-spec =
+    tie.close (tie.spec (λ c κs. tt) (λ c κs. tt) returns)

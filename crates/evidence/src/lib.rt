@@ -1,0 +1,1 @@
+// Worked examples of the definitions, as theorems that compute. There is no code here.

@@ -1,0 +1,51 @@
+-- The line that the program prints, for any two files ("Judging", last paragraph).
+-- Assumes nothing.
+use Prim.Native.Nat.{ℕ}
+use mathlib.Core.Bool.{Bool, true, false}
+use mathlib.Core.List.{List}
+use lib.Dec.{ltb}
+use lib.ListN.{length}
+use Rattle.laws.specs.Choice.{pick, either}
+use Rattle.config.specs.declared.Config.{Config}
+use Rattle.state.specs.Start.{startOf}
+use Rattle.reading.specs.declared.Outcome.{Outcome}
+use Rattle.reading.specs.declared.Outcome.the-variants.{Whole, Refused as NotRead}
+use Rattle.reading.specs.declared.Reading.{Reading}
+use Rattle.reading.specs.Reading.{configOf}
+use Rattle.judging.specs.declared.Verdict.{Verdict}
+use Rattle.judging.specs.declared.Verdict.the-variants.{Accepted, Refused, Unfinished}
+use Rattle.judging.specs.declared.Judged.{Judged}
+use Rattle.judging.specs.declared.Line.{Line}
+use Rattle.judging.specs.declared.Line.the-variants.{AcceptedLine, RefusedLine, UnfinishedLine, ConfigurationLine, TooLongLine}
+use Rattle.judging.specs.Judging.{judgeOf}
+
+-- the most bytes of a configuration and of a recording, and the allowance of steps
+abbrev pub maxConfig : ℕ
+maxConfig = 4096
+
+abbrev pub maxRecording : ℕ
+maxRecording = 65536
+
+abbrev pub allowed : ℕ
+allowed = 4000
+
+-- what a verdict is called: accepted and unfinished with the steps taken, refused with place and number
+unfoldable pub verdictLine : Judged → Line
+verdictLine j = by (j .verdict)
+  where
+    by : Verdict → Line
+    by Accepted = AcceptedLine (j .count)
+    by (Refused p k) = RefusedLine p k
+    by Unfinished = UnfinishedLine (j .count)
+
+-- a configuration that can't be read is named with place and number, any other is judged from its start state
+unfoldable pub readLine : Reading → List ℕ → Line
+readLine r t = by (r .outcome)
+  where
+    by : Outcome → Line
+    by Whole = verdictLine (judgeOf (r .config) (startOf (r .config)) t allowed)
+    by (NotRead k p) = ConfigurationLine p k
+
+-- before all, either text may be too long
+unfoldable pub lineOf : List ℕ → List ℕ → Line
+lineOf c t = pick (either (ltb maxConfig (length c)) (ltb maxRecording (length t))) TooLongLine (readLine (configOf c) t)
