@@ -22,7 +22,7 @@ use Rattle.recording.specs.Recording.{fieldOf}
 use Rattle.judging.specs.declared.Verdict.{Verdict}
 use Rattle.judging.specs.declared.Verdict.the-variants.{Accepted, Refused, Unfinished}
 use Rattle.judging.specs.declared.Judged.{Judged}
-use Rattle.judging.specs.Judging.{judged, onField, judgeFrom, stepsOf, restOf}
+use Rattle.judging.specs.Judging.{judged, onField, judgeFrom, restOf}
 
 -- ---- one field, for the loop: what it returns, and how it goes on
 

@@ -3,7 +3,7 @@
 -- Assumes nothing.
 use Prim.Native.Nat.{ℕ, zero, suc, _+_}
 use mathlib.Core.Bool.{Bool, true, false}
-use mathlib.Core.List.{List, [], _∷_}
+use mathlib.Core.List.{List}
 use lib.ListN.{drop}
 use Rattle.laws.specs.Choice.{pick}
 use Rattle.values.specs.declared.Step.{Step}
@@ -47,11 +47,6 @@ judgeFrom step (suc a) t n st =
 -- an unsound configuration or first state is refused at place 0, with the state as it came
 unfoldable pub judgeOf : Config → State → List ℕ → ℕ → Judged
 judgeOf cfg st t a = pick (soundOf cfg st) (judgeFrom (stepOf cfg) a t 0 st) (judged (Refused 0 1) 0 st)
-
--- the first n steps that a text holds, as far as its fields are steps
-unfoldable pub stepsOf : ℕ → List ℕ → List Step
-stepsOf zero t = []
-stepsOf (suc n) t = onField (fieldOf t) (λ s size. s ∷ stepsOf n (drop size t)) [] (λ k past. [])
 
 -- the text behind its first n steps
 unfoldable pub restOf : ℕ → List ℕ → List ℕ

@@ -16,36 +16,38 @@ use Rattle.judging.specs.declared.Verdict.{Verdict}
 use Rattle.judging.specs.declared.Verdict.the-variants.{Accepted, Refused, Unfinished}
 use Rattle.judging.specs.declared.Judged.{Judged}
 use Rattle.judging.specs.declared.Line.{Line}
-use Rattle.judging.specs.declared.Line.the-variants.{AcceptedLine, RefusedLine, UnfinishedLine, ConfigurationLine, TooLongLine}
+use Rattle.judging.specs.declared.Line.the-variants.{Accepted as AcceptedLine, Refused as RefusedLine, Unfinished as UnfinishedLine, Configuration, TooLong}
 use Rattle.judging.specs.Judging.{judgeOf}
 
--- the most bytes of a configuration and of a recording, and the allowance of steps
+-- the most bytes of a configuration
 abbrev pub maxConfig : ℕ
 maxConfig = 4096
 
+-- the most bytes of a recording
 abbrev pub maxRecording : ℕ
 maxRecording = 65536
 
+-- the allowance of steps
 abbrev pub allowed : ℕ
 allowed = 4000
 
 -- what a verdict is called: accepted and unfinished with the steps taken, refused with place and number
-unfoldable pub verdictLine : Judged → Line
-verdictLine j = by (j .verdict)
-  where
-    by : Verdict → Line
-    by Accepted = AcceptedLine (j .count)
-    by (Refused p k) = RefusedLine p k
-    by Unfinished = UnfinishedLine (j .count)
+abbrev pub verdictLine : Verdict → ℕ → Line
+verdictLine Accepted n = AcceptedLine n
+verdictLine (Refused p k) n = RefusedLine p k
+verdictLine Unfinished n = UnfinishedLine n
+
+unfoldable pub judgedLine : Judged → Line
+judgedLine j = verdictLine (j .verdict) (j .count)
 
 -- a configuration that can't be read is named with place and number, any other is judged from its start state
+abbrev pub outcomeLine : Outcome → Line → Line
+outcomeLine Whole line = line
+outcomeLine (NotRead k p) line = Configuration p k
+
 unfoldable pub readLine : Reading → List ℕ → Line
-readLine r t = by (r .outcome)
-  where
-    by : Outcome → Line
-    by Whole = verdictLine (judgeOf (r .config) (startOf (r .config)) t allowed)
-    by (NotRead k p) = ConfigurationLine p k
+readLine r t = outcomeLine (r .outcome) (judgedLine (judgeOf (r .config) (startOf (r .config)) t allowed))
 
 -- before all, either text may be too long
 unfoldable pub lineOf : List ℕ → List ℕ → Line
-lineOf c t = pick (either (ltb maxConfig (length c)) (ltb maxRecording (length t))) TooLongLine (readLine (configOf c) t)
+lineOf c t = pick (either (ltb maxConfig (length c)) (ltb maxRecording (length t))) TooLong (readLine (configOf c) t)

@@ -106,7 +106,11 @@ held-slot cfg t ss i x e h = record { there = h .there; once = λ a b. sum-same 
 pub free-room : (cfg : Config) (st : State) (i a : ℕ) → Sound cfg st → i < maxSlots → a < maxAreaConfs → areaIn (st .areas) a .taken ≡ false → slotIn (st .slots) i .stack .held < maxAreaConfs
 unfolding holders timesIn
 free-room cfg st i a s l m f =
-    omega (arith, sum-room (λ (b : ℕ). timesIn b x) a maxAreaConfs (λ b n. omega (arith, fewer b, s .areas .once b n, bit-most (areaIn (st .areas) b .taken))) m none, spread (λ (j : ℕ). getD (x .at) j 0) maxAreaConfs (x .held) (λ j n. omega (arith, q .named j n, areas-most cfg (s .config))))
+    omega (
+      arith,
+      sum-room (λ (b : ℕ). timesIn b x) a maxAreaConfs (λ b n. omega (arith, fewer b, s .areas .once b n, bit-most (areaIn (st .areas) b .taken))) m none,
+      spread (λ (j : ℕ). getD (x .at) j 0) maxAreaConfs (x .held) (λ j n. omega (arith, q .named j n, areas-most cfg (s .config))),
+    )
   where
     x : Stack
     x = slotIn (st .slots) i .stack

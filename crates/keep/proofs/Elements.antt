@@ -146,20 +146,21 @@ module _ (cfg : Config) (st : State) (s : Sound cfg st) where
   unfolding elementsSound
   element-at q b = all-at (λ (q : ℕ). elementSound cfg q (elementIn (st .elements) q)) maxRequiredConfs (s .elements) q (omega (arith, required-most cfg (s .config)))
 
-  pub read-keeps-elements : (i q : ℕ) → CanRead cfg st i q → elementsSound cfg (withElement (st .elements) q (seen (elementIn (st .elements) q))) ≡ true
-  read-keeps-elements i q z = elements-put cfg (st .elements) q (seen (elementIn (st .elements) q)) (s .elements) (seen-sound cfg q (elementIn (st .elements) q) (element-at q (z .inside)))
+module _ (cfg : Config) (st : State) where
+  pub read-keeps-elements : (i q : ℕ) → Sound cfg st → CanRead cfg st i q → elementsSound cfg (withElement (st .elements) q (seen (elementIn (st .elements) q))) ≡ true
+  read-keeps-elements i q s z = elements-put cfg (st .elements) q (seen (elementIn (st .elements) q)) (s .elements) (seen-sound cfg q (elementIn (st .elements) q) (element-at cfg st s q (z .inside)))
 
-  pub feed-keeps-elements : (i p : ℕ) (v : Value) → CanFeed cfg st i p v → elementsSound cfg (fedElements cfg p v (st .elements)) ≡ true
-  feed-keeps-elements i p v z = fed-sound cfg (s .config) p v (payload-stored v (z .payload)) (λ q l e. z .payload) (st .elements) (s .elements)
+  pub feed-keeps-elements : (i p : ℕ) (v : Value) → Sound cfg st → CanFeed cfg st i p v → elementsSound cfg (fedElements cfg p v (st .elements)) ≡ true
+  feed-keeps-elements i p v s z = fed-sound cfg (s .config) p v (payload-stored v (z .payload)) (λ q l e. z .payload) (st .elements) (s .elements)
 
-  pub invalidate-keeps-elements : (i p : ℕ) → CanInvalidate cfg st i p → elementsSound cfg (fedElements cfg p invalidV (st .elements)) ≡ true
+  pub invalidate-keeps-elements : (i p : ℕ) → Sound cfg st → CanInvalidate cfg st i p → elementsSound cfg (fedElements cfg p invalidV (st .elements)) ≡ true
   unfolding isStored isPayload isVoid
-  invalidate-keeps-elements i p z =
+  invalidate-keeps-elements i p s z =
       fed-sound cfg (s .config) p invalidV refl (λ q l e. absurd (clash (isQueued cfg q) e (sym (linked-alike cfg (s .config) p q l) ∙ z .unqueued))) (st .elements) (s .elements)
 
-  pub receive-keeps-elements : (i q : ℕ) → CanReceive cfg st i q → elementsSound cfg (withElement (st .elements) q (receiving (elementIn (st .elements) q))) ≡ true
-  receive-keeps-elements i q z =
+  pub receive-keeps-elements : (i q : ℕ) → Sound cfg st → CanReceive cfg st i q → elementsSound cfg (withElement (st .elements) q (receiving (elementIn (st .elements) q))) ≡ true
+  receive-keeps-elements i q s z =
       let x = elementIn (st .elements) q in
-      let t = stands-told cfg q x (element-at q (z .inside)) in
+      let t = stands-told cfg q x (element-at cfg st s q (z .inside)) in
       elements-put cfg (st .elements) q (receiving x) (s .elements)
       (stands-made cfg q (receiving x) (record { value = t .value; queue = rest-sound (requiredConfIn (cfg .required) q .capacity) (x .queue) (length-most cfg (s .config) q) (t .queue) (z .some) }))

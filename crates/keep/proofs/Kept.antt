@@ -40,7 +40,8 @@ module _ {B : Type 0} where
 
   -- ---- each of the first parts changed to one that is
 
-  runnables-kept : (g : Runnable → B) (f : ℕ → Runnable → Runnable) (n : ℕ) (rs : Runnables) → ((r : ℕ) (x : Runnable) → g (f r x) ≡ g x) → (j : ℕ) → g (runnableIn (record { at = eachBelow f noRunnable n (rs .at) }) j) ≡ g (runnableIn rs j)
+  runnables-kept : (g : Runnable → B) (f : ℕ → Runnable → Runnable) (n : ℕ) (rs : Runnables) → ((r : ℕ) (x : Runnable) → g (f r x) ≡ g x)
+      → (j : ℕ) → g (runnableIn (record { at = eachBelow f noRunnable n (rs .at) }) j) ≡ g (runnableIn rs j)
   unfolding runnableIn
   runnables-kept g f n rs e j = each-has f noRunnable (λ k y. g y ≡ g (getD (rs .at) k noRunnable)) n (rs .at) j (λ l. e j (getD (rs .at) j noRunnable)) refl
 

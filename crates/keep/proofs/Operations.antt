@@ -94,27 +94,28 @@ module _ (cfg : Config) (st : State) (s : Sound cfg st) where
   unfolding operationsSound
   operation-at o b = all-at (λ (o : ℕ). operationSound cfg o (operationIn (st .operations) o)) maxOperationConfs (s .operations) o (omega (arith, operations-most cfg (s .config)))
 
-  pub call-keeps-operations : (i o : ℕ) (v : Value) → CanCall cfg st i o v → operationsSound cfg (withOperation (st .operations) o (opening (operationConfIn (cfg .operations) o .timeout) (operationIn (st .operations) o))) ≡ true
-  call-keeps-operations i o v z = operations-put cfg (st .operations) o _ (s .operations) (open-sound cfg o (operationIn (st .operations) o) (z .inside) (z .number) (operation-at o (z .inside)))
+module _ (cfg : Config) (st : State) where
+  pub call-keeps-operations : (i o : ℕ) (v : Value) → Sound cfg st → CanCall cfg st i o v → operationsSound cfg (withOperation (st .operations) o (opening (operationConfIn (cfg .operations) o .timeout) (operationIn (st .operations) o))) ≡ true
+  call-keeps-operations i o v s z = operations-put cfg (st .operations) o _ (s .operations) (open-sound cfg o (operationIn (st .operations) o) (z .inside) (z .number) (operation-at cfg st s o (z .inside)))
 
   -- where the call is the client's, and it is ended
-  pub hand-back-keeps-operations : (i : ℕ) (v : Value) → CanHandBack cfg st i v → answers (st .operations) (slotIn (st .slots) i .owed .client) ≡ true
+  pub answer-keeps-operations : (i : ℕ) (v : Value) → Sound cfg st → CanHandBack cfg st i v → answers (st .operations) (slotIn (st .slots) i .owed .client) ≡ true
       → operationsSound cfg (withOperation (st .operations) (slotIn (st .slots) i .owed .client .operation) (closing v (operationIn (st .operations) (slotIn (st .slots) i .owed .client .operation)))) ≡ true
   unfolding answers
-  hand-back-keeps-operations i v z a =
+  answer-keeps-operations i v s z a =
       let x = slotIn (st .slots) i in
       let o = x .owed .client .operation in
       let h = instance-at cfg st s i (z .who .there .used) in
       let b : o < cfg .operations .n = client-there cfg (x .life .runnable) (x .owed .client) (owed-client cfg (x .life) (x .owed) (h .owed) (z .serving)) in
       operations-put cfg (st .operations) o _ (s .operations)
-      (close-sound cfg o (operationIn (st .operations) o) v (payload-outcome v (z .payload)) (both-left (operationIn (st .operations) o .calling) _ a) (operation-at o b))
+      (close-sound cfg o (operationIn (st .operations) o) v (payload-outcome v (z .payload)) (both-left (operationIn (st .operations) o .calling) _ a) (operation-at cfg st s o b))
 
-  pub timeout-keeps-operations : (o : ℕ) → CanTimeout cfg st o → operationsSound cfg (withOperation (st .operations) o (closing timeoutV (operationIn (st .operations) o))) ≡ true
+  pub timeout-keeps-operations : (o : ℕ) → Sound cfg st → CanTimeout cfg st o → operationsSound cfg (withOperation (st .operations) o (closing timeoutV (operationIn (st .operations) o))) ≡ true
   unfolding isOutcome isPayload isVoid
-  timeout-keeps-operations o z = operations-put cfg (st .operations) o _ (s .operations) (close-sound cfg o (operationIn (st .operations) o) timeoutV refl (z .calling) (operation-at o (z .inside)))
+  timeout-keeps-operations o s z = operations-put cfg (st .operations) o _ (s .operations) (close-sound cfg o (operationIn (st .operations) o) timeoutV refl (z .calling) (operation-at cfg st s o (z .inside)))
 
-  pub wait-keeps-operations : (t : ℕ) → CanWait cfg st t → operationsSound cfg (operationsAfter cfg (st .operations) t) ≡ true
+  pub wait-keeps-operations : (t : ℕ) → Sound cfg st → CanWait cfg st t → operationsSound cfg (operationsAfter cfg (st .operations) t) ≡ true
   unfolding operationsSound operationIn operationsAfter
-  wait-keeps-operations t z =
+  wait-keeps-operations t s z =
       all-each (λ (o : ℕ) (x : Operation). operationAfter t x) noOperation (λ o y. operationSound cfg o y) (cfg .operations .n) maxOperationConfs (st .operations .at) (s .operations)
       (λ o b c h. after-sound cfg o t (getD (st .operations .at) o noOperation) h)

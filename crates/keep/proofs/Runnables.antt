@@ -147,34 +147,35 @@ module _ (cfg : Config) (st : State) (s : Sound cfg st) where
   pub sits-at : (r : ℕ) → r < cfg .runnables .n → Sits cfg r (runnableIn (st .runnables) r)
   sits-at r b = sits-told cfg r (runnableIn (st .runnables) r) (runnable-at cfg (st .runnables) (s .runnables) r (omega (arith, runnables-most cfg (s .config))))
 
-  pub feed-keeps-runnables : (i p : ℕ) (v : Value) → CanFeed cfg st i p v → runnablesSound cfg (fedRunnables cfg (st .elements) p (st .runnables)) ≡ true
-  feed-keeps-runnables i p v z = fed-sound cfg (s .config) (st .elements) p (st .runnables) (s .runnables)
+module _ (cfg : Config) (st : State) where
+  pub feed-keeps-runnables : (i p : ℕ) (v : Value) → Sound cfg st → CanFeed cfg st i p v → runnablesSound cfg (fedRunnables cfg (st .elements) p (st .runnables)) ≡ true
+  feed-keeps-runnables i p v s z = fed-sound cfg (s .config) (st .elements) p (st .runnables) (s .runnables)
 
-  pub call-keeps-runnables : (i o : ℕ) (v : Value) → CanCall cfg st i o v
+  pub call-keeps-runnables : (i o : ℕ) (v : Value) → Sound cfg st → CanCall cfg st i o v
       → runnablesSound cfg (withRunnable (st .runnables) (operationConfIn (cfg .operations) o .server)
       (asking (runnableIn (st .runnables) (operationConfIn (cfg .operations) o .server)) (record { operation = o; number = operationIn (st .operations) o .number; argument = v }))) ≡ true
   unfolding clientFits
-  call-keeps-runnables i o v z =
+  call-keeps-runnables i o v s z =
       let r = operationConfIn (cfg .operations) o .server in
       let c : Client = record { operation = o; number = operationIn (st .operations) o .number; argument = v } in
       let x = runnableIn (st .runnables) r in
-      let t = sits-at r (operation-there cfg (s .config) o (z .inside)) in
+      let t = sits-at cfg st s r (operation-there cfg (s .config) o (z .inside)) in
       let fits : clientFits cfg r c ≡ true = both-make _ _ (lt-ltb o (cfg .operations .n) (z .inside)) (both-make _ _ (eq-eqb r r refl) (z .payload)) in
       runnables-put cfg (st .runnables) r (asking x c) (s .runnables)
       (sits-made cfg r (asking x c) (record { interval = t .interval; alone = t .alone; pending = t .pending; requests = push-sound cfg r (x .requests) (t .requests) c (s .config) (z .room) fits }))
 
-  pub hand-back-keeps-runnables : (i : ℕ) (v : Value) → CanHandBack cfg st i v → runnablesSound cfg (returnedRunnables cfg (slotIn (st .slots) i .owed .client .operation) (st .runnables)) ≡ true
-  hand-back-keeps-runnables i v z = returned-sound cfg (s .config) (slotIn (st .slots) i .owed .client .operation) (st .runnables) (s .runnables)
+  pub answer-keeps-runnables : (i : ℕ) (v : Value) → Sound cfg st → CanHandBack cfg st i v → runnablesSound cfg (returnedRunnables cfg (slotIn (st .slots) i .owed .client .operation) (st .runnables)) ≡ true
+  answer-keeps-runnables i v s z = returned-sound cfg (s .config) (slotIn (st .slots) i .owed .client .operation) (st .runnables) (s .runnables)
 
-  pub timeout-keeps-runnables : (o : ℕ) → CanTimeout cfg st o → runnablesSound cfg (returnedRunnables cfg o (st .runnables)) ≡ true
-  timeout-keeps-runnables o z = returned-sound cfg (s .config) o (st .runnables) (s .runnables)
+  pub timeout-keeps-runnables : (o : ℕ) → Sound cfg st → CanTimeout cfg st o → runnablesSound cfg (returnedRunnables cfg o (st .runnables)) ≡ true
+  timeout-keeps-runnables o s z = returned-sound cfg (s .config) o (st .runnables) (s .runnables)
 
-  pub end-keeps-runnables : (i : ℕ) → CanEnd st i
+  pub end-keeps-runnables : (i : ℕ) → Sound cfg st → CanEnd st i
       → runnablesSound cfg (withRunnable (st .runnables) (slotIn (st .slots) i .life .runnable) (leaving (runnableIn (st .runnables) (slotIn (st .slots) i .life .runnable)))) ≡ true
-  end-keeps-runnables i z =
+  end-keeps-runnables i s z =
       let r = slotIn (st .slots) i .life .runnable in
       let x = runnableIn (st .runnables) r in
-      let t = sits-at r (life-there cfg (slotIn (st .slots) i .life) (instance-at cfg st s i (z .there .used) .life)) in
+      let t = sits-at cfg st s r (life-there cfg (slotIn (st .slots) i .life) (instance-at cfg st s i (z .there .used) .life)) in
       runnables-put cfg (st .runnables) r (leaving x) (s .runnables)
       (sits-made cfg r (leaving x) (record { interval = t .interval; alone = fewer (runnableConfIn (cfg .runnables) r .concurrent) (x .instances) (t .alone); pending = t .pending; requests = t .requests }))
     where
@@ -182,10 +183,10 @@ module _ (cfg : Config) (st : State) (s : Sound cfg st) where
       fewer true n h = refl
       fewer false n h = le-leb (n - 1) 1 (omega (arith, leb-true n 1 h))
 
-  pub spawn-keeps-runnables : (r : ℕ) → CanSpawn cfg st r
+  pub spawn-keeps-runnables : (r : ℕ) → Sound cfg st → CanSpawn cfg st r
       → runnablesSound cfg (withRunnable (st .runnables) r (starting (runnableConfIn (cfg .runnables) r) (runnableIn (st .runnables) r))) ≡ true
   unfolding starting isDue
-  spawn-keeps-runnables r z = go (eqb (c .capacity) 0) refl
+  spawn-keeps-runnables r s z = go (eqb (c .capacity) 0) refl
     where
       c : RunnableConf
       c = runnableConfIn (cfg .runnables) r
@@ -194,7 +195,7 @@ module _ (cfg : Config) (st : State) (s : Sound cfg st) where
       x = runnableIn (st .runnables) r
 
       t : Sits cfg r x
-      t = sits-at r (z .inside)
+      t = sits-at cfg st s r (z .inside)
 
       -- one instance more, where there was none or the flag is on
       more : (b : Bool) (n : ℕ) → either (eqb n 0) b ≡ true → either b (leb (upOne n) 1) ≡ true
@@ -222,17 +223,17 @@ module _ (cfg : Config) (st : State) (s : Sound cfg st) where
           runnables-put cfg (st .runnables) r _ (s .runnables)
           (sits-made cfg r _ (record { interval = le-leb (c .interval) (c .interval) (omega arith); alone = alone; pending = t .pending; requests = rest-sound cfg r (x .requests) (t .requests) (s .config) (due e) }))
 
-  pub tick-keeps-runnables : (t : ℕ) → CanTick cfg st t
+  pub tick-keeps-runnables : (t : ℕ) → Sound cfg st → CanTick cfg st t
       → runnablesSound cfg (withRunnable (st .runnables) (timerConfIn (cfg .timers) t .runnable) (woken (runnableIn (st .runnables) (timerConfIn (cfg .timers) t .runnable)))) ≡ true
-  tick-keeps-runnables t z =
+  tick-keeps-runnables t s z =
       let r = timerConfIn (cfg .timers) t .runnable in
       let b = timer-there cfg (s .config) t (z .inside) in
       runnables-put cfg (st .runnables) r (woken (runnableIn (st .runnables) r)) (s .runnables)
       (woken-sound cfg r (runnableIn (st .runnables) r) b (timer-plain cfg (s .config) t (z .inside)) (runnable-at cfg (st .runnables) (s .runnables) r (omega (arith, runnables-most cfg (s .config)))))
 
-  pub wait-keeps-runnables : (t : ℕ) → CanWait cfg st t → runnablesSound cfg (runnablesAfter cfg (st .runnables) t) ≡ true
+  pub wait-keeps-runnables : (t : ℕ) → Sound cfg st → CanWait cfg st t → runnablesSound cfg (runnablesAfter cfg (st .runnables) t) ≡ true
   unfolding runnablesAfter
-  wait-keeps-runnables t z =
+  wait-keeps-runnables t s z =
       runnables-each cfg (λ (r : ℕ) (x : Runnable). runnableAfter t x) (st .runnables)
       (λ r x b q. let k = sits-told cfg r x q in
       sits-made cfg r (runnableAfter t x)

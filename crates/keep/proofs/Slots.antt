@@ -103,25 +103,25 @@ blank-slot cfg = refl
 
 -- ---- step by step
 
-module _ (cfg : Config) (st : State) (s : Sound cfg st) where
-  pub enter-keeps-slots : (i a : ℕ) → CanEnter cfg st i a → slotsSound cfg (withSlot (st .slots) i (entering (slotIn (st .slots) i) a)) ≡ true
-  enter-keeps-slots i a z =
+module _ (cfg : Config) (st : State) where
+  pub enter-keeps-slots : (i a : ℕ) → Sound cfg st → CanEnter cfg st i a → slotsSound cfg (withSlot (st .slots) i (entering (slotIn (st .slots) i) a)) ≡ true
+  enter-keeps-slots i a s z =
       let x = slotIn (st .slots) i in
       let room = free-room cfg st i a s (slot-below cfg st s i (z .who .there .used)) (omega (arith, z .inside, areas-most cfg (s .config))) (z .free) in
       let h = instance-at cfg st s i (z .who .there .used) in
       changed cfg st s i (entering x a) (z .who .there .used)
       (record { life = h .life; owed = h .owed; stack = push-sound cfg (x .life) (x .stack) a room (z .inside) (z .own) (h .stack) })
 
-  pub exit-keeps-slots : (i a : ℕ) → CanExit cfg st i a → slotsSound cfg (withSlot (st .slots) i (exiting (slotIn (st .slots) i))) ≡ true
-  exit-keeps-slots i a z =
+  pub exit-keeps-slots : (i a : ℕ) → Sound cfg st → CanExit cfg st i a → slotsSound cfg (withSlot (st .slots) i (exiting (slotIn (st .slots) i))) ≡ true
+  exit-keeps-slots i a s z =
       let x = slotIn (st .slots) i in
       let h = instance-at cfg st s i (z .who .there .used) in
       changed cfg st s i (exiting x) (z .who .there .used)
       (record { life = h .life; owed = h .owed; stack = pop-sound cfg (x .life) (x .stack) (z .some) (h .stack) })
 
-  pub call-keeps-slots : (i o : ℕ) (v : Value) → CanCall cfg st i o v → slotsSound cfg (withSlot (st .slots) i (callerAfter cfg o (slotIn (st .slots) i))) ≡ true
+  pub call-keeps-slots : (i o : ℕ) (v : Value) → Sound cfg st → CanCall cfg st i o v → slotsSound cfg (withSlot (st .slots) i (callerAfter cfg o (slotIn (st .slots) i))) ≡ true
   unfolding callerAfter owedSound stackSound
-  call-keeps-slots i o v z = go (operationConfIn (cfg .operations) o .asynchronous) refl
+  call-keeps-slots i o v s z = go (operationConfIn (cfg .operations) o .asynchronous) refl
     where
       go : (b : Bool) → operationConfIn (cfg .operations) o .asynchronous ≡ b → slotsSound cfg (withSlot (st .slots) i (pick b (slotIn (st .slots) i) (waitingOn (slotIn (st .slots) i) o))) ≡ true
       go true e = changed cfg st s i (slotIn (st .slots) i) (z .who .there .used) (instance-at cfg st s i (z .who .there .used))
@@ -131,28 +131,28 @@ module _ (cfg : Config) (st : State) (s : Sound cfg st) where
           changed cfg st s i (waitingOn x o) (z .who .there .used)
           (record { life = life-waits cfg (x .life) o (z .inside) e (z .own) (h .life); owed = h .owed; stack = h .stack })
 
-  pub collect-keeps-slots : (i o : ℕ) → CanCollect cfg st i o → slotsSound cfg (withSlot (st .slots) i (runningOn (slotIn (st .slots) i))) ≡ true
+  pub collect-keeps-slots : (i o : ℕ) → Sound cfg st → CanCollect cfg st i o → slotsSound cfg (withSlot (st .slots) i (runningOn (slotIn (st .slots) i))) ≡ true
   unfolding owedSound stackSound
-  collect-keeps-slots i o z =
+  collect-keeps-slots i o s z =
       let x = slotIn (st .slots) i in
       let h = instance-at cfg st s i (z .there .used) in
       changed cfg st s i (runningOn x) (z .there .used) (record { life = life-runs cfg (x .life) (h .life); owed = h .owed; stack = h .stack })
 
-  pub hand-back-keeps-slots : (i : ℕ) (v : Value) → CanHandBack cfg st i v → slotsSound cfg (withSlot (st .slots) i (finishing (slotIn (st .slots) i))) ≡ true
+  pub hand-back-keeps-slots : (i : ℕ) (v : Value) → Sound cfg st → CanHandBack cfg st i v → slotsSound cfg (withSlot (st .slots) i (finishing (slotIn (st .slots) i))) ≡ true
   unfolding owedSound stackSound isNoClient isVoid
-  hand-back-keeps-slots i v z =
+  hand-back-keeps-slots i v s z =
       let x = slotIn (st .slots) i in
       let h = instance-at cfg st s i (z .who .there .used) in
       let e = owed-server cfg (x .life) (x .owed) (h .owed) (z .serving) in
       changed cfg st s i (finishing x) (z .who .there .used)
       (record { life = life-finishes cfg (x .life) e (h .life); owed = rw e; stack = h .stack })
 
-  pub end-keeps-slots : (i : ℕ) → CanEnd st i → slotsSound cfg (withSlot (st .slots) i noSlot) ≡ true
-  end-keeps-slots i z = slots-put cfg (st .slots) i noSlot (s .slots) (blank-slot cfg)
+  pub end-keeps-slots : (i : ℕ) → Sound cfg st → CanEnd st i → slotsSound cfg (withSlot (st .slots) i noSlot) ≡ true
+  end-keeps-slots i s z = slots-put cfg (st .slots) i noSlot (s .slots) (blank-slot cfg)
 
-  pub spawn-keeps-slots : (r : ℕ) → CanSpawn cfg st r → slotsSound cfg (withSlot (st .slots) (lowestEmpty (st .slots)) (instanceOf (runnableConfIn (cfg .runnables) r) r (runnableIn (st .runnables) r))) ≡ true
+  pub spawn-keeps-slots : (r : ℕ) → Sound cfg st → CanSpawn cfg st r → slotsSound cfg (withSlot (st .slots) (lowestEmpty (st .slots)) (instanceOf (runnableConfIn (cfg .runnables) r) r (runnableIn (st .runnables) r))) ≡ true
   unfolding instanceOf isDue owedSound isServer isNoClient isVoid
-  spawn-keeps-slots r z = go (eqb (c .capacity) 0) refl
+  spawn-keeps-slots r s z = go (eqb (c .capacity) 0) refl
     where
       c : RunnableConf
       c = runnableConfIn (cfg .runnables) r

@@ -239,6 +239,7 @@ told cfg st h =
 pub made : (cfg : Config) (st : State) → Sound cfg st → soundOf cfg st ≡ true
 unfolding soundOf
 made cfg st h =
-    all-made _
-    (h .config, (h .shape, (h .runnables, (h .variables, (h .elements, (h .operations, (h .timers, (h .slots,
-    (counts-made (st .runnables) (st .slots) (h .counts), (areas-made cfg (st .areas) (st .slots) (h .areas), (clients-made (st .operations) (st .runnables) (st .slots) (h .clients), tt)))))))))))
+    let c = counts-made (st .runnables) (st .slots) (h .counts) in
+    let a = areas-made cfg (st .areas) (st .slots) (h .areas) in
+    let k = clients-made (st .operations) (st .runnables) (st .slots) (h .clients) in
+    all-made _ (h .config, (h .shape, (h .runnables, (h .variables, (h .elements, (h .operations, (h .timers, (h .slots, (c, (a, (k, tt)))))))))))

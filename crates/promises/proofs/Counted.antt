@@ -4,11 +4,11 @@
 use Prim.Native.Nat.{ℕ, zero, suc, _+_, _-_, _≤_, _<_}
 use mathlib.Core.Bool.{Bool, true, false}
 use mathlib.Core.List.{List, [], _∷_}
-use mathlib.Core.Path.{_≡_, refl, sym, ap, _∙_}
+use mathlib.Core.Path.{_≡_, refl, sym, ap, _∙_, subst}
 use native.Mathlib.Numerals.{add-one}
 use native.Mathlib.Omega.{arith}
 use lib.Dec.{eqb}
-use lib.ListN.{length, drop}
+use lib.ListN.{length, take, drop}
 use borrow.Author.Tests.{eqb-true}
 use Rattle.laws.specs.Choice.{pick, both}
 use Rattle.laws.proofs.Choosing.{both-left, both-right, clash}
@@ -26,10 +26,12 @@ use Rattle.rules.specs.Step.{onAnswer, claimedOf, possibleOf, innerOf, stepOf}
 use Rattle.recording.specs.declared.Field.{Field}
 use Rattle.recording.specs.declared.Field.the-variants.{Step as IsStep, End, Refused as NoField}
 use Rattle.recording.specs.Recording.{fieldOf}
+use Rattle.recording.specs.Whole.{Whole, wholeOf, stepsIn, isEnd, isSound}
+use Rattle.recording.proofs.Texts.{whole-step, whole-end}
 use Rattle.judging.specs.declared.Verdict.{Verdict}
 use Rattle.judging.specs.declared.Verdict.the-variants.{Accepted, Refused, Unfinished}
 use Rattle.judging.specs.declared.Judged.{Judged}
-use Rattle.judging.specs.Judging.{judged, onField, judgeFrom, judgeOf, stepsOf}
+use Rattle.judging.specs.Judging.{judged, onField, judgeFrom}
 use Rattle.judging.proofs.Laws.{ended, stopped, starved, barred, went}
 use Rattle.history.specs.Promises.{Accepted as AllAccepted}
 
@@ -61,6 +63,29 @@ taken-claims cfg st s v h = go (soundOf cfg st) refl
     go true e = h ∙ ap Taken (claimed-is (s .claim) st (possibleOf cfg st s .state) (possibleOf cfg st s .answer) v (rw e at h))
     go false e = absurd (let q : _≡_ {A = Answer} (Barred 1) (Taken v) = rw e at h in let z : _≡_ {A = ℕ} 0 1 = cc in omega arith)
 
+-- ---- the steps of a text
+
+steps-step : (t : List ℕ) (s : Step) (z : ℕ) → fieldOf t ≡ IsStep s z → stepsIn t ≡ s ∷ stepsIn (drop z t)
+steps-step t s z e = ap (λ (w : Whole). w .steps) (whole-step t s z e)
+
+steps-end : (t : List ℕ) → fieldOf t ≡ End → stepsIn t ≡ []
+steps-end t e = ap (λ (w : Whole). w .steps) (whole-end t e)
+
+sound-step : (t : List ℕ) (s : Step) (z : ℕ) → fieldOf t ≡ IsStep s z → isSound t ≡ isSound (drop z t)
+sound-step t s z e = ap (λ (w : Whole). isEnd (w .last)) (whole-step t s z e)
+
+sound-end : (t : List ℕ) → fieldOf t ≡ End → isSound t ≡ true
+sound-end t e = ap (λ (w : Whole). isEnd (w .last)) (whole-end t e)
+
+-- one more accepted step in front
+one-accepted : (cfg : Config) (st : State) (s : Step) (v : Value) (rs l : List Step) (x y : State) → stepOf cfg st s .answer ≡ Taken v → AllAccepted cfg (stepOf cfg st s .state) rs y → l ≡ s ∷ rs → x ≡ y → AllAccepted cfg st l x
+unfolding AllAccepted
+one-accepted cfg st s v rs l x y q h e w = rw (e, w) (taken-claims cfg st s v q, h)
+
+none-accepted : (cfg : Config) (st : State) (l : List Step) (x : State) → l ≡ [] → x ≡ st → AllAccepted cfg st l x
+unfolding AllAccepted
+none-accepted cfg st l x e w = rw e (sym w)
+
 -- ---- what a verdict counts
 
 -- from a text on, with n steps taken before it: the steps counted are accepted, and lead to the state reached
@@ -68,22 +93,20 @@ module _ (cfg : Config) where
   pub record Counts (t : List ℕ) (n : ℕ) (st : State) (j : Judged) : Type 0 where
     pub steps : ℕ
     pub count : j .count ≡ n + steps
-    pub taken : AllAccepted cfg st (stepsOf steps t) (j .state)
+    pub taken : AllAccepted cfg st (take steps (stepsIn t)) (j .state)
 
   none-counted : (t : List ℕ) (n : ℕ) (st : State) (v : Verdict) (j : Judged) → j ≡ judged v n st → Counts t n st j
-  unfolding stepsOf AllAccepted
   none-counted t n st v j e = record {
     steps = 0;
     count = ap (λ (j : Judged). j .count) e ∙ omega arith;
-    taken = sym (ap (λ (j : Judged). j .state) e);
+    taken = none-accepted cfg st [] (j .state) refl (ap (λ (j : Judged). j .state) e);
   }
 
   one-counted : (t : List ℕ) (n : ℕ) (st : State) (s : Step) (z : ℕ) (v : Value) (j j′ : Judged) → fieldOf t ≡ IsStep s z → stepOf cfg st s .answer ≡ Taken v → Counts (drop z t) (n + 1) (stepOf cfg st s .state) j′ → j ≡ j′ → Counts t n st j
-  unfolding stepsOf AllAccepted
   one-counted t n st s z v j j′ e q c w = record {
     steps = suc (c .steps);
     count = ap (λ (j : Judged). j .count) w ∙ c .count ∙ omega arith;
-    taken = rw (e, w) (taken-claims cfg st s v q, c .taken);
+    taken = one-accepted cfg st s v (take (c .steps) (stepsIn (drop z t))) (take (suc (c .steps)) (stepsIn t)) (j .state) (j′ .state) q (c .taken) (ap (take (suc (c .steps))) (steps-step t s z e)) (ap (λ (j : Judged). j .state) w);
   }
 
   pub counted : (a : ℕ) (t : List ℕ) (n : ℕ) (st : State) → Counts t n st (judgeFrom (stepOf cfg) a t n st)
@@ -109,3 +132,56 @@ module _ (cfg : Config) where
       go (IsStep s z) e rest = by s z (stepOf cfg st s .answer) e refl rest
       go End e rest = none-counted t n st Accepted _ (ended (stepOf cfg) t n st (suc a) e)
       go (NoField k p) e rest = none-counted t n st (Refused (n + 1 + p) k) _ (stopped (stepOf cfg) t n st (suc a) e)
+
+  -- an accepted text is a whole recording, and all its steps are counted
+  pub record Whole-counted (t : List ℕ) (n : ℕ) (st : State) (j : Judged) : Type 0 where
+    pub whole : isSound t ≡ true
+    pub count : j .count ≡ n + length (stepsIn t)
+    pub taken : AllAccepted cfg st (stepsIn t) (j .state)
+
+  end-whole : (t : List ℕ) (n : ℕ) (st : State) (j : Judged) → fieldOf t ≡ End → j ≡ judged Accepted n st → Whole-counted t n st j
+  end-whole t n st j e w = record {
+    whole = sound-end t e;
+    count = omega (arith, ap (λ (j : Judged). j .count) w, ap length (steps-end t e));
+    taken = none-accepted cfg st (stepsIn t) (j .state) (steps-end t e) (ap (λ (j : Judged). j .state) w);
+  }
+
+  step-whole : (t : List ℕ) (n : ℕ) (st : State) (s : Step) (z : ℕ) (v : Value) (j j′ : Judged) → fieldOf t ≡ IsStep s z → stepOf cfg st s .answer ≡ Taken v → Whole-counted (drop z t) (n + 1) (stepOf cfg st s .state) j′ → j ≡ j′ → Whole-counted t n st j
+  step-whole t n st s z v j j′ e q c w = record {
+    whole = sound-step t s z e ∙ c .whole;
+    count = omega (arith, ap (λ (j : Judged). j .count) w, c .count, ap length (steps-step t s z e));
+    taken = one-accepted cfg st s v (stepsIn (drop z t)) (stepsIn t) (j .state) (j′ .state) q (c .taken) (steps-step t s z e) (ap (λ (j : Judged). j .state) w);
+  }
+
+  other : (v : Verdict) {k p : ℕ} → v ≡ Accepted → v ≡ Refused p k → ⊥
+  other v e q = let z : _≡_ {A = ℕ} 0 1 = cc in omega arith
+
+  left-over : (v : Verdict) → v ≡ Accepted → v ≡ Unfinished → ⊥
+  left-over v e q = let z : _≡_ {A = ℕ} 0 1 = cc in omega arith
+
+  pub accepted-whole : (a : ℕ) (t : List ℕ) (n : ℕ) (st : State) → judgeFrom (stepOf cfg) a t n st .verdict ≡ Accepted → Whole-counted t n st (judgeFrom (stepOf cfg) a t n st)
+  accepted-whole zero t n st h = go (fieldOf t) refl
+    where
+      go : (x : Field) → fieldOf t ≡ x → Whole-counted t n st (judgeFrom (stepOf cfg) 0 t n st)
+      go (IsStep s z) e = absurd (left-over _ h (ap (λ (j : Judged). j .verdict) (starved (stepOf cfg) t n st e)))
+      go End e = end-whole t n st _ e (ended (stepOf cfg) t n st 0 e)
+      go (NoField k p) e = absurd (other _ h (ap (λ (j : Judged). j .verdict) (stopped (stepOf cfg) t n st 0 e)))
+  accepted-whole (suc a) t n st h = go (fieldOf t) refl (λ z s. accepted-whole a (drop z t) (n + 1) (stepOf cfg st s .state))
+    where
+      Rest : Type 0
+      Rest = (z : ℕ) (s : Step) → judgeFrom (stepOf cfg) a (drop z t) (n + 1) (stepOf cfg st s .state) .verdict ≡ Accepted
+          → Whole-counted (drop z t) (n + 1) (stepOf cfg st s .state) (judgeFrom (stepOf cfg) a (drop z t) (n + 1) (stepOf cfg st s .state))
+
+      one : suc a - 1 ≡ a
+      one = omega arith
+
+      by : (s : Step) (z : ℕ) (x : Answer) → fieldOf t ≡ IsStep s z → stepOf cfg st s .answer ≡ x → Rest → Whole-counted t n st (judgeFrom (stepOf cfg) (suc a) t n st)
+      by s z (Taken v) e q rest =
+          let w : judgeFrom (stepOf cfg) (suc a) t n st ≡ judgeFrom (stepOf cfg) a (drop z t) (n + 1) (stepOf cfg st s .state) = went (stepOf cfg) t n st (suc a) (λ c. omega (arith, c)) e refl q ∙ rw one in
+          step-whole t n st s z v _ _ e q (rest z s (sym (ap (λ (j : Judged). j .verdict) w) ∙ h)) w
+      by s z (Barred k) e q rest = absurd (other _ h (ap (λ (j : Judged). j .verdict) (barred (stepOf cfg) t n st (suc a) (λ c. omega (arith, c)) e refl q)))
+
+      go : (x : Field) → fieldOf t ≡ x → Rest → Whole-counted t n st (judgeFrom (stepOf cfg) (suc a) t n st)
+      go (IsStep s z) e rest = by s z (stepOf cfg st s .answer) e refl rest
+      go End e rest = end-whole t n st _ e (ended (stepOf cfg) t n st (suc a) e)
+      go (NoField k p) e rest = absurd (other _ h (ap (λ (j : Judged). j .verdict) (stopped (stepOf cfg) t n st (suc a) e)))

@@ -1,0 +1,2 @@
+-- What came of reading an input.
+pub mod Got

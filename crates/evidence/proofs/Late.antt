@@ -1,0 +1,215 @@
+-- The late plan's table: eight pairs of files, from their bytes to the line that is printed, in one claim over the definition that the program's contract cites.
+-- Assumes nothing.
+use Prim.Native.Nat.{ℕ}
+use mathlib.Core.Bool.{Bool, true, false}
+use mathlib.Core.List.{List, [], _∷_, _++_, map}
+use mathlib.Core.Path.{_≡_, refl}
+use Rattle.laws.specs.Choice.{allOf}
+use Rattle.laws.specs.Loop.{allBelow, anyBelow, sumBelow, firstBelow}
+use Rattle.laws.specs.Row.{eachBelow, shifted, placeFilled, filled}
+use Rattle.values.specs.Values.{isVoid, isPayload, isGood, sameValue}
+use Rattle.config.specs.Tables.{runnableConfIn, addRunnableConf, variableConfIn, addVariableConf, areaConfIn, addAreaConf, requiredConfIn, addRequiredConf, providedConfIn, addProvidedConf, linkIn, addLink, operationConfIn, addOperationConf, timerConfIn, addTimerConf, dataEventIn, addDataEvent, returnEventIn, addReturnEvent, noConfig}
+use Rattle.state.specs.Parts.{noRequests, noRunnable, noValues, noElement, noStack, noSlot}
+use Rattle.state.specs.Tables.{noRunnables, runnableIn, withRunnable, noVariables, variableIn, withVariable, noAreas, areaIn, withArea, noElements, elementIn, withElement, noOperations, operationIn, withOperation, noTimers, timerIn, withTimer, noSlots, slotIn, withSlot}
+use Rattle.state.specs.Queues.{pushRequest, firstRequest, restRequests, pushValue, firstValue, restValues, pushArea, topArea, popArea}
+use Rattle.state.specs.Start.{startVariable, startElement, startRunnables, startVariables, startElements, startOf}
+use Rattle.entries.specs.Entries.{maxOf, countOf, placesOf, entryOf, placed}
+use Rattle.entries.specs.Faults.{inRange, namesThere, isServer, isQueued, rises, risesAt, pairsWell, entryFault, isNoEntry, placeSound, kindSound, configSound}
+use Rattle.rules.specs.Sound.{isNoClient, clientFits, requestsSound, valuesSound, runnableSound, variableSound, isStored, elementSound, isOutcome, callingSound, doneSound, operationSound, timerSound, waitsWell, lifeSound, owedSound, areaFits, stackSound, isNoSlot, slotSound, ofRunnable, slotsOf, countSound, timesIn, holders, areaSound, isClient, queuedAs, servedAs, clientsAs, numbered, clientSound, queuedSound, servedSound, calledSound, runnablesSound, variablesSound, elementsSound, operationsSound, timersSound, slotsSound, countsSound, areasSound, clientsSound, shaped, soundOf}
+use Rattle.rules.specs.Refusals.{parts, queueings, arguments, partOf, queueingOf, argumentOf, argues, formed, partThere, queuesAs, partOwn, asksSynchronous, lifeLets, instanceRefusal, schedulerRefusal}
+use Rattle.rules.specs.Steps.{readVariableOf, writeVariableOf, enterOf, onTop, exitOf, readOf, updatedOf, linked, accepts, fedElement, fedElements, feeds, isFed, fedRunnables, fed, writeOf, invalidateOf, isFull, anyFull, sendOf, receiveOf, requestsFull, callerAfter, called, callOf, pollOf, collectOf, resultOf, closing, returns, isReturned, returnedRunnables, closed, answers, handBackOf, timeoutOf, endOf, isDue, maySpawn, starting, instanceOf, isEmptyAt, lowestEmpty, foundEmpty, spawned, spawnOf, tickOf, operationLets, timerLets, runnableLets, operationsLet, timersLet, runnablesLet, operationAfter, operationsAfter, timersAfter, runnablesAfter, waitOf}
+use Rattle.rules.specs.Step.{instanceActOf, schedulerActOf, instanceStepOf, schedulerStepOf, possibleOf, claimedOf, innerOf, stepOf}
+use Rattle.recording.specs.Recording.{valuesGood, tested, stepIn, endIn, fieldOf}
+use Rattle.reading.specs.Reading.{sizeOf, entryIn, inOrder, headOf, bodyFault, refusedAt, readFrom, configOf}
+use Rattle.judging.specs.Judging.{judgeFrom, judgeOf, restOf}
+use Rattle.judging.specs.Line.{judgedLine, readLine, lineOf}
+use Rattle.judging.specs.declared.Line.{Line}
+use Rattle.judging.specs.declared.Line.the-variants.{Accepted, Refused}
+
+-- ---- the fields, byte by byte
+
+-- edition 1
+firstField : List ℕ
+firstField = 0x01 ∷ 0x00 ∷ 0x01 ∷ 0x01 ∷ []
+
+-- the end field of either file
+lastField : List ℕ
+lastField = 0x7f ∷ 0x00 ∷ 0x00 ∷ []
+
+-- a plain runnable of component 0 with the init flag
+client : List ℕ
+client = 0x10 ∷ 0x00 ∷ 0x07 ∷ 0x00 ∷ 0x02 ∷ 0x00 ∷ 0x00 ∷ 0x00 ∷ 0x00 ∷ 0x00 ∷ []
+
+-- a server of component 1 with room for two requests
+server : List ℕ
+server = 0x10 ∷ 0x00 ∷ 0x07 ∷ 0x01 ∷ 0x00 ∷ 0x00 ∷ 0x00 ∷ 0x00 ∷ 0x00 ∷ 0x02 ∷ []
+
+-- an asynchronous operation of component 0 on runnable 1, timesOut 50
+operation : List ℕ
+operation = 0x16 ∷ 0x00 ∷ 0x07 ∷ 0x00 ∷ 0x01 ∷ 0x01 ∷ 0x00 ∷ 0x00 ∷ 0x00 ∷ 0x32 ∷ []
+
+-- an area of component 0
+area : List ℕ
+area = 0x12 ∷ 0x00 ∷ 0x01 ∷ 0x00 ∷ []
+
+-- a required element of component 0, capacity 2
+queue : List ℕ
+queue = 0x13 ∷ 0x00 ∷ 0x02 ∷ 0x00 ∷ 0x02 ∷ []
+
+-- a provided element of component 0, queued
+sender : List ℕ
+sender = 0x14 ∷ 0x00 ∷ 0x02 ∷ 0x00 ∷ 0x01 ∷ []
+
+-- a link from the one to the other
+link : List ℕ
+link = 0x15 ∷ 0x00 ∷ 0x02 ∷ 0x00 ∷ 0x00 ∷ []
+
+-- spawn 0, in slot 0
+spawnClient : List ℕ
+spawnClient = 0x40 ∷ 0x00 ∷ 0x0d ∷ 0x0f ∷ 0x00 ∷ 0x00 ∷ 0x00 ∷ 0x00 ∷ 0x00 ∷ 0x00 ∷ 0x00 ∷ 0x01 ∷ 0x00 ∷ 0x00 ∷ 0x00 ∷ 0x00 ∷ []
+
+-- spawn 1, in slot 1
+spawnServer : List ℕ
+spawnServer = 0x40 ∷ 0x00 ∷ 0x0d ∷ 0x0f ∷ 0x00 ∷ 0x01 ∷ 0x00 ∷ 0x00 ∷ 0x00 ∷ 0x00 ∷ 0x00 ∷ 0x01 ∷ 0x00 ∷ 0x00 ∷ 0x00 ∷ 0x01 ∷ []
+
+-- slot 0 calls operation 0 with 7, Ok
+callSeven : List ℕ
+callSeven = 0x40 ∷ 0x00 ∷ 0x0d ∷ 0x0b ∷ 0x00 ∷ 0x00 ∷ 0x01 ∷ 0x00 ∷ 0x00 ∷ 0x00 ∷ 0x07 ∷ 0x02 ∷ 0x00 ∷ 0x00 ∷ 0x00 ∷ 0x00 ∷ []
+
+-- slot 0 calls it again, Limit
+callAgain : List ℕ
+callAgain = 0x40 ∷ 0x00 ∷ 0x0d ∷ 0x0b ∷ 0x00 ∷ 0x00 ∷ 0x01 ∷ 0x00 ∷ 0x00 ∷ 0x00 ∷ 0x08 ∷ 0x03 ∷ 0x00 ∷ 0x00 ∷ 0x00 ∷ 0x00 ∷ []
+
+-- wait 50
+waitFifty : List ℕ
+waitFifty = 0x40 ∷ 0x00 ∷ 0x0d ∷ 0x12 ∷ 0x00 ∷ 0x00 ∷ 0x01 ∷ 0x00 ∷ 0x00 ∷ 0x00 ∷ 0x32 ∷ 0x00 ∷ 0x00 ∷ 0x00 ∷ 0x00 ∷ 0x00 ∷ []
+
+-- wait 51
+waitLonger : List ℕ
+waitLonger = 0x40 ∷ 0x00 ∷ 0x0d ∷ 0x12 ∷ 0x00 ∷ 0x00 ∷ 0x01 ∷ 0x00 ∷ 0x00 ∷ 0x00 ∷ 0x33 ∷ 0x00 ∷ 0x00 ∷ 0x00 ∷ 0x00 ∷ 0x00 ∷ []
+
+-- timesOut 0
+timesOut : List ℕ
+timesOut = 0x40 ∷ 0x00 ∷ 0x0d ∷ 0x10 ∷ 0x00 ∷ 0x00 ∷ 0x00 ∷ 0x00 ∷ 0x00 ∷ 0x00 ∷ 0x00 ∷ 0x00 ∷ 0x00 ∷ 0x00 ∷ 0x00 ∷ 0x00 ∷ []
+
+-- slot 1 hands back 9, Number 0
+backLate : List ℕ
+backLate = 0x40 ∷ 0x00 ∷ 0x0d ∷ 0x0d ∷ 0x01 ∷ 0x00 ∷ 0x01 ∷ 0x00 ∷ 0x00 ∷ 0x00 ∷ 0x09 ∷ 0x01 ∷ 0x00 ∷ 0x00 ∷ 0x00 ∷ 0x00 ∷ []
+
+-- slot 1 hands back 9, Number 1
+backInTime : List ℕ
+backInTime = 0x40 ∷ 0x00 ∷ 0x0d ∷ 0x0d ∷ 0x01 ∷ 0x00 ∷ 0x01 ∷ 0x00 ∷ 0x00 ∷ 0x00 ∷ 0x09 ∷ 0x01 ∷ 0x00 ∷ 0x00 ∷ 0x00 ∷ 0x01 ∷ []
+
+-- slot 0 asks for the result, Timeout
+askTimeout : List ℕ
+askTimeout = 0x40 ∷ 0x00 ∷ 0x0d ∷ 0x0c ∷ 0x00 ∷ 0x00 ∷ 0x00 ∷ 0x00 ∷ 0x00 ∷ 0x00 ∷ 0x00 ∷ 0x05 ∷ 0x00 ∷ 0x00 ∷ 0x00 ∷ 0x00 ∷ []
+
+-- slot 0 asks for the result, Number 9
+askNine : List ℕ
+askNine = 0x40 ∷ 0x00 ∷ 0x0d ∷ 0x0c ∷ 0x00 ∷ 0x00 ∷ 0x00 ∷ 0x00 ∷ 0x00 ∷ 0x00 ∷ 0x00 ∷ 0x01 ∷ 0x00 ∷ 0x00 ∷ 0x00 ∷ 0x09 ∷ []
+
+-- slot 0 asks for the result, Void
+askVoid : List ℕ
+askVoid = 0x40 ∷ 0x00 ∷ 0x0d ∷ 0x0c ∷ 0x00 ∷ 0x00 ∷ 0x00 ∷ 0x00 ∷ 0x00 ∷ 0x00 ∷ 0x00 ∷ 0x00 ∷ 0x00 ∷ 0x00 ∷ 0x00 ∷ 0x00 ∷ []
+
+-- slot 0 enters area 0
+enterFirst : List ℕ
+enterFirst = 0x40 ∷ 0x00 ∷ 0x0d ∷ 0x03 ∷ 0x00 ∷ 0x00 ∷ 0x00 ∷ 0x00 ∷ 0x00 ∷ 0x00 ∷ 0x00 ∷ 0x00 ∷ 0x00 ∷ 0x00 ∷ 0x00 ∷ 0x00 ∷ []
+
+-- slot 0 enters area 1
+enterSecond : List ℕ
+enterSecond = 0x40 ∷ 0x00 ∷ 0x0d ∷ 0x03 ∷ 0x00 ∷ 0x01 ∷ 0x00 ∷ 0x00 ∷ 0x00 ∷ 0x00 ∷ 0x00 ∷ 0x00 ∷ 0x00 ∷ 0x00 ∷ 0x00 ∷ 0x00 ∷ []
+
+-- slot 0 exits area 0
+exitFirst : List ℕ
+exitFirst = 0x40 ∷ 0x00 ∷ 0x0d ∷ 0x04 ∷ 0x00 ∷ 0x00 ∷ 0x00 ∷ 0x00 ∷ 0x00 ∷ 0x00 ∷ 0x00 ∷ 0x00 ∷ 0x00 ∷ 0x00 ∷ 0x00 ∷ 0x00 ∷ []
+
+-- slot 0 sends 1, Ok
+sendOne : List ℕ
+sendOne = 0x40 ∷ 0x00 ∷ 0x0d ∷ 0x0a ∷ 0x00 ∷ 0x00 ∷ 0x01 ∷ 0x00 ∷ 0x00 ∷ 0x00 ∷ 0x01 ∷ 0x02 ∷ 0x00 ∷ 0x00 ∷ 0x00 ∷ 0x00 ∷ []
+
+-- slot 0 sends 2, Ok
+sendTwo : List ℕ
+sendTwo = 0x40 ∷ 0x00 ∷ 0x0d ∷ 0x0a ∷ 0x00 ∷ 0x00 ∷ 0x01 ∷ 0x00 ∷ 0x00 ∷ 0x00 ∷ 0x02 ∷ 0x02 ∷ 0x00 ∷ 0x00 ∷ 0x00 ∷ 0x00 ∷ []
+
+-- slot 0 sends 3, Limit
+sendThree : List ℕ
+sendThree = 0x40 ∷ 0x00 ∷ 0x0d ∷ 0x0a ∷ 0x00 ∷ 0x00 ∷ 0x01 ∷ 0x00 ∷ 0x00 ∷ 0x00 ∷ 0x03 ∷ 0x03 ∷ 0x00 ∷ 0x00 ∷ 0x00 ∷ 0x00 ∷ []
+
+-- slot 0 receives 1
+receiveOne : List ℕ
+receiveOne = 0x40 ∷ 0x00 ∷ 0x0d ∷ 0x09 ∷ 0x00 ∷ 0x00 ∷ 0x00 ∷ 0x00 ∷ 0x00 ∷ 0x00 ∷ 0x00 ∷ 0x01 ∷ 0x00 ∷ 0x00 ∷ 0x00 ∷ 0x01 ∷ []
+
+-- slot 0 receives 2
+receiveTwo : List ℕ
+receiveTwo = 0x40 ∷ 0x00 ∷ 0x0d ∷ 0x09 ∷ 0x00 ∷ 0x00 ∷ 0x00 ∷ 0x00 ∷ 0x00 ∷ 0x00 ∷ 0x00 ∷ 0x01 ∷ 0x00 ∷ 0x00 ∷ 0x00 ∷ 0x02 ∷ []
+
+-- slot 0 receives NoData
+receiveNone : List ℕ
+receiveNone = 0x40 ∷ 0x00 ∷ 0x0d ∷ 0x09 ∷ 0x00 ∷ 0x00 ∷ 0x00 ∷ 0x00 ∷ 0x00 ∷ 0x00 ∷ 0x00 ∷ 0x04 ∷ 0x00 ∷ 0x00 ∷ 0x00 ∷ 0x00 ∷ []
+
+-- ---- the files
+
+joined : List (List ℕ) → List ℕ
+joined [] = []
+joined (x ∷ xs) = x ++ joined xs
+
+file : List (List ℕ) → List ℕ
+file xs = joined xs ++ lastField
+
+-- 37 bytes
+lateConfig : List ℕ
+lateConfig = file (firstField ∷ client ∷ server ∷ operation ∷ [])
+
+areasConfig : List ℕ
+areasConfig = file (firstField ∷ client ∷ area ∷ area ∷ [])
+
+queueConfig : List ℕ
+queueConfig = file (firstField ∷ client ∷ queue ∷ sender ∷ link ∷ [])
+
+-- ---- the table
+
+-- two files, and the line that they give
+pub record Row : Type 0 where
+  pub config : List ℕ
+  pub recording : List ℕ
+  pub line : Line
+
+-- (a) the late plan
+late : Row
+late = record { config = lateConfig; recording = file (spawnClient ∷ callSeven ∷ spawnServer ∷ waitFifty ∷ timesOut ∷ backLate ∷ askTimeout ∷ []); line = Accepted 7 }
+
+-- (b) its false claim: the late plan taken for final
+falseClaim : Row
+falseClaim = record { config = lateConfig; recording = file (spawnClient ∷ callSeven ∷ spawnServer ∷ waitFifty ∷ timesOut ∷ backLate ∷ askNine ∷ []); line = Refused 7 17 }
+
+-- (c) a wait of 51 there
+waitTooLong : Row
+waitTooLong = record { config = lateConfig; recording = file (spawnClient ∷ callSeven ∷ spawnServer ∷ waitLonger ∷ []); line = Refused 4 13 }
+
+-- (d) handed back before the timesOut: the answer is 1, and the result 9
+inTime : Row
+inTime = record { config = lateConfig; recording = file (spawnClient ∷ callSeven ∷ spawnServer ∷ backInTime ∷ askNine ∷ []); line = Accepted 5 }
+
+-- (e) a result before any call is Void
+noCall : Row
+noCall = record { config = lateConfig; recording = file (spawnClient ∷ askVoid ∷ []); line = Accepted 2 }
+
+-- (f) a second call while one is open is Limit
+callTwice : Row
+callTwice = record { config = lateConfig; recording = file (spawnClient ∷ callSeven ∷ callAgain ∷ []); line = Accepted 3 }
+
+-- (g) an exit below the top is 7
+exitBelow : Row
+exitBelow = record { config = areasConfig; recording = file (spawnClient ∷ enterFirst ∷ enterSecond ∷ exitFirst ∷ []); line = Refused 4 7 }
+
+-- (h) capacity 2: the third send is Limit, and the queue is kept
+sendThird : Row
+sendThird = record { config = queueConfig; recording = file (spawnClient ∷ sendOne ∷ sendTwo ∷ sendThree ∷ receiveOne ∷ receiveTwo ∷ receiveNone ∷ []); line = Accepted 7 }
+
+pub table : List Row
+table = late ∷ falseClaim ∷ waitTooLong ∷ inTime ∷ noCall ∷ callTwice ∷ exitBelow ∷ sendThird ∷ []
+
+pub late-plans : map (λ (x : Row). lineOf (x .config) (x .recording)) table ≡ map (λ (x : Row). x .line) table
+unfolding allOf allBelow anyBelow sumBelow firstBelow eachBelow shifted placeFilled filled isVoid isPayload isGood sameValue runnableConfIn addRunnableConf variableConfIn addVariableConf areaConfIn addAreaConf requiredConfIn addRequiredConf providedConfIn addProvidedConf linkIn addLink operationConfIn addOperationConf timerConfIn addTimerConf dataEventIn addDataEvent returnEventIn addReturnEvent noConfig noRequests noRunnable noValues noElement noStack noSlot noRunnables runnableIn withRunnable noVariables variableIn withVariable noAreas areaIn withArea noElements elementIn withElement noOperations operationIn withOperation noTimers timerIn withTimer noSlots slotIn withSlot pushRequest firstRequest restRequests pushValue firstValue restValues pushArea topArea popArea startVariable startElement startRunnables startVariables startElements startOf maxOf countOf placesOf entryOf placed inRange namesThere isServer isQueued rises risesAt pairsWell entryFault isNoEntry placeSound kindSound configSound isNoClient clientFits requestsSound valuesSound runnableSound variableSound isStored elementSound isOutcome callingSound doneSound operationSound timerSound waitsWell lifeSound owedSound areaFits stackSound isNoSlot slotSound ofRunnable slotsOf countSound timesIn holders areaSound isClient queuedAs servedAs clientsAs numbered clientSound queuedSound servedSound calledSound runnablesSound variablesSound elementsSound operationsSound timersSound slotsSound countsSound areasSound clientsSound shaped soundOf parts queueings arguments partOf queueingOf argumentOf argues formed partThere queuesAs partOwn asksSynchronous lifeLets instanceRefusal schedulerRefusal readVariableOf writeVariableOf enterOf onTop exitOf readOf updatedOf linked accepts fedElement fedElements feeds isFed fedRunnables fed writeOf invalidateOf isFull anyFull sendOf receiveOf requestsFull callerAfter called callOf pollOf collectOf resultOf closing returns isReturned returnedRunnables closed answers handBackOf timeoutOf endOf isDue maySpawn starting instanceOf isEmptyAt lowestEmpty foundEmpty spawned spawnOf tickOf operationLets timerLets runnableLets operationsLet timersLet runnablesLet operationAfter operationsAfter timersAfter runnablesAfter waitOf instanceActOf schedulerActOf instanceStepOf schedulerStepOf possibleOf claimedOf innerOf stepOf valuesGood tested stepIn endIn fieldOf sizeOf entryIn inOrder headOf bodyFault refusedAt readFrom configOf judgeFrom judgeOf restOf judgedLine readLine lineOf firstField lastField client server operation area queue sender link spawnClient spawnServer callSeven callAgain waitFifty waitLonger timesOut backLate backInTime askTimeout askNine askVoid enterFirst enterSecond exitFirst sendOne sendTwo sendThree receiveOne receiveTwo receiveNone joined file lateConfig areasConfig queueConfig late falseClaim waitTooLong inTime noCall callTwice exitBelow sendThird table
+late-plans = refl

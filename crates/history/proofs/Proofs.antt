@@ -1,0 +1,104 @@
+-- The promises, proved, in the order of the page that states them. Each is read off the state that a run reaches, which is sound (`sound-at`) and tied to the
+-- recording's history (`tied-at`), whose places are started calls (`named-at`) and whose queues are first in, first out (`fifo-at`); a promise about a step inside
+-- a recording is read off the run before it (`halves`).
+-- Assumes nothing.
+use mathlib.Core.Bool.{Bool, true, false}
+use mathlib.Core.List.{[], _∷_, _++_}
+use mathlib.Core.Path.{_≡_, refl, sym, _∙_, ap}
+use native.Mathlib.Nat.{add-zero}
+use native.Mathlib.Omega.{arith}
+use lib.ListN.{getD}
+use lib.Seq.{getD-drop}
+use borrow.Author.Tests.{lt-ltb}
+use Rattle.laws.specs.Choice.{bit}
+use Rattle.values.specs.declared.Answer.the-variants.{Taken}
+use Rattle.entries.specs.Faults.{isServer}
+use Rattle.state.specs.declared.Stepped.{Stepped}
+use Rattle.state.specs.Start.{startOf}
+use Rattle.state.specs.Tables.{operationIn}
+use Rattle.keep.proofs.Configured.{runnables-most, server-there}
+use Rattle.history.specs.History.{noRequest, History, historyOf, takenBy, allQueued, allSpawns}
+use Rattle.history.specs.Promises.{TakenHasOne, FreeHasNone, RequestsFit, ValuesFit, EndsOnce, EndsProperly, TimeoutAtZero, NumberIsFinal, DoneIsFinal, OpenIsUnended, LatestStarted, QueuesFollowed, FirstInFirstOut, SpawnTakesNext}
+use Rattle.history.proofs.Tied.{Tied}
+use Rattle.history.proofs.Runs.{halves, first, history-one}
+use Rattle.history.proofs.Ties.{requests-told}
+use Rattle.history.proofs.Accepts.{accepted, deed}
+use Rattle.history.proofs.Named.{started-at, proper-at}
+use Rattle.history.proofs.Reached.{sound-at, tied-at, named-at, fifo-at, ends-grow}
+use Rattle.history.proofs.Finals.{holder, no-holder, values-told, done-final, result-told, timed, took-oldest}
+
+-- ---- areas and queues
+
+pub taken-has-one : TakenHasOne
+taken-has-one cfg rs st c e a b t = holder cfg st a (sound-at cfg rs st c e) b t
+
+pub free-has-none : FreeHasNone
+free-has-none cfg rs st c e a b t = no-holder cfg st a (sound-at cfg rs st c e) b t
+
+pub requests-fit : RequestsFit
+requests-fit cfg rs st c e r b = requests-told cfg st r (sound-at cfg rs st c e) b .0
+
+pub values-fit : ValuesFit
+values-fit cfg rs st c e q b = values-told cfg st q (sound-at cfg rs st c e) b
+
+-- ---- calls
+
+pub ends-once : EndsOnce
+ends-once cfg rs st c e k = tied-at cfg rs st e .calls .once k
+
+pub ends-properly : EndsProperly
+ends-properly cfg rs st c e x m = (started-at rs x _ (named-at cfg rs st e .endings) m, proper-at x _ (tied-at cfg rs st e .calls .proper) m)
+
+pub timeout-at-zero : TimeoutAtZero
+timeout-at-zero cfg before after s st c e q =
+    let m = halves cfg (startOf cfg) st before (s ∷ after) e in
+    let z = timed cfg (m .mid) s _ q (deed cfg (m .mid) s (first cfg (m .mid) st s after (m .after))) in
+    (m .mid, m .before, z .calling, z .zero)
+
+pub number-is-final : NumberIsFinal
+number-is-final cfg before after s n st c e q k =
+    let m = halves cfg (startOf cfg) st before (s ∷ after) e in
+    let a = first cfg (m .mid) st s after (m .after) in
+    let r = result-told cfg (m .mid) s n q (ap (λ (x : Stepped). x .answer) (sym (accepted cfg (m .mid) s (s .claim) a .1)) ∙ a ∙ ap Taken k) in
+    let f = done-final (m .mid) (historyOf cfg before) (s .what) n (tied-at cfg before (m .mid) (m .before)) (r .0) (r .1) in
+    (f .0, f .1, f .2, omega (arith, f .3, ends-grow cfg before (s ∷ after) (f .0 .call), ends-once cfg (before ++ (s ∷ after)) st c e (f .0 .call)))
+
+pub done-is-final : DoneIsFinal
+done-is-final cfg rs st c e o n b x y = done-final st (historyOf cfg rs) o n (tied-at cfg rs st e) x y
+
+-- ---- that the history misses and invents nothing
+
+pub open-is-unended : OpenIsUnended
+open-is-unended cfg rs st c e o b = (
+  λ q. (t .calls .begun o q, omega (arith, rw q at (t .calls .state o (t .calls .begun o q)))),
+  λ p. on (operationIn (st .operations) o .calling) (omega (arith, p .1, t .calls .state o (p .0))),
+)
+  where
+    t : Tied st (historyOf cfg rs)
+    t = tied-at cfg rs st e
+
+    on : (x : Bool) → bit x ≡ 1 → x ≡ true
+    on true q = refl
+    on false q = absurd (omega arith)
+
+pub latest-started : LatestStarted
+latest-started cfg rs st c e o b q = named-at cfg rs st e .latest o q
+
+pub queues-followed : QueuesFollowed
+queues-followed cfg rs st c e r b = tied-at cfg rs st e .queues .each r .size
+
+pub first-in-first-out : FirstInFirstOut
+unfolding isServer
+first-in-first-out cfg rs st c e r b q = fifo-at cfg rs st r (lt-ltb 0 _ q) (omega (arith, b, runnables-most cfg c)) e .queue
+
+pub spawn-takes-next : SpawnTakesNext
+unfolding isServer
+spawn-takes-next cfg before s st c e q b =
+    let m = halves cfg (startOf cfg) st before (s ∷ []) e in
+    let y : isServer cfg (s .what) ≡ true = lt-ltb 0 _ b in
+    let t = tied-at cfg before (m .mid) (m .before) in
+    let f = fifo-at cfg before (m .mid) (s .what) y (omega (arith, server-there cfg c (s .what) y, runnables-most cfg c)) (m .before) in
+    ap (λ (h : History). takenBy h (s .claim .number)) (history-one cfg before s)
+    ∙ took-oldest cfg (m .mid) s _ (historyOf cfg before) q y (deed cfg (m .mid) s (first cfg (m .mid) st s [] (m .after))) t
+    ∙ ap (λ l. getD l 0 noRequest) (f .queue)
+    ∙ getD-drop (allSpawns (s .what) before) (allQueued cfg (s .what) 0 before) 0 noRequest ∙ ap (λ k. getD (allQueued cfg (s .what) 0 before) k noRequest) (add-zero _)

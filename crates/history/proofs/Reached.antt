@@ -1,0 +1,80 @@
+-- What holds of every run and the state that it reaches, each by the one induction over the recording (`along`): the state is sound (`sound-at`) and tied to the
+-- history (`tied-at`), the history's places are started calls (`named-at`), and each server's queue is first in, first out (`fifo-at`).
+-- Endings are only added: a call has ended at least as often after more steps (`ends-grow`).
+-- Assumes nothing.
+use Prim.Native.Nat.{ℕ, _≤_, _<_}
+use mathlib.Core.Bool.{true}
+use mathlib.Core.List.{List, [], _∷_, _++_}
+use mathlib.Core.Path.{_≡_}
+use native.Mathlib.Omega.{arith}
+use lib.Dec.{eqb}
+use Rattle.laws.proofs.Choosing.{pick-has}
+use Rattle.values.specs.declared.Step.{Step}
+use Rattle.values.specs.Values.{okV, sameValue}
+use Rattle.config.specs.declared.Config.{Config}
+use Rattle.entries.specs.Faults.{isServer, configSound}
+use Rattle.state.specs.declared.State.{State}
+use Rattle.rules.specs.Sound.{soundOf}
+use Rattle.rules.specs.Step.{stepOf}
+use Rattle.keep.specs.Facts.{Sound}
+use Rattle.keep.proofs.Told.{told}
+use Rattle.keep.proofs.Start.{start-sound}
+use Rattle.keep.proofs.Keeps.{kept-step}
+use Rattle.history.specs.History.{History, nothing, observe, historyFrom, historyOf, endsOf}
+use Rattle.history.specs.Promises.{Run}
+use Rattle.history.proofs.Tied.{Tied}
+use Rattle.history.proofs.Runs.{history-append, history-one, along}
+use Rattle.history.proofs.Deeds.{tied-deed}
+use Rattle.history.proofs.Accepts.{accepted, deed}
+use Rattle.history.proofs.Start.{tied-start}
+use Rattle.history.proofs.Named.{Named, named-start, named-deed}
+use Rattle.history.proofs.Fifo.{Fifo, fifo-start, fifo-deed}
+
+-- ---- by induction over the recording
+
+pub sound-at : (cfg : Config) (rs : List Step) (st : State) → configSound cfg ≡ true → Run cfg rs st → Sound cfg st
+sound-at cfg rs st c e = told cfg st (along cfg (λ before m. soundOf cfg m ≡ true) (λ before s m r p a. kept-step cfg m s p) (start-sound cfg c) rs st e)
+
+pub tied-at : (cfg : Config) (rs : List Step) (st : State) → Run cfg rs st → Tied st (historyOf cfg rs)
+unfolding historyOf historyFrom
+tied-at cfg rs st e =
+    along cfg (λ before m. Tied m (historyOf cfg before))
+    (λ before s m r t a. rw (history-one cfg before s) (tied-deed cfg m s (stepOf cfg m s .state) (historyOf cfg before) (told cfg m (accepted cfg m s (s .claim) a .0)) (deed cfg m s a) t))
+    (tied-start cfg) rs st e
+
+pub named-at : (cfg : Config) (rs : List Step) (st : State) → Run cfg rs st → Named rs (historyOf cfg rs)
+unfolding historyOf historyFrom
+named-at cfg rs st e =
+    along cfg (λ before m. Named before (historyOf cfg before))
+    (λ before s m r n a. rw (history-one cfg before s) (named-deed cfg m s (stepOf cfg m s .state) before (historyOf cfg before) (deed cfg m s a) (tied-at cfg before m r) n))
+    named-start rs st e
+
+pub fifo-at : (cfg : Config) (rs : List Step) (st : State) (r : ℕ) → isServer cfg r ≡ true → r < 16 → Run cfg rs st → Fifo cfg r rs (historyOf cfg rs)
+unfolding historyOf historyFrom
+fifo-at cfg rs st r y b e =
+    along cfg (λ before m. Fifo cfg r before (historyOf cfg before))
+    (λ before s m k f a.
+    rw (history-one cfg before s)
+    (fifo-deed cfg m s (stepOf cfg m s .state) r before (historyOf cfg before) (deed cfg m s a) (tied-at cfg before m k) (named-at cfg before m k .place) y b f))
+    (fifo-start cfg r) rs st e
+
+-- ---- endings are only added
+
+grows : (cfg : Config) (h : History) (s : Step) (k : ℕ) → endsOf k (h .endings) ≤ endsOf k (observe cfg h s .endings)
+unfolding observe endsOf
+grows cfg h s k =
+    let P : History → Type 0 = λ x. endsOf k (h .endings) ≤ endsOf k (x .endings) in
+    pick-has P (eqb (s .code) 11) _ _ (λ c. pick-has P (sameValue (s .claim) okV) _ _ (λ e. omega arith) (λ e. omega arith))
+    (λ c. pick-has P (eqb (s .code) 13) _ _ (λ c. pick-has P (eqb (s .claim .number) 1) _ _ (λ e. omega arith) (λ e. omega arith))
+    (λ c. pick-has P (eqb (s .code) 14) _ _ (λ c. omega arith)
+    (λ c. pick-has P (eqb (s .code) 15) _ _ (λ c. pick-has P (isServer cfg (s .what)) _ _ (λ e. omega arith) (λ e. omega arith))
+    (λ c. pick-has P (eqb (s .code) 16) _ _ (λ c. omega arith) (λ c. omega arith)))))
+
+grows-from : (cfg : Config) (h : History) (rs : List Step) (k : ℕ) → endsOf k (h .endings) ≤ endsOf k (historyFrom cfg h rs .endings)
+unfolding historyFrom
+grows-from cfg h [] k = omega arith
+grows-from cfg h (s ∷ rs) k = omega (arith, grows cfg h s k, grows-from cfg (observe cfg h s) rs k)
+
+pub ends-grow : (cfg : Config) (before after : List Step) (k : ℕ) → endsOf k (historyOf cfg before .endings) ≤ endsOf k (historyOf cfg (before ++ after) .endings)
+unfolding historyOf
+ends-grow cfg before after k = rw (history-append cfg nothing before after) (grows-from cfg (historyFrom cfg nothing before) after k)

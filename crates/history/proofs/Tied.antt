@@ -1,0 +1,151 @@
+-- The tie between a state and the history of the recording that led to it (`Tied`), and what leaves it alone.
+-- Three parts, each over only the tables that it reads. `Queues`: beside each client in a server's queue stands the request followed. `Served`: beside each
+-- client on an instance stands the request that its spawn took. `Tag` says what a client and a request beside it share: one operation and, while that is
+-- Calling under the client's number, its latest call. Here alone numbers meet places, and by equality only. `Calls`: how operations and the endings stand.
+-- The tie reads of an operation its number, whether it is Calling and what it holds, of a runnable its requests, of a slot what it owes. States that agree
+-- in those (`Alike`) are tied to the same history, one step later (`tied-alike`).
+-- Assumes nothing.
+use Prim.Native.Nat.{ℕ, _+_, _≤_, _<_}
+use mathlib.Core.Bool.{true, false}
+use mathlib.Core.List.{List, [], _∷_}
+use mathlib.Core.Option.{Option, none, some}
+use mathlib.Core.Path.{_≡_}
+use native.Mathlib.Omega.{arith}
+use lib.ListN.{length, getD}
+use Rattle.laws.specs.Choice.{bit}
+use Rattle.values.specs.declared.Value.{Value}
+use Rattle.values.specs.Values.{voidV, timeoutV}
+use Rattle.state.specs.declared.Client.{Client}
+use Rattle.state.specs.declared.Operations.{Operations}
+use Rattle.state.specs.declared.Runnables.{Runnables}
+use Rattle.state.specs.declared.Slots.{Slots}
+use Rattle.state.specs.declared.State.{State}
+use Rattle.state.specs.Parts.{noClient}
+use Rattle.state.specs.Tables.{runnableIn, operationIn, slotIn}
+use Rattle.history.specs.History.{Request, noRequest, How, byTimeout, byInstance, Ending, History, passed, endsOf, lastOn, Proper}
+use Rattle.history.proofs.Beside.{Beside, beside-map}
+
+-- ---- what an ending leaves
+
+-- what the operation then holds
+abbrev pub given : How → Value
+given byTimeout = timeoutV
+given (byInstance k v) = v
+
+-- the same of the last ending, if there is one
+abbrev pub delivered : Option Ending → Value
+delivered none = voidV
+delivered (some e) = given (e .how)
+
+-- the call that it ended
+abbrev pub endedCall : Option Ending → ℕ
+endedCall none = 0
+endedCall (some e) = e .call
+
+-- every ending is of a call, and proper
+unfoldable pub AllProper : List Ending → Type 0
+AllProper [] = Unit {0}
+AllProper (e ∷ es) = ((0 < e .call) × Proper (e .call) (e .how)) × AllProper es
+
+-- ---- the parts
+
+-- a client, and the request beside it
+pub record Tag (os : Operations) (latest : List ℕ) (c : Client) (q : Request) : Type 0 where
+  pub same : q .on ≡ c .operation
+  pub newest : operationIn os (c .operation) .calling ≡ true → c .number ≡ operationIn os (c .operation) .number → q .at ≡ getD latest (c .operation) 0
+
+pub record Queues (os : Operations) (latest : List ℕ) (rs : Runnables) (queued : List (List Request)) : Type 0 where
+  pub size : length queued ≡ 16
+  pub each : (r : ℕ) → Beside (Tag os latest) noClient noRequest (runnableIn rs r .requests .queued) (runnableIn rs r .requests .at) (getD queued r [])
+
+pub record Served (os : Operations) (latest : List ℕ) (ss : Slots) (taken : List Request) : Type 0 where
+  pub size : length taken ≡ 32
+  pub each : (k : ℕ) → slotIn ss k .owed .serving ≡ true → Tag os latest (slotIn ss k .owed .client) (getD taken k noRequest)
+
+pub record Calls (os : Operations) (latest : List ℕ) (endings : List Ending) (place : ℕ) : Type 0 where
+  pub size : length latest ≡ 8
+  -- an operation is Calling exactly while its latest call has not ended
+  pub state : (o : ℕ) → 0 < getD latest o 0 → endsOf (getD latest o 0) endings + bit (operationIn os o .calling) ≡ 1
+  pub begun : (o : ℕ) → operationIn os o .calling ≡ true → 0 < getD latest o 0
+  -- calls are of the past, each of one operation
+  pub past : (o : ℕ) → getD latest o 0 ≤ place
+  pub future : (k : ℕ) → place < k → endsOf k endings ≡ 0
+  pub apart : (o p : ℕ) → 0 < getD latest o 0 → getD latest o 0 ≡ getD latest p 0 → o ≡ p
+  -- each ended at most once, and properly
+  pub once : (k : ℕ) → endsOf k endings ≤ 1
+  pub proper : AllProper endings
+  -- a Done operation holds what the last ending on it gave, and that was the ending of its latest call
+  pub last : (o : ℕ) → operationIn os o .calling ≡ false → operationIn os o .done ≡ delivered (lastOn o endings)
+  pub ended : (o : ℕ) → operationIn os o .calling ≡ false → endedCall (lastOn o endings) ≡ getD latest o 0
+
+pub record Tied (st : State) (h : History) : Type 0 where
+  pub queues : Queues (st .operations) (h .latest) (st .runnables) (h .queued)
+  pub served : Served (st .operations) (h .latest) (st .slots) (h .taken)
+  pub calls : Calls (st .operations) (h .latest) (h .endings) (h .place)
+
+-- ---- tables that agree in what is read of them
+
+pub record SameCalls (os os′ : Operations) : Type 0 where
+  pub number : (o : ℕ) → operationIn os′ o .number ≡ operationIn os o .number
+  pub calling : (o : ℕ) → operationIn os′ o .calling ≡ operationIn os o .calling
+  pub done : (o : ℕ) → operationIn os′ o .done ≡ operationIn os o .done
+
+pub record Alike (st st′ : State) : Type 0 where
+  pub operations : SameCalls (st .operations) (st′ .operations)
+  pub requests : (r : ℕ) → runnableIn (st′ .runnables) r .requests ≡ runnableIn (st .runnables) r .requests
+  pub owed : (k : ℕ) → slotIn (st′ .slots) k .owed ≡ slotIn (st .slots) k .owed
+
+pub calls-alike : (os os′ : Operations) (latest : List ℕ) (es : List Ending) (p : ℕ) → SameCalls os os′ → Calls os latest es p → Calls os′ latest es (p + 1)
+calls-alike os os′ latest es p a h = record {
+  size = h .size;
+  state = λ o. rw (a .calling o) (h .state o);
+  begun = λ o. rw (a .calling o) (h .begun o);
+  past = λ o. omega (arith, h .past o);
+  future = λ k q. h .future k (omega arith);
+  apart = h .apart;
+  once = h .once;
+  proper = h .proper;
+  last = λ o. rw (a .calling o, a .done o) (h .last o);
+  ended = λ o. rw (a .calling o) (h .ended o);
+}
+
+tag-alike : (os os′ : Operations) (latest : List ℕ) (c : Client) (q : Request) → SameCalls os os′ → Tag os latest c q → Tag os′ latest c q
+tag-alike os os′ latest c q a t = record { same = t .same; newest = rw (a .calling (c .operation), a .number (c .operation)) (t .newest) }
+
+-- each request carried over to other operations and calls
+pub queues-map : (os os′ : Operations) (latest latest′ : List ℕ) (rs : Runnables) (ws : List (List Request))
+    → ((r j : ℕ) (q : Request) → j < runnableIn rs r .requests .queued
+    → Tag os latest (getD (runnableIn rs r .requests .at) j noClient) q → Tag os′ latest′ (getD (runnableIn rs r .requests .at) j noClient) q)
+    → Queues os latest rs ws → Queues os′ latest′ rs ws
+queues-map os os′ latest latest′ rs ws f h = record {
+  size = h .size;
+  each = λ r.
+      beside-map (Tag os latest) noClient noRequest (Tag os′ latest′) (runnableIn rs r .requests .queued) (runnableIn rs r .requests .at) (getD ws r [])
+      (λ j b t. f r j (getD (getD ws r []) j noRequest) b t) (h .each r);
+}
+
+pub served-map : (os os′ : Operations) (latest latest′ : List ℕ) (ss : Slots) (ts : List Request)
+    → ((k : ℕ) (q : Request) → slotIn ss k .owed .serving ≡ true → Tag os latest (slotIn ss k .owed .client) q → Tag os′ latest′ (slotIn ss k .owed .client) q)
+    → Served os latest ss ts → Served os′ latest′ ss ts
+served-map os os′ latest latest′ ss ts f h = record { size = h .size; each = λ k e. f k (getD ts k noRequest) e (h .each k e) }
+
+-- runnables with the same requests, slots that owe the same
+pub queues-alike : (os : Operations) (latest : List ℕ) (rs rs′ : Runnables) (ws : List (List Request)) → ((r : ℕ) → runnableIn rs′ r .requests ≡ runnableIn rs r .requests)
+    → Queues os latest rs ws → Queues os latest rs′ ws
+queues-alike os latest rs rs′ ws a h = record { size = h .size; each = λ r. rw (a r) (h .each r) }
+
+pub served-alike : (os : Operations) (latest : List ℕ) (ss ss′ : Slots) (ts : List Request) → ((k : ℕ) → slotIn ss′ k .owed ≡ slotIn ss k .owed) → Served os latest ss ts
+    → Served os latest ss′ ts
+served-alike os latest ss ss′ ts a h = record { size = h .size; each = λ k. rw (a k) (h .each k) }
+
+-- a step that starts, takes and ends no call
+pub tied-alike : (st st′ : State) (h : History) → Alike st st′ → Tied st h → Tied st′ (passed h)
+tied-alike st st′ h a t = record {
+  queues =
+      queues-map (st .operations) (st′ .operations) (h .latest) (h .latest) (st′ .runnables) (h .queued) (λ r j q b. tag-alike (st .operations) (st′ .operations) (h .latest) _ q (a .operations))
+      (queues-alike (st .operations) (h .latest) (st .runnables) (st′ .runnables) (h .queued) (a .requests) (t .queues));
+  served =
+      served-map (st .operations) (st′ .operations) (h .latest) (h .latest) (st′ .slots) (h .taken) (λ k q e. tag-alike (st .operations) (st′ .operations) (h .latest) _ q (a .operations))
+      (served-alike (st .operations) (h .latest) (st .slots) (st′ .slots) (h .taken) (a .owed) (t .served));
+  calls = calls-alike (st .operations) (st′ .operations) (h .latest) (h .endings) (h .place) (a .operations) (t .calls);
+}

@@ -1,0 +1,192 @@
+-- The steps that start, take or end a call keep the tie, each with what it adds to the history.
+-- A started call (`tied-call`): its client and its request join the two queues. An ended call (`tied-closed`): by its timeout (`tied-timeout`), or by the
+-- hand back of an instance whose client bears the operation's number, which by its tag was spawned for the latest call (`tied-answer`); any other hand back
+-- is late and ends nothing (`tied-late`). A spawn takes the oldest of both queues (`tied-server`) or nothing (`tied-plain`); an end empties the slot (`tied-end`).
+-- Assumes nothing.
+use Prim.Native.Nat.{ℕ, _+_, _≤_, _<_}
+use mathlib.Core.Bool.{true, false}
+use mathlib.Core.List.{List}
+use mathlib.Core.Path.{_≡_, refl, sym}
+use native.Mathlib.Omega.{arith}
+use lib.Dec.{leb, eqb}
+use lib.ListN.{length, getD, set}
+use borrow.Author.Tests.{leb-true, eqb-true}
+use Rattle.laws.proofs.Choosing.{clash, both-left, both-right, all-told}
+use Rattle.laws.proofs.Looping.{all-at}
+use Rattle.laws.proofs.Places.{filled-length}
+use Rattle.values.specs.declared.Value.{Value}
+use Rattle.values.specs.Values.{timeoutV}
+use Rattle.config.specs.declared.Config.{Config}
+use Rattle.config.specs.Tables.{runnableConfIn, operationConfIn}
+use Rattle.state.specs.declared.Client.{Client}
+use Rattle.state.specs.declared.Operation.{Operation}
+use Rattle.state.specs.declared.Operations.{Operations}
+use Rattle.state.specs.declared.Runnable.{Runnable}
+use Rattle.state.specs.declared.Slot.{Slot}
+use Rattle.state.specs.declared.State.{State}
+use Rattle.state.specs.Parts.{noClient, noOwed, noSlot, maxRequests}
+use Rattle.state.specs.Tables.{runnableIn, operationIn, slotIn, withRunnable, withOperation, withSlot, withRunnables, withSlots}
+use Rattle.rules.specs.Sound.{isNoClient, clientFits, requestsSound, runnableSound, runnablesSound}
+use Rattle.rules.specs.Steps.{opening, asking, called, closing, closed, answers, finishing, leaving, starting, fresh, instanceOf, spawned}
+use Rattle.keep.specs.Facts.{Sound, CanCall, CanHandBack, CanEnd, CanTimeout}
+use Rattle.keep.proofs.Configured.{runnables-most, operations-most, capacity-most, operation-there}
+use Rattle.keep.proofs.Told.{runnables-length, operations-length, slots-length}
+use Rattle.keep.proofs.Kept.{runnable-kept, slot-kept, returned-kept, caller-kept, slot-inside}
+use Rattle.history.specs.History.{Request, noRequest, How, byTimeout, byInstance, History, passed, begins, closes, takes, takesOldest, takenBy, latestOn, queuedAt, Proper}
+use Rattle.history.proofs.Tied.{given, Tag, Tied, queues-alike, served-alike, calls-alike, tied-alike}
+use Rattle.history.proofs.Calls.{calling-inside, calls-close, calls-start}
+use Rattle.history.proofs.Tags.{serving-inside, queued-inside, tag-new, queues-close, served-close, queues-open, served-open, queues-push, queues-pop, oldest-tag, served-put, served-idle}
+use Rattle.history.proofs.Passes.{same-calls, alike-same}
+
+-- the requests of a runnable keep to its capacity, in an array of sixteen
+pub requests-told : (cfg : Config) (st : State) (r : ℕ) → Sound cfg st → r < 16
+    → (runnableIn (st .runnables) r .requests .queued ≤ runnableConfIn (cfg .runnables) r .capacity) × (length (runnableIn (st .runnables) r .requests .at) ≡ 16)
+unfolding runnablesSound runnableSound requestsSound
+requests-told cfg st r s b =
+    let t = all-told _ (all-at (λ (r : ℕ). runnableSound cfg r (runnableIn (st .runnables) r)) 16 (s .runnables) r b) in
+    let q = t .1 .1 .1 .0 in
+    let fits = leb (runnableIn (st .runnables) r .requests .queued) (runnableConfIn (cfg .runnables) r .capacity) in
+    (leb-true _ _ (both-left fits _ q), filled-length (clientFits cfg r) isNoClient noClient maxRequests _ _ (both-right fits _ q))
+
+-- ---- a call starts
+
+pub tied-call : (cfg : Config) (st : State) (h : History) (i o : ℕ) (v : Value) → Sound cfg st → CanCall cfg st i o v → Tied st h → Tied (called cfg st i o v) (begins cfg h o)
+unfolding called
+tied-call cfg st h i o v s z t = record {
+  queues =
+      queues-push os′ latest′ (st .runnables) (h .queued) r y
+      (queues-open (st .operations) (st .runnables) (st .slots) (h .latest) o (h .place + 1) x (s .clients) within inside (z .shut) refl (h .queued) (runnables-length cfg st s) (t .queues))
+      (omega (arith, runnables-length cfg st s, there)) there c q room (requests-told cfg st r s there .1) refl (tag-new (st .operations) (h .latest) o (h .place + 1) x c q inside refl refl refl);
+  served =
+      served-alike os′ latest′ (st .slots) _ (h .taken) (slot-kept (λ w. w .owed) (st .slots) i _ (caller-kept (λ w. w .owed) (λ w n. refl) cfg o (slotIn (st .slots) i)))
+      (served-open (st .operations) (st .runnables) (st .slots) (h .latest) o (h .place + 1) x (s .clients) within inside (z .shut) refl (h .taken) (slots-length cfg st s) (t .served));
+  calls = calls-start (st .operations) (h .latest) (h .endings) (h .place) o x (t .calls) within (omega (arith, operations-most cfg (s .config), z .inside)) refl;
+}
+  where
+    r : ℕ
+    r = operationConfIn (cfg .operations) o .server
+
+    x : Operation
+    x = opening (operationConfIn (cfg .operations) o .timeout) (operationIn (st .operations) o)
+
+    os′ : Operations
+    os′ = withOperation (st .operations) o x
+
+    latest′ : List ℕ
+    latest′ = set (h .latest) o (h .place + 1)
+
+    c : Client
+    c = record { operation = o; number = operationIn (st .operations) o .number; argument = v }
+
+    q : Request
+    q = record { at = h .place + 1; on = o }
+
+    y : Runnable
+    y = asking (runnableIn (st .runnables) r) c
+
+    within : o < length (st .operations .at)
+    within = omega (arith, operations-length cfg st s, operations-most cfg (s .config), z .inside)
+
+    inside : o < length (h .latest)
+    inside = omega (arith, t .calls .size, operations-most cfg (s .config), z .inside)
+
+    there : r < 16
+    there = omega (arith, operation-there cfg (s .config) o (z .inside), runnables-most cfg (s .config))
+
+    room : runnableIn (st .runnables) r .requests .queued < 16
+    room = omega (arith, z .room, capacity-most cfg (s .config) r)
+
+-- ---- a call ends
+
+tied-closed : (cfg : Config) (st : State) (h : History) (o : ℕ) (w : How) (v : Value) → operationIn (st .operations) o .calling ≡ true → Proper (latestOn h o) w → given w ≡ v → Tied st h
+    → Tied (closed cfg st o v) (closes h o w)
+unfolding closed closing
+tied-closed cfg st h o w v e p g t = record {
+  queues =
+      queues-alike _ (h .latest) (st .runnables) _ (h .queued) (returned-kept (λ y. y .requests) (λ y. refl) cfg o (st .runnables))
+      (queues-close (st .operations) (h .latest) o x (calling-inside (st .operations) o e) (st .runnables) (h .queued) refl (t .queues));
+  served = served-close (st .operations) (h .latest) o x (calling-inside (st .operations) o e) (st .slots) (h .taken) refl (t .served);
+  calls = calls-close (st .operations) (h .latest) (h .endings) (h .place) o w x (t .calls) e p refl (sym g);
+}
+  where
+    x : Operation
+    x = closing v (operationIn (st .operations) o)
+
+pub tied-timeout : (cfg : Config) (st : State) (h : History) (o : ℕ) → CanTimeout cfg st o → Tied st h → Tied (closed cfg st o timeoutV) (closes h o byTimeout)
+tied-timeout cfg st h o z t = tied-closed cfg st h o byTimeout timeoutV (z .calling) tt refl t
+
+-- the client is gone, and the instance is finished
+tied-finish : (st : State) (h : History) (i : ℕ) (x : Slot) → i < length (st .slots .at) → Tied st h → Tied (withSlots st (withSlot (st .slots) i (finishing x))) h
+tied-finish st h i x b t = record { queues = t .queues; served = served-idle (st .operations) (h .latest) (st .slots) (h .taken) i (finishing x) (t .served) b refl; calls = t .calls }
+
+pub tied-answer : (cfg : Config) (st : State) (h : History) (i : ℕ) (v : Value) → CanHandBack cfg st i v → answers (st .operations) (slotIn (st .slots) i .owed .client) ≡ true → Tied st h
+    → Tied (withSlots (closed cfg st (slotIn (st .slots) i .owed .client .operation) v) (withSlot (st .slots) i (finishing (slotIn (st .slots) i))))
+    (closes h (takenBy h i .on) (byInstance (takenBy h i .at) v))
+unfolding answers closed
+tied-answer cfg st h i v z e t =
+    rw (tag .same)
+    (tied-finish (closed cfg st (c .operation) v) (closes h (c .operation) (byInstance (takenBy h i .at) v)) i (slotIn (st .slots) i) (serving-inside (st .slots) i (z .serving))
+    (tied-closed cfg st h (c .operation) (byInstance (takenBy h i .at) v) v open-still (tag .newest open-still its-number) refl t))
+  where
+    c : Client
+    c = slotIn (st .slots) i .owed .client
+
+    tag : Tag (st .operations) (h .latest) c (takenBy h i)
+    tag = t .served .each i (z .serving)
+
+    open-still : operationIn (st .operations) (c .operation) .calling ≡ true
+    open-still = both-left (operationIn (st .operations) (c .operation) .calling) _ e
+
+    its-number : c .number ≡ operationIn (st .operations) (c .operation) .number
+    its-number = sym (eqb-true _ _ (both-right (operationIn (st .operations) (c .operation) .calling) _ e))
+
+pub tied-late : (cfg : Config) (st : State) (h : History) (i : ℕ) (v : Value) → CanHandBack cfg st i v → Tied st h
+    → Tied (withSlots st (withSlot (st .slots) i (finishing (slotIn (st .slots) i)))) (passed h)
+tied-late cfg st h i v z t = tied-finish st (passed h) i (slotIn (st .slots) i) (serving-inside (st .slots) i (z .serving)) (tied-alike st st h (alike-same st) t)
+
+-- ---- an instance comes, and goes
+
+pub tied-server : (cfg : Config) (st : State) (h : History) (r k : ℕ) → Sound cfg st → k < 32 → eqb (runnableConfIn (cfg .runnables) r .capacity) 0 ≡ false
+    → 0 < runnableIn (st .runnables) r .requests .queued → Tied st h
+    → Tied (spawned cfg st r k) (takesOldest h k r)
+unfolding spawned starting instanceOf
+tied-server cfg st h r k s b e n t = rw e (record {
+  queues = queues-pop (st .operations) (h .latest) (st .runnables) (h .queued) r _ (t .queues) within there (told .1) (omega (arith, told .0, capacity-most cfg (s .config) r)) refl;
+  served =
+      served-put (st .operations) (h .latest) (st .slots) (h .taken) k _ (t .served) (omega (arith, slots-length cfg st s, b)) (getD (queuedAt h r) 0 noRequest) b
+      (λ z. oldest-tag (st .operations) (h .latest) (st .runnables) (h .queued) r (t .queues) n);
+  calls = calls-alike (st .operations) (st .operations) (h .latest) (h .endings) (h .place) (same-calls (st .operations)) (t .calls);
+})
+  where
+    within : r < length (st .runnables .at)
+    within = queued-inside (st .runnables) r 0 n
+
+    there : r < 16
+    there = omega (arith, within, runnables-length cfg st s)
+
+    told : (runnableIn (st .runnables) r .requests .queued ≤ runnableConfIn (cfg .runnables) r .capacity) × (length (runnableIn (st .runnables) r .requests .at) ≡ 16)
+    told = requests-told cfg st r s there
+
+pub tied-plain : (cfg : Config) (st : State) (h : History) (r k : ℕ) → Sound cfg st → k < 32 → eqb (runnableConfIn (cfg .runnables) r .capacity) 0 ≡ true → Tied st h
+    → Tied (spawned cfg st r k) (takes h k noRequest)
+unfolding spawned starting instanceOf
+tied-plain cfg st h r k s b e t = rw e (record {
+  queues = queues-alike (st .operations) (h .latest) (st .runnables) _ (h .queued) (runnable-kept (λ y. y .requests) (st .runnables) r _ refl) (t .queues);
+  served = served-put (st .operations) (h .latest) (st .slots) (h .taken) k (fresh r noOwed) (t .served) (omega (arith, slots-length cfg st s, b)) noRequest b (λ z. absurd (clash false z refl));
+  calls = calls-alike (st .operations) (st .operations) (h .latest) (h .endings) (h .place) (same-calls (st .operations)) (t .calls);
+})
+
+pub tied-end : (cfg : Config) (st : State) (h : History) (i : ℕ) → Sound cfg st → CanEnd st i → Tied st h
+    → Tied
+    (withSlots (withRunnables st (withRunnable (st .runnables) (slotIn (st .slots) i .life .runnable) (leaving (runnableIn (st .runnables) (slotIn (st .slots) i .life .runnable)))))
+    (withSlot (st .slots) i noSlot))
+    (takes h i noRequest)
+unfolding noSlot
+tied-end cfg st h i s z t = record {
+  queues = queues-alike (st .operations) (h .latest) (st .runnables) _ (h .queued) (runnable-kept (λ y. y .requests) (st .runnables) (slotIn (st .slots) i .life .runnable) _ refl) (t .queues);
+  served = served-put (st .operations) (h .latest) (st .slots) (h .taken) i noSlot (t .served) within noRequest (omega (arith, within, slots-length cfg st s)) (λ q. absurd (clash false q refl));
+  calls = calls-alike (st .operations) (st .operations) (h .latest) (h .endings) (h .place) (same-calls (st .operations)) (t .calls);
+}
+  where
+    within : i < length (st .slots .at)
+    within = slot-inside (st .slots) i (z .there .used)

@@ -1,0 +1,2 @@
+-- Laws of reading a configuration: what a turn of the reading does, and that what is read is sound.
+pub mod Ahead

@@ -1,0 +1,2 @@
+-- Document 01, "The files" and "Numbers of refusal": reading a configuration.
+pub mod Reading

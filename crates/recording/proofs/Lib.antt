@@ -1,0 +1,4 @@
+-- Laws of recordings: one field both ways, whole texts both ways, and what the loops keep.
+pub mod OneField
+pub mod Texts
+pub mod Loops

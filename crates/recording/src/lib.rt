@@ -1,0 +1,206 @@
+// The fields of a recording, read and written.
+use values::Step;
+use values::Value;
+use wire::Wrote;
+ghost use mathlib.Core.Path.{_≡_};
+ghost use lib.ListN.{drop};
+ghost use Rattle.wire.specs.Bytes.{Written};
+ghost use Rattle.recording.specs.Recording.{valuesGood, tested, stepIn, endIn, fieldOf, endBytes, stepTo, stepWritten, stepBack};
+ghost use Rattle.recording.specs.Whole.{isSound, againTo, againWritten};
+
+// What stands next in a recording: a step and the size of its field, the end, or a refusal and how many places past the field asked for it stands.
+pub enum Field {
+    Step(Step, usize),
+    End,
+    Refused(u8, u8),
+}
+
+// Neither the argument nor the claim is a bad value.
+fn values_good(s: Step) -> bool
+    ensures { λ r. ⌜ r ≡ valuesGood s ⌝ }
+{
+    let argument = s.argument;
+    if argument.is_good() {
+        let claim = s.claim;
+        return claim.is_good();
+    }
+    false
+}
+
+// The field of a step whose bytes are all there.
+fn tested(s: Step) -> Field
+    ensures { λ r. ⌜ r ≡ tested s ⌝ }
+{
+    if values_good(s) {
+        return Field::Step(s, 16);
+    }
+    Field::Refused(18, 0)
+}
+
+// The step field at the front of a text.
+fn step_in(t: &[u8]) -> Field
+    ensures { λ r. ⌜ r ≡ stepIn (now (t .entry)) ⌝ }
+{
+    if t.len() < 16 {
+        return Field::Refused(18, 0);
+    }
+    let argument = Value {
+        kind: t[6],
+        number: wire::number(t[7], t[8], t[9], t[10]),
+    };
+    let claim = Value {
+        kind: t[11],
+        number: wire::number(t[12], t[13], t[14], t[15]),
+    };
+    tested(Step {
+        code: t[3],
+        who: t[4],
+        what: t[5],
+        argument,
+        claim,
+    })
+}
+
+// The end field at the front of a text: nothing follows it.
+fn end_in(t: &[u8]) -> Field
+    ensures { λ r. ⌜ r ≡ endIn (now (t .entry)) ⌝ }
+{
+    if t.len() == 3 {
+        return Field::End;
+    }
+    Field::Refused(18, 1)
+}
+
+// The field at the front of a text.
+fn field_of(t: &[u8]) -> Field
+    ensures { λ r. ⌜ r ≡ fieldOf (now (t .entry)) ⌝ }
+{
+    if t.len() < 3 {
+        return Field::Refused(18, 0);
+    }
+    let tag = t[0];
+    let size = wire::length_of(t[1], t[2]);
+    if tag == 0x40 {
+        if size == 13 {
+            return step_in(t);
+        }
+        return Field::Refused(18, 0);
+    }
+    if tag == 0x7f {
+        if size == 0 {
+            return end_in(t);
+        }
+        return Field::Refused(18, 0);
+    }
+    Field::Refused(18, 0)
+}
+
+// The field at a place of a text.
+pub fn read_field(s: &[u8], at: usize) -> Field
+    ensures { λ r. ⌜ r ≡ fieldOf (drop at (now (s .entry))) ⌝ }
+{
+    if s.len() < at {
+        return Field::Refused(18, 0);
+    }
+    field_of(&s[at..])
+}
+
+// A step's field written from a place on: 18 for a bad value, then 27 where it does not fit.
+pub fn write_step(buf: &mut [u8], at: usize, s: Step) -> Wrote
+    ensures { λ r. ⌜ r ≡ stepTo (now (buf .entry)) at s ⌝ }
+    ensures { λ r. ⌜ now (buf .exit) ≡ stepWritten (now (buf .entry)) at s ⌝ }
+{
+    if values_good(s) {
+        let argument = s.argument;
+        let claim = s.claim;
+        let m = argument.number;
+        let n = claim.number;
+        let bytes = [
+            0x40,
+            0,
+            13,
+            s.code,
+            s.who,
+            s.what,
+            argument.kind,
+            (m / 256 / 256 / 256 % 256) as u8,
+            (m / 256 / 256 % 256) as u8,
+            (m / 256 % 256) as u8,
+            (m % 256) as u8,
+            claim.kind,
+            (n / 256 / 256 / 256 % 256) as u8,
+            (n / 256 / 256 % 256) as u8,
+            (n / 256 % 256) as u8,
+            (n % 256) as u8,
+        ];
+        return wire::write(buf, at, &bytes);
+    }
+    Wrote::Refused(18)
+}
+
+// The end field written from a place on.
+pub fn write_end(buf: &mut [u8], at: usize) -> Wrote
+    ensures { λ r. ⌜ Written (now (buf .entry)) at endBytes r (now (buf .exit)) ⌝ }
+{
+    wire::write(buf, at, &[0x7f, 0, 0])
+}
+
+// A text is a recording: step fields, then the end.
+pub fn is_sound(s: &[u8]) -> bool
+    ensures { λ r. ⌜ r ≡ isSound (now (s .entry)) ⌝ }
+{
+    let mut at: usize = 0;
+    loop {
+        match read_field(s, at) {
+            Field::Step(_, size) => {
+                at = at + size;
+            }
+            Field::End => {
+                return true;
+            }
+            Field::Refused(_, _) => {
+                return false;
+            }
+        }
+    }
+}
+
+// A recording read field by field and written again: 18 where it is none, then 27 where it does not fit.
+pub fn rewrite(s: &[u8], buf: &mut [u8]) -> Wrote
+    ensures { λ r. ⌜ r ≡ againTo (now (s .entry)) (now (buf .entry)) ⌝ }
+    ensures { λ r. ⌜ now (buf .exit) ≡ againWritten (now (s .entry)) (now (buf .entry)) ⌝ }
+{
+    if is_sound(s) {
+        if buf.len() < s.len() {
+            return Wrote::Refused(27);
+        }
+    } else {
+        return Wrote::Refused(18);
+    }
+    let mut at: usize = 0;
+    loop {
+        match read_field(s, at) {
+            Field::Step(step, size) => {
+                write_step(buf, at, step);
+                at = at + size;
+            }
+            Field::End => {
+                return write_end(buf, at);
+            }
+            Field::Refused(r, _) => {
+                return Wrote::Refused(r);
+            }
+        }
+    }
+}
+
+// A step written and read back.
+pub fn write_and_read(buf: &mut [u8], at: usize, s: Step) -> Field
+    ensures { λ r. ⌜ r ≡ stepBack (now (buf .entry)) at s ⌝ }
+    ensures { λ r. ⌜ now (buf .exit) ≡ stepWritten (now (buf .entry)) at s ⌝ }
+{
+    match write_step(buf, at, s) {
+        Wrote::To(_) => read_field(buf, at),
+        Wrote::Refused(r) => Field::Refused(r, 0),
+    }
+}
