@@ -1,7 +1,11 @@
-// What the programs share: an input read to its end, and never half of it.
+// What the programs share: an input read to its end, and never half of it; and a line printed.
 ghost use mathlib.Core.Path.{_≡_};
 ghost use lib.ListN.{length};
+ghost use Rattle.judging.specs.Line.{lineOf};
 ghost use Rattle.desk.specs.Got.{Fits};
+use judging::Line;
+use libc::STDIN_FILENO;
+use libc::STDOUT_FILENO;
 
 // How many bytes came before the end of the input, or that a read failed.
 pub enum Got {
@@ -37,4 +41,76 @@ fn read_part(fd: i32, buf: &mut [u8]) -> Got
         return Got::Failed;
     }
     Got::Bytes(io::count(got, buf))
+}
+
+// Reads a file by its name; one that is not there counts as empty.
+pub fn read_file(name: &[u8], buf: &mut [u8]) -> Got
+    ensures { λ r. ⌜ Fits r (length (now (buf .exit))) ⌝ }
+{
+    let fd = os::open_read(name);
+    if fd < 0 {
+        if os::errno() == libc::ENOENT {
+            return Got::Bytes(0);
+        }
+        return Got::Failed;
+    }
+    let got = read_whole(fd, buf);
+    libc::close(fd);
+    got
+}
+
+// Reads rte.cfg and a recording on standard input, judges it as often as is said, once at least, and prints the last line. On a read that fails it prints none, and says what failed on standard error.
+pub fn run(config: &mut [u8], recording: &mut [u8], times: u32) {
+    let c = read_file(b"rte.cfg", config);
+    let Got::Bytes(n) = c else {
+        os::fail(b"rte.cfg");
+        return;
+    };
+    let r = read_whole(STDIN_FILENO, recording);
+    let Got::Bytes(m) = r else {
+        os::fail(b"standard input");
+        return;
+    };
+    print(repeat(&config[..n], &recording[..m], times));
+}
+
+// The line of two texts, found as often as is said.
+fn repeat(config: &[u8], recording: &[u8], times: u32) -> Line
+    ensures { λ r. ⌜ r ≡ lineOf (now (config .entry)) (now (recording .entry)) ⌝ }
+{
+    let mut k: u32 = 1;
+    while k < times {
+        judging::line_of(config, recording);
+        k = k + 1;
+    }
+    judging::line_of(config, recording)
+}
+
+// Prints the line.
+pub fn print(line: Line) {
+    match line {
+        Line::Accepted(n) => count(b"accepted ", n),
+        Line::Refused(place, k) => place_and_number(b"refused ", place, k),
+        Line::Unfinished(n) => count(b"unfinished ", n),
+        Line::Configuration(place, k) => place_and_number(b"configuration ", place, k),
+        Line::TooLong => words(b"input too long\n"),
+    }
+}
+
+fn words(text: &[u8]) {
+    io::write_all(STDOUT_FILENO, text);
+}
+
+fn count(word: &[u8], n: usize) {
+    words(word);
+    io::print_decimal(STDOUT_FILENO, n as u64);
+    words(b"\n");
+}
+
+fn place_and_number(word: &[u8], place: usize, k: u8) {
+    words(word);
+    io::print_decimal(STDOUT_FILENO, place as u64);
+    words(b" ");
+    io::print_decimal(STDOUT_FILENO, k as u64);
+    words(b"\n");
 }

@@ -79,7 +79,7 @@ placesOf cfg tag =
     (pick (eqb tag 0x19) (length (cfg .revents .at))
     0)))))))))
 
--- component, flags (1 concurrent, 2 init), request capacity; start interval
+-- component, flags (1 for concurrent, 2 for init), request capacity; start interval
 abbrev pub runnableEntry : RunnableConf → Entry
 runnableEntry x = record { first = x .component; second = bit (x .concurrent) + 2 * bit (x .init); third = x .capacity; number = x .interval }
 

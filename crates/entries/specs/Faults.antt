@@ -19,11 +19,11 @@ maxComponent = 15
 abbrev pub maxTime : ℕ
 maxTime = 3600000
 
--- the top of a capacity; 0 marks a plain runnable or an unqueued element
+-- the top of a capacity; where it is 0 a runnable is plain, and an element unqueued
 abbrev pub maxCapacity : ℕ
 maxCapacity = 16
 
--- a time of at least 1
+-- a time of at least 1 and at most maxTime, an hour
 abbrev pub isTime : ℕ → Bool
 isTime n = both (ltb 0 n) (leb n maxTime)
 

@@ -1,5 +1,5 @@
 -- From the facts of a reached state and its history to what the promises say of them.
--- Areas: a count of one is one holder, which holds it once, and no other (`holder`); a count of none is none (`no-holder`). Queues: `fits`, `values-told`.
+-- Areas: a count of one is one holder, which holds it once, and no other (`holder`); a count of none is none (`no-holder`). Queued values: `values-told`.
 -- Results: an operation Done with a Number holds what its last ending gave (`number-from`), that ending counts (`last-counts`) and so it is the only one of its
 -- call (`done-final`); a result answered by a Number was of such an operation (`result-told`). Timeouts, and spawns of servers: `timed`, `took-oldest`.
 -- Assumes nothing.

@@ -67,7 +67,7 @@ latestOn h o = getD (h .latest) o 0
 abbrev pub passed : History → History
 passed h = record { place = h .place + 1; queued = h .queued; taken = h .taken; latest = h .latest; endings = h .endings }
 
--- a call of o starts: this step's request joins the end of its server's queue
+-- a call of o starts: this step's request is now the last that waits at the server of o
 abbrev pub begins : Config → History → ℕ → History
 begins cfg h o = record {
   place = h .place + 1;
@@ -143,7 +143,7 @@ Started (s ∷ rs) zero o = ⊥
 Started (s ∷ rs) (suc zero) o = (s .code ≡ 11) × (s .what ≡ o) × (s .claim ≡ okV)
 Started (s ∷ rs) (suc (suc k)) o = Started rs (suc k) o
 
--- ---- the second reading of "followed by its place in the queue": all requests ever queued at r, and how many were taken there
+-- ---- requests followed in a second way: all that were ever queued at r, and how many were taken there
 
 -- the requests that rs queues at r, oldest first; n steps stand before rs
 unfoldable pub allQueued : Config → ℕ → ℕ → List Step → List Request

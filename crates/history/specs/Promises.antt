@@ -61,7 +61,7 @@ EndsOnce =
     (cfg : Config) (rs : List Step) (st : State) → configSound cfg ≡ true → Run cfg rs st
     → (k : ℕ) → endsOf k (historyOf cfg rs .endings) ≤ 1
 
--- what an ending names is a call step answered Ok on that operation, and it is by its timeout or by an instance spawned for that very call
+-- what an ending names is a started call on that operation, and it is by its timeout or by an instance spawned for that very call
 abbrev pub EndsProperly : Type 0
 EndsProperly =
     (cfg : Config) (rs : List Step) (st : State) → configSound cfg ≡ true → Run cfg rs st
@@ -95,7 +95,7 @@ OpenIsUnended =
     → (o : ℕ) → o < maxOperationConfs
     → (operationIn (st .operations) o .calling ≡ true) ↔ ((0 < latestOn (historyOf cfg rs) o) × (endsOf (latestOn (historyOf cfg rs) o) (historyOf cfg rs .endings) ≡ 0))
 
--- the latest call of an operation is a call step answered Ok on it
+-- the latest call of an operation, where it has one, was started on it
 abbrev pub LatestStarted : Type 0
 LatestStarted =
     (cfg : Config) (rs : List Step) (st : State) → configSound cfg ≡ true → Run cfg rs st

@@ -19,7 +19,7 @@ use Rattle.judging.specs.declared.Verdict.{Verdict}
 use Rattle.judging.specs.declared.Verdict.the-variants.{Accepted, Refused, Unfinished}
 use Rattle.judging.specs.declared.Judged.{Judged}
 
--- a verdict, the count of steps taken and the state reached
+-- a verdict, how many steps were taken, and the state that they led to
 abbrev pub judged : Verdict → ℕ → State → Judged
 judged v n st = record { verdict = v; count = n; state = st }
 
@@ -44,7 +44,7 @@ judgeFrom step (suc a) t n st =
     (judged Accepted n st)
     (λ k past. judged (Refused (n + 1 + past) k) n st)
 
--- an unsound configuration or first state is refused at place 0, with the state as it came
+-- judging from a state on; if that or the configuration is not sound, 1 with place 0, no steps, and the state as it came
 unfoldable pub judgeOf : Config → State → List ℕ → ℕ → Judged
 judgeOf cfg st t a = pick (soundOf cfg st) (judgeFrom (stepOf cfg) a t 0 st) (judged (Refused 0 1) 0 st)
 

@@ -124,20 +124,20 @@ module _ (os : Operations) (rs : Runnables) (ss : Slots) where
   tallied-clients h = record {
     single = h .single;
     queued = λ r l j b. let c = getD (runnableIn rs r .requests .at) j noClient in
-      below-numbered h c
-      (omega (
-        arith,
-        sum-term (λ (r : ℕ). queuedAs (c .operation) (c .number) (runnableIn rs r .requests)) r maxRunnableConfs l,
-        sum-term (λ (j : ℕ). bit (isClient (c .operation) (c .number) (getD (runnableIn rs r .requests .at) j noClient))) j (runnableIn rs r .requests .queued) b,
-        ap bit (own-client (c .operation) (c .number) c refl refl),
-      ));
+        below-numbered h c
+        (omega (
+          arith,
+          sum-term (λ (r : ℕ). queuedAs (c .operation) (c .number) (runnableIn rs r .requests)) r maxRunnableConfs l,
+          sum-term (λ (j : ℕ). bit (isClient (c .operation) (c .number) (getD (runnableIn rs r .requests .at) j noClient))) j (runnableIn rs r .requests .queued) b,
+          ap bit (own-client (c .operation) (c .number) c refl refl),
+        ));
     served = λ k l e. let c = slotIn ss k .owed .client in
-      below-numbered h c
-      (omega (
-        arith,
-        sum-term (λ (k : ℕ). servedAs (c .operation) (c .number) (slotIn ss k .owed)) k maxSlots l,
-        ap bit (both-make (slotIn ss k .owed .serving) (isClient (c .operation) (c .number) c) e (own-client (c .operation) (c .number) c refl refl)),
-      ));
+        below-numbered h c
+        (omega (
+          arith,
+          sum-term (λ (k : ℕ). servedAs (c .operation) (c .number) (slotIn ss k .owed)) k maxSlots l,
+          ap bit (both-make (slotIn ss k .owed .serving) (isClient (c .operation) (c .number) c) e (own-client (c .operation) (c .number) c refl refl)),
+        ));
     called = h .called;
   }
 
@@ -177,11 +177,11 @@ module _ (os : Operations) (n n′ : ℕ → ℕ → ℕ) (h : Tallied os n) whe
   tally-close o x b e c f g = record {
     single = λ k m. omega (arith, f k m, h .single k m);
     below = λ k m. operation-put (λ k y. 1 ≤ n′ k m → m < y .number + bit (y .calling)) os o x b
-      (λ l. omega (arith, h .below o m (omega (arith, f o m, l)), bit-most (operationIn os o .calling), e))
-      k (λ d l. h .below k m (omega (arith, f k m, l)));
+        (λ l. omega (arith, h .below o m (omega (arith, f o m, l)), bit-most (operationIn os o .calling), e))
+        k (λ d l. h .below k m (omega (arith, f k m, l)));
     called = λ k l. operation-put (λ k y. y .calling ≡ true → n′ k (y .number) ≡ 1) os o x b
-      (λ w. absurd (clash (x .calling) w c))
-      k (λ d w. g k (operationIn os k .number) d ∙ h .called k l w);
+        (λ w. absurd (clash (x .calling) w c))
+        k (λ d w. g k (operationIn os k .number) d ∙ h .called k l w);
   }
 
   -- a call of o begins: one client more, with o's number
@@ -190,11 +190,11 @@ module _ (os : Operations) (n n′ : ℕ → ℕ → ℕ) (h : Tallied os n) whe
   tally-open o x c b s e w p q f = record {
     single = λ k m. single k m (ℕ-discrete k o) (ℕ-discrete m (operationIn os o .number));
     below = λ k m. operation-put (λ k y. 1 ≤ n′ k m → m < y .number + bit (y .calling)) os o x b
-      (λ l. rw (w, e) (begun m l (ℕ-discrete m (operationIn os o .number))))
-      k (λ d l. h .below k m (omega (arith, f k m, ap bit (other-operation k m c (λ z. d (sym z ∙ p))), l)));
+        (λ l. rw (w, e) (begun m l (ℕ-discrete m (operationIn os o .number))))
+        k (λ d l. h .below k m (omega (arith, f k m, ap bit (other-operation k m c (λ z. d (sym z ∙ p))), l)));
     called = λ k l. operation-put (λ k y. y .calling ≡ true → n′ k (y .number) ≡ 1) os o x b
-      (λ z. rw e now)
-      k (λ d z. omega (arith, f k (operationIn os k .number), ap bit (other-operation k (operationIn os k .number) c (λ y. d (sym y ∙ p))), h .called k l z));
+        (λ z. rw e now)
+        k (λ d z. omega (arith, f k (operationIn os k .number), ap bit (other-operation k (operationIn os k .number) c (λ y. d (sym y ∙ p))), h .called k l z));
   }
     where
       -- o has no client with its number yet

@@ -25,16 +25,16 @@ use Rattle.rules.specs.Steps.{isDue, lowestEmpty, operationsLet, timersLet, run
 
 -- ---- the clauses over two tables and more, at every place
 
--- a runnable's count equals its slots
+-- each runnable counts as many instances as slots are in use by it
 pub record Counted (rs : Runnables) (ss : Slots) : Type 0 where
   pub counted : (r : ℕ) → r < maxRunnableConfs → runnableIn rs r .instances ≡ slotsOf ss r
 
--- a taken area stands once in exactly one stack, a free one in none
+-- a taken area is there; in all the stacks together it lies once, and a free one not at all
 pub record Held (cfg : Config) (t : Areas) (ss : Slots) : Type 0 where
   pub there : (a : ℕ) → a < maxAreaConfs → areaIn t a .taken ≡ true → a < cfg .areas .n
   pub once : (a : ℕ) → a < maxAreaConfs → holders ss a ≡ bit (areaIn t a .taken)
 
--- no two clients share operation and number; each has a number below its operation's, or equal while that is Calling; a Calling operation has one with its number
+-- a pair of operation and number belongs to one client at most; a client's number is below its operation's, or the same while that is Calling; while an operation is Calling there is one client under its number
 pub record Clients (os : Operations) (rs : Runnables) (ss : Slots) : Type 0 where
   pub single : (o m : ℕ) → clientsAs rs ss o m ≤ 1
   pub queued : (r : ℕ) → r < maxRunnableConfs → (j : ℕ) → j < runnableIn rs r .requests .queued → numbered os (getD (runnableIn rs r .requests .at) j noClient) ≡ true

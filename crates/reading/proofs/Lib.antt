@@ -1,2 +1,6 @@
 -- Laws of reading a configuration: what a turn of the reading does, and that what is read is sound.
 pub mod Ahead
+pub mod Adding
+pub mod Kept
+pub mod Told
+pub mod Sound

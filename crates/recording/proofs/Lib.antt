@@ -2,3 +2,4 @@
 pub mod OneField
 pub mod Texts
 pub mod Loops
+pub mod Numbers

@@ -42,7 +42,7 @@ stepAt t = record { code = getD t 3 0; who = getD t 4 0; what = getD t 5 0; argu
 unfoldable pub stepIn : List ℕ → Field
 stepIn t = pick (ltb (length t) 16) (Refused 18 0) (tested (stepAt t))
 
--- the end field, tag and length read: what follows it stands one place on ("Numbers of refusal", last sentence)
+-- the end field, tag and length read: what follows it stands one place on ("Numbers of refusal", the sentence on refused reads: a field that is missing, bytes behind the end)
 unfoldable pub endIn : List ℕ → Field
 endIn t = pick (eqb (length t) 3) End (Refused 18 1)
 
@@ -78,7 +78,7 @@ stepWritten b at s = pick (valuesGood s) (wroteBytes b at (bytesOf s)) b
 abbrev pub stepBack : List ℕ → ℕ → Step → Field
 stepBack b at s = pick (valuesGood s) (pick (leb (at + 16) (length b)) (IsStep s 16) (Refused 27 0)) (Refused 18 0)
 
--- a step that a recording can hold: its values are good, their numbers of 32 bits ("The files", last sentence)
+-- a step that a recording can hold; it bounds argument and claim: good values whose numbers have 32 bits ("The files", last sentence)
 pub record Recorded (s : Step) : Type 0 where
   pub good : valuesGood s ≡ true
   pub argument : s .argument .number < 2 ^ 32

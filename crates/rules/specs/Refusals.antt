@@ -1,4 +1,4 @@
--- Refusals 2 to 5, which all steps share, in their order ("Numbers of refusal"; "The eighteen steps", the table's columns).
+-- Refusals 2 to 5, in their order; a slot's steps have all four, the scheduler's 2 and 3 only ("Numbers of refusal"; "The eighteen steps", the table's columns).
 -- Assumes nothing.
 use Prim.Native.Nat.{ℕ}
 use mathlib.Core.Bool.{Bool, true, false, not}
@@ -58,7 +58,7 @@ queueingOf code = getD queueings code 0
 unfoldable pub argumentOf : ℕ → ℕ
 argumentOf code = getD arguments code 0
 
--- ---- 2: an unused entry or the argument's kind is wrong; a bad value counts as a wrong kind
+-- ---- 2: an entry that the code leaves empty is filled, or the argument is of a kind that it does not take, as every bad value is
 
 unfoldable pub argues : ℕ → Value → Bool
 argues k v = pick (eqb k 0) (isVoid v) (pick (eqb k 1) (isPayload v) (eqb (v .kind) 1))
@@ -72,7 +72,7 @@ formed code what v = both (either (ltb 0 (partOf code)) (eqb what 0)) (argues (a
 unfoldable pub partThere : Config → ℕ → ℕ → Bool
 partThere cfg tag n = either (eqb tag 0) (ltb n (countOf cfg tag))
 
--- ---- 4: a part of another component, or an element of the wrong queueing
+-- ---- 4: the part is another component's, or an element is queued that should not be, or the other way round
 
 -- a required or provided element is queued: its second number is its capacity, or its kind
 unfoldable pub queuesAs : Config → ℕ → ℕ → ℕ → Bool

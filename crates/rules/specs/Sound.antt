@@ -48,7 +48,7 @@ componentOf cfg r = runnableConfIn (cfg .runnables) r .component
 unfoldable pub isNoClient : Client → Bool
 isNoClient c = both (eqb (c .operation) 0) (both (eqb (c .number) 0) (isVoid (c .argument)))
 
--- a client of the server r: it names an operation of that server, and its argument is a payload
+-- a client of the server r: its operation is there and r serves it, and its argument is a payload
 unfoldable pub clientFits : Config → ℕ → Client → Bool
 clientFits cfg r c =
     both (ltb (c .operation) (cfg .operations .n))
@@ -120,7 +120,7 @@ timerSound cfg t x = leb (x .count) (timerConfIn (cfg .timers) t .period)
 
 -- ---- one slot at a time
 
--- a waiting instance waits on a synchronous operation of its component
+-- a waiter's operation is there, is synchronous, and belongs to the waiter's component
 unfoldable pub waitsWell : Config → Life → Bool
 waitsWell cfg l =
     allOf
@@ -138,7 +138,7 @@ lifeSound cfg l =
     ∷ pick (l .waiting) (waitsWell cfg l) (eqb (l .on) 0)
     ∷ [])
 
--- a server's instance has a client exactly until it is finished, a plain one has none; the client is one of that server
+-- who owes an answer: every unfinished instance of a server and no other; its client is one of that server, and where nobody is owed the place is blank
 unfoldable pub owedSound : Config → Life → Owed → Bool
 owedSound cfg l w =
     both (alike (w .serving) (both (isServer cfg (l .runnable)) (not (l .finished))))
@@ -175,7 +175,7 @@ unfoldable pub slotSound : Config → Slot → Bool
 slotSound cfg x =
     pick (x .used) (allOf (lifeSound cfg (x .life) ∷ owedSound cfg (x .life) (x .owed) ∷ stackSound cfg (x .life) (x .stack) ∷ [])) (isNoSlot x)
 
--- ---- counts: a runnable's count equals its slots
+-- ---- counts: each runnable counts as many instances as slots are in use by it
 
 unfoldable pub ofRunnable : ℕ → Slot → Bool
 ofRunnable r x = both (x .used) (eqb (x .life .runnable) r)
@@ -187,7 +187,7 @@ slotsOf t r = countBelow (λ (k : ℕ). ofRunnable r (slotIn t k)) maxSlots
 unfoldable pub countSound : Runnables → Slots → ℕ → Bool
 countSound rs ss r = eqb (runnableIn rs r .instances) (slotsOf ss r)
 
--- ---- areas: a taken one stands once in exactly one stack, a free one in none
+-- ---- areas: a taken one lies in all the stacks together once, a free one not at all
 
 -- how often the area a stands in a stack
 unfoldable pub timesIn : ℕ → Stack → ℕ
@@ -201,7 +201,7 @@ holders t a = sumBelow (λ (k : ℕ). timesIn a (slotIn t k .stack)) maxSlots
 unfoldable pub areaSound : Config → Areas → Slots → ℕ → Bool
 areaSound cfg t ss a = both (either (not (areaIn t a .taken)) (ltb a (cfg .areas .n))) (eqb (holders ss a) (bit (areaIn t a .taken)))
 
--- ---- clients: no two share operation and number
+-- ---- clients: a pair of operation and number belongs to one client at most
 
 unfoldable pub isClient : ℕ → ℕ → Client → Bool
 isClient o m c = both (eqb (c .operation) o) (eqb (c .number) m)
@@ -239,7 +239,7 @@ queuedSound os rs ss r =
 unfoldable pub servedSound : Operations → Runnables → Slots → ℕ → Bool
 servedSound os rs ss k = either (not (slotIn ss k .owed .serving)) (clientSound os rs ss (slotIn ss k .owed .client))
 
--- a Calling operation has exactly one client with its number
+-- while an operation is Calling there is one client under its number, neither more nor fewer
 unfoldable pub calledSound : Operations → Runnables → Slots → ℕ → Bool
 calledSound os rs ss o = either (not (operationIn os o .calling)) (eqb (clientsAs rs ss o (operationIn os o .number)) 1)
 

@@ -69,7 +69,7 @@ abbrev pub onAnswer : {A : Type 0} → Answer → (Value → A) → (ℕ → A) 
 onAnswer (Taken v) taken refusal = taken v
 onAnswer (Refused n) taken refusal = refusal n
 
--- 17: the step is possible, but its answer is not the claimed one
+-- 17: a step that could be taken, and that would answer something else than it claims
 unfoldable pub claimedOf : Value → State → Stepped → Stepped
 claimedOf claim st r = onAnswer (r .answer) (λ v. pick (sameValue v claim) r (refused 17 st)) (λ n. r)
 
@@ -77,6 +77,6 @@ claimedOf claim st r = onAnswer (r .answer) (λ v. pick (sameValue v claim) r (r
 unfoldable pub innerOf : Config → State → Step → Stepped
 innerOf cfg st s = claimedOf (s .claim) st (possibleOf cfg st s)
 
--- 1: configuration or state not sound; then the step
+-- 1: for an unsound configuration or state; else the step
 unfoldable pub stepOf : Config → State → Step → Stepped
 stepOf cfg st s = pick (soundOf cfg st) (innerOf cfg st s) (refused 1 st)

@@ -73,7 +73,7 @@ enterOf st i a =
 unfoldable pub onTop : Slot → ℕ → Bool
 onTop x a = both (ltb 0 (x .stack .held)) (eqb (topArea (x .stack)) a)
 
--- only the top of the stack is left, and becomes free
+-- an area on top comes off the stack and is free again; no other may be left
 unfoldable pub exitOf : State → ℕ → ℕ → Stepped
 exitOf st i a =
     pick (onTop (slotIn (st .slots) i) a)
@@ -218,11 +218,11 @@ callOf cfg st i o v =
 abbrev pub runningOn : Slot → Slot
 runningOn x = record { used = x .used; life = record { runnable = x .life .runnable; waiting = false; on = 0; finished = x .life .finished }; owed = x .owed; stack = x .stack }
 
--- asynchronous: NoData while the call is open, else the stored value, which stays
+-- asynchronous: NoData as long as the call has not ended, then what the operation is Done with, which it keeps
 unfoldable pub pollOf : State → ℕ → Stepped
 pollOf st o = pick (operationIn (st .operations) o .calling) (took noDataV st) (took (operationIn (st .operations) o .done) st)
 
--- synchronous: once the operation is Done the stored value, which stays, and the instance runs on
+-- synchronous: as soon as the call has ended, what the operation is Done with, which it keeps, and the caller waits no longer
 unfoldable pub collectOf : State → ℕ → ℕ → Stepped
 collectOf st i o =
     pick (operationIn (st .operations) o .calling) (refused 10 st)
@@ -259,7 +259,7 @@ closed cfg st o v =
 unfoldable pub answers : Operations → Client → Bool
 answers os c = both (operationIn os (c .operation) .calling) (eqb (operationIn os (c .operation) .number) (c .number))
 
--- the client is gone, and the instance is finished
+-- a slot that has handed back: it owes nobody, and its instance counts as finished
 abbrev pub finishing : Slot → Slot
 finishing x = record { used = x .used; life = record { runnable = x .life .runnable; waiting = x .life .waiting; on = x .life .on; finished = true }; owed = noOwed; stack = x .stack }
 
@@ -272,7 +272,7 @@ handBackOf cfg st i v =
     (took (numberV 0) (withSlots st (withSlot (st .slots) i (finishing (slotIn (st .slots) i))))))
     (refused 16 st)
 
--- an open call at count 0 becomes Done(Timeout)
+-- a call that is open, and whose count has run out, ends with Timeout
 unfoldable pub timeoutOf : Config → State → ℕ → Stepped
 timeoutOf cfg st o =
     pick (both (operationIn (st .operations) o .calling) (eqb (operationIn (st .operations) o .count) 0)) (took voidV (closed cfg st o timeoutV)) (refused 14 st)
@@ -298,11 +298,11 @@ endOf st i =
 unfoldable pub isDue : RunnableConf → Runnable → Bool
 isDue c x = pick (eqb (c .capacity) 0) (x .pending) (ltb 0 (x .requests .queued))
 
--- the three needs: start interval 0; no instance or the concurrent flag; due
+-- the three needs: the start interval has run out; it is concurrent or has no instance; it is due
 unfoldable pub maySpawn : RunnableConf → Runnable → Bool
 maySpawn c x = both (eqb (x .interval) 0) (both (either (eqb (x .instances) 0) (c .concurrent)) (isDue c x))
 
--- the interval is reset and the count goes up; a plain runnable becomes idle, a server's oldest request is taken
+-- a runnable after its spawn: the interval starts again, there is one instance more, and a plain one is idle, a server without its oldest request
 unfoldable pub starting : RunnableConf → Runnable → Runnable
 starting c x =
     pick (eqb (c .capacity) 0)
@@ -354,7 +354,7 @@ tickOf cfg st t =
 
 -- ---- 18: wait
 
--- what lets t pass: an open call, a timer and a running start interval with a count of at least t
+-- what lets t pass: each open call, each timer and each start interval that still runs has t or more left
 unfoldable pub operationLets : ℕ → Operation → Bool
 operationLets t x = either (not (x .calling)) (leb t (x .count))
 
@@ -373,7 +373,7 @@ timersLet cfg ts t = allBelow (λ (k : ℕ). timerLets t (timerIn ts k)) (cfg .t
 unfoldable pub runnablesLet : Config → Runnables → ℕ → Bool
 runnablesLet cfg rs t = allBelow (λ (r : ℕ). runnableLets t (runnableIn rs r)) (cfg .runnables .n)
 
--- each of those loses t; an interval at 0 stays 0
+-- afterwards each of those has t less; an interval that had run out is at 0 as before
 unfoldable pub operationAfter : ℕ → Operation → Operation
 operationAfter t x = pick (x .calling) (record { number = x .number; calling = true; count = x .count - t; done = x .done }) x
 

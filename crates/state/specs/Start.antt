@@ -46,7 +46,7 @@ startVariables t = record { at = eachBelow (λ (k : ℕ) (x : Variable). startVa
 unfoldable pub startElements : RequiredConfs → Elements
 startElements t = record { at = eachBelow (λ (k : ℕ) (x : Element). startElement (requiredConfIn t k)) noElement (t .n) (noElements .at) }
 
--- no instances, intervals and timers at 0, areas free, operations at number 0, Done(Void)
+-- all slots empty, all areas free, intervals and timers at 0, each operation Done(Void) under number 0, and the rest as its kind starts
 unfoldable pub startOf : Config → State
 startOf cfg = record {
   runnables = startRunnables (cfg .runnables);

@@ -1,0 +1,28 @@
+-- What a board may rely on: the contract of a lent step leaves no choice, and a refusal changes nothing there.
+-- Assumes nothing.
+use Prim.Native.Nat.{ℕ, _<_}
+use mathlib.Core.Path.{_≡_, sym, _∙_}
+use Rattle.values.specs.declared.Step.{Step}
+use Rattle.values.specs.declared.Answer.{Answer}
+use Rattle.values.specs.declared.Answer.the-variants.{Refused}
+use Rattle.config.specs.declared.Config.{Config}
+use Rattle.state.specs.declared.State.{State}
+use Rattle.rules.specs.Step.{stepOf}
+use Rattle.board.proofs.Refusals.{refusal-keeps, never-zero}
+
+module _ (cfg : Config) (st : State) (s : Step) where
+  -- the contract: the answer, and the state that is left
+  abbrev pub Lends : Answer → State → Type 0
+  Lends r t = (r ≡ stepOf cfg st s .answer) × (t ≡ stepOf cfg st s .state)
+
+  -- no two that differ meet it
+  pub lent-unique : (r r′ : Answer) (t t′ : State) → Lends r t → Lends r′ t′ → (r ≡ r′) × (t ≡ t′)
+  lent-unique r r′ t t′ p p′ = (p .0 ∙ sym (p′ .0), p .1 ∙ sym (p′ .1))
+
+  -- a refused step leaves the lent state as it was
+  pub lent-stays : (n : ℕ) (r : Answer) (t : State) → Lends r t → r ≡ Refused n → t ≡ st
+  lent-stays n r t p e = p .1 ∙ refusal-keeps cfg st s n (sym (p .0) ∙ e)
+
+  -- and its number is not 0
+  pub lent-number : (n : ℕ) (r : Answer) (t : State) → Lends r t → r ≡ Refused n → 0 < n
+  lent-number n r t p e = never-zero cfg st s n (sym (p .0) ∙ e)

@@ -1,0 +1,14 @@
+-- The last two of the refusals that all steps of a slot share, as one function computes them.
+-- Assumes nothing.
+use Prim.Native.Nat.{ℕ}
+use mathlib.Core.Bool.{Bool, true, false}
+use Rattle.laws.specs.Choice.{pick}
+use Rattle.config.specs.declared.Config.{Config}
+use Rattle.state.specs.declared.Life.{Life}
+use Rattle.rules.specs.Sound.{componentOf}
+use Rattle.rules.specs.Refusals.{partOf, queueingOf, partOwn, lifeLets}
+
+-- 4, 5 or 0
+unfoldable pub ownedRefusal : Config → Life → ℕ → ℕ → ℕ
+ownedRefusal cfg l code what =
+    pick (partOwn cfg (componentOf cfg (l .runnable)) (partOf code) (queueingOf code) what) (pick (lifeLets cfg l code what) 0 5) 4

@@ -1,0 +1,8 @@
+// The judge: reads rte.cfg and a recording on standard input, and prints one line.
+
+// One byte more than is allowed, so that a longer input is seen to be too long.
+fn main() {
+    let mut config = [0u8; 4097];
+    let mut recording = [0u8; 65537];
+    desk::run(&mut config, &mut recording, 1);
+}

@@ -1,0 +1,181 @@
+-- A configuration that the reader gives is sound.
+-- While a text is read, what stands so far is sound all the time, and no kind above the last tag has a part. A part names only kinds below its own,
+-- so one more of the last kind or a higher one leaves every fault of the others as it was (fault-kept), and its own were tested with the same numbers.
+-- Assumes nothing.
+use Prim.Native.Nat.{ℕ, zero, suc, _+_, _-_, _≤_, _<_}
+use mathlib.Core.Bool.{Bool, true, false, not}
+use mathlib.Core.List.{List}
+use mathlib.Core.Path.{_≡_, refl, sym, ap, _∙_}
+use native.Mathlib.Decide.{ℕ-discrete, decLt}
+use native.Mathlib.Omega.{arith}
+use lib.Dec.{eqb, leb}
+use lib.ListN.{length, drop}
+use borrow.Author.Tests.{ne-eqb, eqb-true, leb-true}
+use Rattle.laws.specs.Choice.{pick}
+use Rattle.laws.proofs.Choosing.{both-left, pick-has}
+use Rattle.config.specs.declared.Config.{Config}
+use Rattle.config.specs.Tables.{noConfig}
+use Rattle.entries.specs.declared.Entry.{Entry}
+use Rattle.entries.specs.Entries.{countOf, entryOf, placed}
+use Rattle.entries.specs.Faults.{entryFault, configSound}
+use Rattle.reading.specs.Reading.{entryIn, inOrder, headOf, bodyFault, wholeOf, refusedAt, onHead, readFrom, configOf}
+use Rattle.reading.specs.declared.Outcome.the-variants.{Whole}
+use Rattle.reading.specs.declared.Reading.{Reading}
+use Rattle.reading.specs.declared.Head.{Head}
+use Rattle.reading.specs.declared.Head.the-variants.{Field, End, Bad}
+use Rattle.reading.proofs.Ahead.{field-frame}
+use Rattle.reading.proofs.Adding.{Adds, adds, back-read}
+use Rattle.reading.proofs.Kept.{fault-kept}
+use Rattle.reading.proofs.Told.{fault-told, kind-tag, Kind, config-told, config-made, blank-sound}
+
+-- ---- while reading
+
+-- what stands behind a field with the tag last: sound, with no part of a higher kind
+pub record Sofar (cfg : Config) (last : ℕ) : Type 0 where
+  pub kinds : (k : ℕ) → 0x10 ≤ k → k ≤ 0x19 → Kind cfg k
+  pub above : (k : ℕ) → last < k → countOf cfg k ≡ 0
+
+-- a blank configuration has no part of any kind
+none-of : (b : Bool) (n : ℕ) → n ≡ 0 → pick b 0 n ≡ 0
+none-of true n h = refl
+none-of false n h = h
+
+blank-none : (k : ℕ) → countOf noConfig k ≡ 0
+unfolding countOf noConfig
+blank-none k =
+    none-of (eqb k 0x10) _ (none-of (eqb k 0x11) _ (none-of (eqb k 0x12) _ (none-of (eqb k 0x13) _ (none-of (eqb k 0x14) _
+    (none-of (eqb k 0x15) _ (none-of (eqb k 0x16) _ (none-of (eqb k 0x17) _ (none-of (eqb k 0x18) _ (none-of (eqb k 0x19) 0 refl)))))))))
+
+sofar-starts : Sofar noConfig 0
+sofar-starts = record { kinds = config-told noConfig blank-sound; above = λ k l. blank-none k }
+
+-- one part more, of the last kind or a higher one, that was tested without fault
+module _ (cfg cfg′ : Config) (last tag : ℕ) (e : Entry) (f : Sofar cfg last) (a : Adds cfg cfg′ tag e) (up : last ≤ tag) (h : entryFault cfg tag (countOf cfg tag) e ≡ 0) where
+  -- what was found of an entry is still so
+  kept : (k i : ℕ) → k ≤ tag → i ≤ countOf cfg k → (x : Entry) → entryFault cfg′ k i x ≡ entryFault cfg k i x
+  kept k i l c x =
+      fault-kept cfg cfg′ k (λ j m. a .counts j (λ q. omega (arith, l, m, q))) (λ j n m. a .others j n (λ q. omega (arith, l, m, q))) i (λ z. before z (ℕ-discrete k tag)) x
+    where
+      before : (i ≡ 0 → ⊥) → Dec (k ≡ tag) → entryOf cfg′ k (i - 1) ≡ entryOf cfg k (i - 1)
+      before z (yes q) = rw q (a .earlier (i - 1) (λ r. omega (arith, r, z, ap (countOf cfg) q)))
+      before z (no n) = a .others k (i - 1) n
+
+  -- the kind that has grown
+  grown : Kind cfg tag → Kind cfg′ tag
+  grown g =
+      record {
+        places = a .places tag ∙ g .places;
+        room = omega (arith, a .own, fault-told cfg tag (countOf cfg tag) e h .0);
+        used = λ i l. stands i (omega (arith, l, a .own)) (ℕ-discrete i (countOf cfg tag));
+        blank = λ i l m. rw (a .earlier i (λ q. omega (arith, q, m, a .own))) (g .blank i l (omega (arith, m, a .own)));
+      }
+    where
+      stands : (i : ℕ) → i ≤ countOf cfg tag → Dec (i ≡ countOf cfg tag) → entryFault cfg′ tag i (entryOf cfg′ tag i) ≡ 0
+      stands i l (yes q) = rw (q, a .entry) (kept tag (countOf cfg tag) (omega arith) (omega arith) e ∙ h)
+      stands i l (no n) = rw (a .earlier i n) (kept tag i (omega arith) l (entryOf cfg tag i) ∙ g .used i (omega (arith, l, n)))
+
+  -- a kind below it, and one above it
+  lower : (k : ℕ) → k ≤ tag → (k ≡ tag → ⊥) → Kind cfg k → Kind cfg′ k
+  lower k l n g =
+      record {
+        places = a .places k ∙ g .places;
+        room = omega (arith, a .counts k n, g .room);
+        used = λ i m. rw (a .others k i n) (let c : i < countOf cfg k = omega (arith, m, a .counts k n) in kept k i l (omega arith) (entryOf cfg k i) ∙ g .used i c);
+        blank = λ i m c. rw (a .others k i n) (g .blank i m (omega (arith, c, a .counts k n)));
+      }
+
+  higher : (k : ℕ) → tag < k → Kind cfg k → Kind cfg′ k
+  higher k l g =
+      let n : k ≡ tag → ⊥ = λ q. omega (arith, l, q) in
+      let z : countOf cfg′ k ≡ 0 = a .counts k n ∙ f .above k (omega arith) in
+      record {
+        places = a .places k ∙ g .places;
+        room = omega (arith, z);
+        used = λ i m. absurd (omega (arith, m, z));
+        blank = λ i m c. rw (a .others k i n) (g .blank i m (omega (arith, f .above k (omega arith))));
+      }
+
+  sofar-grows : 0x10 ≤ tag → tag ≤ 0x19 → Sofar cfg′ tag
+  sofar-grows low high =
+      record {
+        kinds = λ k b c. which k (f .kinds k b c) (ℕ-discrete k tag) (decLt tag k);
+        above = λ k l. a .counts k (λ q. omega (arith, l, q)) ∙ f .above k (omega arith);
+      }
+    where
+      which : (k : ℕ) → Kind cfg k → Dec (k ≡ tag) → Dec (tag < k) → Kind cfg′ k
+      which k g (yes q) d = rw q (grown (rw q at g))
+      which k g (no n) (yes l) = higher k l g
+      which k g (no n) (no l) = lower k (omega (arith, l)) n g
+
+-- the tags do not fall
+order-up : (last tag : ℕ) → inOrder last tag ≡ true → last ≤ tag
+unfolding inOrder
+order-up last tag h = go (ℕ-discrete last 0)
+  where
+    go : Dec (last ≡ 0) → last ≤ tag
+    go (yes z) = omega (arith, z)
+    go (no n) = leb-true last tag (both-left (leb last tag) (not (eqb tag 0x01)) (rw (ne-eqb last 0 n) at h))
+
+-- a part without fault
+sofar-part : (cfg : Config) (last tag : ℕ) (t : List ℕ) → Sofar cfg last → last ≤ tag → entryFault cfg tag (countOf cfg tag) (entryIn tag t) ≡ 0 → Sofar (placed cfg tag (entryIn tag t)) tag
+sofar-part cfg last tag t f up h =
+    let r = fault-told cfg tag (countOf cfg tag) (entryIn tag t) h in
+    let k = kind-tag tag (omega (arith, r .0)) in
+    let a = adds cfg (entryIn tag t) tag (k .0) (k .1) (r .0) (f .kinds tag (k .0) (k .1) .places) in
+    sofar-grows cfg (placed cfg tag (entryIn tag t)) last tag (entryIn tag t) f (rw (back-read tag (k .0) (k .1) t (r .1)) at a) up h (k .0) (k .1)
+
+-- a field without fault, the edition or a part
+sofar-field : (cfg : Config) (last tag : ℕ) (t : List ℕ) → Sofar cfg last → last ≤ tag → bodyFault cfg tag t ≡ 0 → Sofar (placed cfg tag (entryIn tag t)) tag
+unfolding bodyFault placed
+sofar-field cfg last tag t f up h = go (ℕ-discrete tag 0x01)
+  where
+    go : Dec (tag ≡ 0x01) → Sofar (placed cfg tag (entryIn tag t)) tag
+    go (yes q) = rw q (record { kinds = f .kinds; above = λ k l. f .above k (omega (arith, q, up, l)) })
+    go (no n) = sofar-part cfg last tag t f up (rw (ne-eqb tag 0x01 n) at h)
+
+-- ---- the whole text
+
+-- what a reading gives: a sound configuration in any case, and a blank one beside a refusal
+pub record Given (r : Reading) : Type 0 where
+  pub sound : configSound (r .config) ≡ true
+  pub blank : (r .outcome ≡ Whole → ⊥) → r .config ≡ noConfig
+
+given-refused : (number place : ℕ) → Given (refusedAt number place)
+unfolding refusedAt
+given-refused number place = record { sound = blank-sound; blank = λ _. refl }
+
+given-from : (fuel : ℕ) (t : List ℕ) (cfg : Config) (last place : ℕ) → Sofar cfg last → Given (readFrom fuel t cfg last place)
+unfolding readFrom
+given-from zero t cfg last place f = given-refused 21 place
+given-from (suc fuel) t cfg last place f = go (λ tag size g. given-from fuel (drop (3 + size) t) (placed cfg tag (entryIn tag t)) tag (place + 1) g) (headOf t last) refl
+  where
+    next : ℕ → ℕ → Reading
+    next tag size = readFrom fuel (drop (3 + size) t) (placed cfg tag (entryIn tag t)) tag (place + 1)
+
+    go : ((tag size : ℕ) → Sofar (placed cfg tag (entryIn tag t)) tag → Given (next tag size)) → (x : Head) → headOf t last ≡ x → Given (onHead x t cfg place next)
+    go rest (Bad number) e = given-refused number place
+    go rest End e =
+        pick-has Given (eqb (length t) 3) (wholeOf cfg) (refusedAt 21 (place + 1))
+        (λ _. record { sound = config-made cfg (f .kinds); blank = λ n. absurd (n refl) })
+        (λ _. given-refused 21 (place + 1))
+    go rest (Field tag size) e =
+        pick-has Given (eqb (bodyFault cfg tag t) 0) (next tag size) (refusedAt (bodyFault cfg tag t) place)
+        (λ z. rest tag size (sofar-field cfg last tag t f (order-up last tag (field-frame t last e .order)) (eqb-true (bodyFault cfg tag t) 0 z)))
+        (λ _. given-refused (bodyFault cfg tag t) place)
+
+-- any bytes whatever
+pub given : (s : List ℕ) → Given (configOf s)
+unfolding configOf
+given s = given-from (suc (length s)) s noConfig 0 1 sofar-starts
+
+-- a whole configuration is sound
+pub read-sound : (s : List ℕ) → configOf s .outcome ≡ Whole → configSound (configOf s .config) ≡ true
+read-sound s h = given s .sound
+
+-- a refused one is blank
+pub read-blank : (s : List ℕ) → (configOf s .outcome ≡ Whole → ⊥) → configOf s .config ≡ noConfig
+read-blank s = given s .blank
+
+-- two readings of the same bytes are the same
+pub read-once : (s : List ℕ) (r r′ : Reading) → r ≡ configOf s → r′ ≡ configOf s → r ≡ r′
+read-once s r r′ p q = p ∙ sym q

@@ -1,0 +1,37 @@
+use mathlib.Core.Path.{_≡_}
+use mathlib.Core.Bool.{true}
+use borrow.Author.Tests.{not-true, not-false, eq-eqb}
+use lib.ListN.{length}
+use Rattle.laws.specs.Choice.{allOf}
+use Rattle.laws.proofs.Places.{length-mapped}
+use Rattle.rules.specs.Sound.{shaped}
+use Rattle.sound.proofs.Whole.{sound-split}
+use Rattle.sound.proofs.is_sound.Statement.{statement}
+use Rattle.sound.proofs.is_sound.Tie as tie
+
+-- the lengths of the tables, from what is known of the fields of a state, one behind the other
+shape : (c : tie.Start) → shaped (c .args .st) ≡ true
+unfolding shaped allOf
+shape c =
+    let known = c .good .1 .0 .1 .1 in
+    let runnables : length (c .args .st .runnables .at) ≡ 16 = search (length-mapped, known .0) in
+    let variables : length (c .args .st .variables .at) ≡ 16 = search (length-mapped, known .1 .0) in
+    let areas : length (c .args .st .areas .at) ≡ 16 = search (length-mapped, known .1 .1 .0) in
+    let elements : length (c .args .st .elements .at) ≡ 16 = search (length-mapped, known .1 .1 .1 .0) in
+    let operations : length (c .args .st .operations .at) ≡ 8 = search (length-mapped, known .1 .1 .1 .1 .0) in
+    let timers : length (c .args .st .timers .at) ≡ 8 = search (length-mapped, known .1 .1 .1 .1 .1 .0) in
+    let slots : length (c .args .st .slots .at) ≡ 32 = search (length-mapped, known .1 .1 .1 .1 .1 .1 .0) in
+    rw (eq-eqb _ _ runnables, eq-eqb _ _ variables, eq-eqb _ _ areas, eq-eqb _ _ elements, eq-eqb _ _ operations, eq-eqb _ _ timers, eq-eqb _ _ slots)
+
+returns : tie.Need-returns
+returns c = rw (sound-split, ← c .before .config-sound .ensures, not-true (c .before .config-sound .result) (c .if1 .taken))
+
+returns-2 : tie.Need-returns-2
+returns-2 c = rw (sound-split, ← c .before .before .before .config-sound .ensures, not-false (c .before .before .before .config-sound .result) (c .before .before .if1 .left), shape (c .before .before .before .before), ← c .before .parts-sound .ensures, not-true (c .before .parts-sound .result) (c .if2 .taken))
+
+returns-3 : tie.Need-returns-3
+returns-3 c = rw (sound-split, ← c .before .before .before .before .config-sound .ensures, not-false (c .before .before .before .before .config-sound .result) (c .before .before .before .if1 .left), shape (c .before .before .before .before .before), ← c .before .before .parts-sound .ensures, not-false (c .before .before .parts-sound .result) (c .before .if2 .left), c .ties-sound .ensures)
+
+pub is-sound-spec : {M : Type 1} → statement M
+is-sound-spec =
+    tie.close (tie.spec (λ c κs. tt) returns (λ c κs. tt) returns-2 (λ c κs. tt) returns-3)

@@ -1,0 +1,35 @@
+use mathlib.Core.Path.{sym}
+use borrow.Author.Tests.{not-true, not-false}
+use Rattle.laws.specs.Choice.{allOf}
+use Rattle.sound.proofs.Whole.{variables-only, elements-only, operations-only, timers-only}
+use Rattle.sound.proofs.Rows.{last-test}
+use Rattle.sound.proofs.parts_sound.Statement.{statement}
+use Rattle.sound.proofs.parts_sound.Tie as tie
+
+returns : tie.Need-returns
+unfolding allOf
+returns c = rw (← c .before .runnables-sound .ensures, not-true (c .before .runnables-sound .result) (c .if1 .taken))
+
+returns-2 : tie.Need-returns-2
+unfolding allOf
+returns-2 c = rw (← c .before .before .before .before .runnables-sound .ensures, not-false (c .before .before .before .before .runnables-sound .result) (c .before .before .before .if1 .left), ← variables-only (c .before .before .before .before .before .before .args .cfg) (c .before .before .before .before .before .before .args .st .variables), ← c .before .variables-sound .ensures, not-true (c .before .variables-sound .result) (c .if2 .taken))
+
+returns-3 : tie.Need-returns-3
+unfolding allOf
+returns-3 c = rw (← c .before .before .before .before .before .before .before .runnables-sound .ensures, not-false (c .before .before .before .before .before .before .before .runnables-sound .result) (c .before .before .before .before .before .before .if1 .left), ← variables-only (c .before .before .before .before .before .before .before .before .before .args .cfg) (c .before .before .before .before .before .before .before .before .before .args .st .variables), ← c .before .before .before .before .variables-sound .ensures, not-false (c .before .before .before .before .variables-sound .result) (c .before .before .before .if2 .left), ← elements-only (c .before .before .before .before .before .before .before .before .before .args .cfg) (c .before .before .before .before .before .before .before .before .before .args .st .elements), ← c .before .elements-sound .ensures, not-true (c .before .elements-sound .result) (c .if3 .taken))
+
+returns-4 : tie.Need-returns-4
+unfolding allOf
+returns-4 c = rw (← c .before .before .before .before .before .before .before .before .before .before .runnables-sound .ensures, not-false (c .before .before .before .before .before .before .before .before .before .before .runnables-sound .result) (c .before .before .before .before .before .before .before .before .before .if1 .left), ← variables-only (c .before .before .before .before .before .before .before .before .before .before .before .before .args .cfg) (c .before .before .before .before .before .before .before .before .before .before .before .before .args .st .variables), ← c .before .before .before .before .before .before .before .variables-sound .ensures, not-false (c .before .before .before .before .before .before .before .variables-sound .result) (c .before .before .before .before .before .before .if2 .left), ← elements-only (c .before .before .before .before .before .before .before .before .before .before .before .before .args .cfg) (c .before .before .before .before .before .before .before .before .before .before .before .before .args .st .elements), ← c .before .before .before .before .elements-sound .ensures, not-false (c .before .before .before .before .elements-sound .result) (c .before .before .before .if3 .left), ← operations-only (c .before .before .before .before .before .before .before .before .before .before .before .before .args .cfg) (c .before .before .before .before .before .before .before .before .before .before .before .before .args .st .operations), ← c .before .operations-sound .ensures, not-true (c .before .operations-sound .result) (c .if4 .taken))
+
+returns-5 : tie.Need-returns-5
+unfolding allOf
+returns-5 c = rw (← c .before .before .before .before .before .before .before .before .before .before .before .before .before .runnables-sound .ensures, not-false (c .before .before .before .before .before .before .before .before .before .before .before .before .before .runnables-sound .result) (c .before .before .before .before .before .before .before .before .before .before .before .before .if1 .left), ← variables-only (c .before .before .before .before .before .before .before .before .before .before .before .before .before .before .before .args .cfg) (c .before .before .before .before .before .before .before .before .before .before .before .before .before .before .before .args .st .variables), ← c .before .before .before .before .before .before .before .before .before .before .variables-sound .ensures, not-false (c .before .before .before .before .before .before .before .before .before .before .variables-sound .result) (c .before .before .before .before .before .before .before .before .before .if2 .left), ← elements-only (c .before .before .before .before .before .before .before .before .before .before .before .before .before .before .before .args .cfg) (c .before .before .before .before .before .before .before .before .before .before .before .before .before .before .before .args .st .elements), ← c .before .before .before .before .before .before .before .elements-sound .ensures, not-false (c .before .before .before .before .before .before .before .elements-sound .result) (c .before .before .before .before .before .before .if3 .left), ← operations-only (c .before .before .before .before .before .before .before .before .before .before .before .before .before .before .before .args .cfg) (c .before .before .before .before .before .before .before .before .before .before .before .before .before .before .before .args .st .operations), ← c .before .before .before .before .operations-sound .ensures, not-false (c .before .before .before .before .operations-sound .result) (c .before .before .before .if4 .left), ← timers-only (c .before .before .before .before .before .before .before .before .before .before .before .before .before .before .before .args .cfg) (c .before .before .before .before .before .before .before .before .before .before .before .before .before .before .before .args .st .timers), ← c .before .timers-sound .ensures, not-true (c .before .timers-sound .result) (c .if5 .taken))
+
+returns-6 : tie.Need-returns-6
+unfolding allOf
+returns-6 c = rw (← c .before .before .before .before .before .before .before .before .before .before .before .before .before .before .before .runnables-sound .ensures, not-false (c .before .before .before .before .before .before .before .before .before .before .before .before .before .before .before .runnables-sound .result) (c .before .before .before .before .before .before .before .before .before .before .before .before .before .before .if1 .left), ← variables-only (c .before .before .before .before .before .before .before .before .before .before .before .before .before .before .before .before .before .args .cfg) (c .before .before .before .before .before .before .before .before .before .before .before .before .before .before .before .before .before .args .st .variables), ← c .before .before .before .before .before .before .before .before .before .before .before .before .variables-sound .ensures, not-false (c .before .before .before .before .before .before .before .before .before .before .before .before .variables-sound .result) (c .before .before .before .before .before .before .before .before .before .before .before .if2 .left), ← elements-only (c .before .before .before .before .before .before .before .before .before .before .before .before .before .before .before .before .before .args .cfg) (c .before .before .before .before .before .before .before .before .before .before .before .before .before .before .before .before .before .args .st .elements), ← c .before .before .before .before .before .before .before .before .before .elements-sound .ensures, not-false (c .before .before .before .before .before .before .before .before .before .elements-sound .result) (c .before .before .before .before .before .before .before .before .if3 .left), ← operations-only (c .before .before .before .before .before .before .before .before .before .before .before .before .before .before .before .before .before .args .cfg) (c .before .before .before .before .before .before .before .before .before .before .before .before .before .before .before .before .before .args .st .operations), ← c .before .before .before .before .before .before .operations-sound .ensures, not-false (c .before .before .before .before .before .before .operations-sound .result) (c .before .before .before .before .before .if4 .left), ← timers-only (c .before .before .before .before .before .before .before .before .before .before .before .before .before .before .before .before .before .args .cfg) (c .before .before .before .before .before .before .before .before .before .before .before .before .before .before .before .before .before .args .st .timers), ← c .before .before .before .timers-sound .ensures, not-false (c .before .before .before .timers-sound .result) (c .before .before .if5 .left), ← c .slots-sound .ensures) (sym (last-test (c .slots-sound .result)))
+
+pub parts-sound-spec : {M : Type 1} → statement M
+parts-sound-spec =
+    tie.close (tie.spec (λ c κs. tt) returns (λ c κs. tt) returns-2 (λ c κs. tt) returns-3 (λ c κs. tt) returns-4 (λ c κs. tt) returns-5 (λ c κs. tt) returns-6)

@@ -1,0 +1,47 @@
+use borrow.Author.Needs.{needs}
+use mathlib.Core.Path.{_≡_, sym, _∙_}
+use mathlib.Core.Bool.{true}
+use native.Mathlib.Omega.{arith}
+use Prim.Native.Nat.{_≤_, _-_}
+use lib.ListN.{length}
+use Rattle.laws.specs.Loop.{allBelow}
+use Rattle.laws.specs.Row.{placeFilled}
+use Rattle.laws.proofs.Looping.{all-none, all-more}
+use Rattle.laws.proofs.Places.{length-mapped}
+use Rattle.state.specs.Parts.{noClient}
+use Rattle.rules.specs.Sound.{isNoClient, clientFits}
+use Rattle.sound.specs.Only.{onlyOperations}
+use Rattle.sound.proofs.Rows.{row-fails, row-passes}
+use Rattle.sound.proofs.requests_filled.Statement.{statement}
+use Rattle.sound.proofs.requests_filled.Tie as tie
+
+abbrev Inv-loop : tie.InvT-loop
+Inv-loop t r q j₀ j = (j ≤ 16) × (allBelow (placeFilled (clientFits (onlyOperations t) r) isNoClient noClient (q .queued) (q .at)) j ≡ true)
+
+abbrev μ-loop : tie.MeasureT-loop
+μ-loop t r q j₀ j = 16 - j
+
+loop-holds : tie.Need-loop-holds Inv-loop μ-loop
+loop-holds c = (search needs, all-none _)
+
+add-j : tie.Need-add-j Inv-loop μ-loop
+add-j c = omega (arith, c .before .before .loop-test .taken)
+
+loop-less : tie.Need-loop-less Inv-loop μ-loop
+loop-less c = omega (arith, c .before .before .loop-test .taken)
+
+loop-again : tie.Need-loop-again Inv-loop μ-loop
+loop-again c = (omega (arith, c .before .before .loop-test .taken), all-more _ _ (c .before .before .before .loop .inv .1) (sym (c .before .request-filled .ensures) ∙ c .if1 .taken))
+
+returns : tie.Need-returns Inv-loop μ-loop
+returns c = sym (row-fails _ _ _ _ _ _ (c .before .before .before .loop .j) (c .before .before .loop-test .taken) (sym (c .before .request-filled .ensures) ∙ c .if1 .left))
+
+returns-2 : tie.Need-returns-2 Inv-loop μ-loop
+returns-2 c =
+    let e : c .before .loop .j ≡ 16 = omega (arith, c .loop-test .left, c .before .loop .inv .0) in
+    let h : length (c .before .before .args .q .at) ≡ 16 = search (needs, length-mapped) in
+    sym (row-passes _ _ _ _ _ _ h (rw e at (c .before .loop .inv .1)))
+
+pub requests-filled-spec : {M : Type 1} → statement M
+requests-filled-spec =
+    tie.close (tie.spec Inv-loop μ-loop loop-holds (λ c κs. tt) add-j loop-less loop-again returns returns-2)

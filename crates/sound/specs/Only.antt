@@ -1,0 +1,24 @@
+-- A configuration of which one table is given and the rest is blank: in it a function says what it answers that is handed only the table that its test reads.
+-- Assumes nothing.
+use Rattle.config.specs.declared.Config.{Config}
+use Rattle.config.specs.declared.VariableConfs.{VariableConfs}
+use Rattle.config.specs.declared.AreaConfs.{AreaConfs}
+use Rattle.config.specs.declared.RequiredConfs.{RequiredConfs}
+use Rattle.config.specs.declared.OperationConfs.{OperationConfs}
+use Rattle.config.specs.declared.TimerConfs.{TimerConfs}
+use Rattle.config.specs.Tables.{noRunnableConfs, noVariableConfs, noAreaConfs, noRequiredConfs, noProvidedConfs, noLinks, noOperationConfs, noTimerConfs, noDataEvents, noReturnEvents}
+
+unfoldable pub onlyVariables : VariableConfs → Config
+onlyVariables t = record { runnables = noRunnableConfs; variables = t; areas = noAreaConfs; required = noRequiredConfs; provided = noProvidedConfs; links = noLinks; operations = noOperationConfs; timers = noTimerConfs; devents = noDataEvents; revents = noReturnEvents }
+
+unfoldable pub onlyAreas : AreaConfs → Config
+onlyAreas t = record { runnables = noRunnableConfs; variables = noVariableConfs; areas = t; required = noRequiredConfs; provided = noProvidedConfs; links = noLinks; operations = noOperationConfs; timers = noTimerConfs; devents = noDataEvents; revents = noReturnEvents }
+
+unfoldable pub onlyRequired : RequiredConfs → Config
+onlyRequired t = record { runnables = noRunnableConfs; variables = noVariableConfs; areas = noAreaConfs; required = t; provided = noProvidedConfs; links = noLinks; operations = noOperationConfs; timers = noTimerConfs; devents = noDataEvents; revents = noReturnEvents }
+
+unfoldable pub onlyOperations : OperationConfs → Config
+onlyOperations t = record { runnables = noRunnableConfs; variables = noVariableConfs; areas = noAreaConfs; required = noRequiredConfs; provided = noProvidedConfs; links = noLinks; operations = t; timers = noTimerConfs; devents = noDataEvents; revents = noReturnEvents }
+
+unfoldable pub onlyTimers : TimerConfs → Config
+onlyTimers t = record { runnables = noRunnableConfs; variables = noVariableConfs; areas = noAreaConfs; required = noRequiredConfs; provided = noProvidedConfs; links = noLinks; operations = noOperationConfs; timers = t; devents = noDataEvents; revents = noReturnEvents }

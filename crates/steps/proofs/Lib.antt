@@ -1,0 +1,3 @@
+-- Laws that the proofs of the steps cite.
+pub mod Stopping
+pub mod Noted

@@ -1,0 +1,11 @@
+use Rattle.rules.specs.Steps.{closing}
+use Rattle.steps.proofs.closing.Statement.{statement}
+use Rattle.steps.proofs.closing.Tie as tie
+
+returns : tie.Need-returns
+unfolding closing
+returns c = rw (c .wrapping-add-u16 .ensures)
+
+pub closing-spec : {M : Type 1} → statement M
+closing-spec =
+    tie.close (tie.spec (λ c κs. tt) returns)

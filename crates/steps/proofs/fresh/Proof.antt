@@ -1,0 +1,12 @@
+use mathlib.Core.Path.{refl}
+use Rattle.state.specs.Parts.{noStack}
+use Rattle.steps.proofs.fresh.Statement.{statement}
+use Rattle.steps.proofs.fresh.Tie as tie
+
+returns : tie.Need-returns
+unfolding noStack
+returns c = refl
+
+pub fresh-spec : {M : Type 1} → statement M
+fresh-spec =
+    tie.close (tie.spec returns)

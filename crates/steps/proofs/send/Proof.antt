@@ -1,0 +1,23 @@
+use lib.ListN.{length}
+use mathlib.Core.Path.{_≡_}
+use Rattle.laws.proofs.Places.{length-mapped}
+use Rattle.rules.specs.Steps.{fed, sendOf}
+use Rattle.steps.proofs.Noted.{any-full-by, fed-runnables-by}
+use Rattle.steps.proofs.send.Statement.{statement}
+use Rattle.steps.proofs.send.Tie as tie
+
+returns : tie.Need-returns
+unfolding sendOf fed
+returns c =
+    let e : length (c .before .before .before .before .before .before .before .before .args .cfg .required .at) ≡ 16 = search (length-mapped, c .before .before .before .before .before .before .before .before .good .0 .1 .1 .1 .1 .1 .0 .1 .1 .1 .0 .1 .0 .1) in
+    rw (← any-full-by (c .before .before .before .before .before .before .before .before .args .cfg) (c .before .before .before .before .before .before .before .before .args .st .elements) e, ← c .before .before .before .before .before .of .ensures, ← c .before .before .any-full .ensures, c .before .if1 .taken, c .take .ensures, c .before .before .before .fed-runnables .ensures, c .before .before .before .before .fed-elements .ensures, c .before .before .before .before .before .of .ensures, fed-runnables-by (c .before .before .before .before .before .before .before .before .args .cfg) (c .before .before .before .before .before .before .before .before .args .st .elements) e)
+
+returns-2 : tie.Need-returns-2
+unfolding sendOf fed
+returns-2 c =
+    let e : length (c .before .before .before .before .before .before .before .before .args .cfg .required .at) ≡ 16 = search (length-mapped, c .before .before .before .before .before .before .before .before .good .0 .1 .1 .1 .1 .1 .0 .1 .1 .1 .0 .1 .0 .1) in
+    rw (← any-full-by (c .before .before .before .before .before .before .before .before .args .cfg) (c .before .before .before .before .before .before .before .before .args .st .elements) e, ← c .before .before .before .before .before .of .ensures, ← c .before .before .any-full .ensures, c .before .if1 .left, c .take2 .ensures, c .before .before .before .fed-runnables .ensures, c .before .before .before .before .fed-elements .ensures, c .before .before .before .before .before .of .ensures, fed-runnables-by (c .before .before .before .before .before .before .before .before .args .cfg) (c .before .before .before .before .before .before .before .before .args .st .elements) e)
+
+pub send-spec : {M : Type 1} → statement M
+send-spec =
+    tie.close (tie.spec (λ c κs. tt) (λ c κs. tt) (λ c κs. tt) (λ c κs. tt) (λ c κs. tt) returns (λ c κs. tt) returns-2)

@@ -1,0 +1,16 @@
+use borrow.Author.Tests.{eq-eqb, ne-eqb}
+use Rattle.rules.specs.Steps.{starting}
+use Rattle.steps.proofs.starting.Statement.{statement}
+use Rattle.steps.proofs.starting.Tie as tie
+
+returns : tie.Need-returns
+unfolding starting
+returns c = rw (c .before .before .up-one .ensures, eq-eqb _ _ (c .if1 .taken))
+
+returns-2 : tie.Need-returns-2
+unfolding starting
+returns-2 c = rw (c .before .before .before .before .up-one .ensures, c .rest .ensures, ne-eqb _ _ (c .before .before .if1 .left))
+
+pub starting-spec : {M : Type 1} → statement M
+starting-spec =
+    tie.close (tie.spec (λ c κs. tt) returns (λ c κs. tt) returns-2)

@@ -1,0 +1,12 @@
+use mathlib.Core.Path.{refl}
+use Rattle.rules.specs.Steps.{timerLets}
+use Rattle.steps.proofs.timer_lets.Statement.{statement}
+use Rattle.steps.proofs.timer_lets.Tie as tie
+
+returns : tie.Need-returns
+unfolding timerLets
+returns c = refl
+
+pub timer-lets-spec : {M : Type 1} → statement M
+timer-lets-spec =
+    tie.close (tie.spec returns)

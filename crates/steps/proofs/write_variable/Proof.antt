@@ -1,0 +1,11 @@
+use Rattle.rules.specs.Steps.{writeVariableOf}
+use Rattle.steps.proofs.write_variable.Statement.{statement}
+use Rattle.steps.proofs.write_variable.Tie as tie
+
+returns : tie.Need-returns
+unfolding writeVariableOf
+returns c = rw (c .take .ensures, c .before .with .ensures)
+
+pub write-variable-spec : {M : Type 1} → statement M
+write-variable-spec =
+    tie.close (tie.spec (λ c κs. tt) (λ c κs. tt) returns)

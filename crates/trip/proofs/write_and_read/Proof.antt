@@ -1,0 +1,34 @@
+use Prim.Native.Nat.{ℕ, _<_, _^_}
+use mathlib.Core.Path.{sym, ap, _∙_}
+use lib.ListN.{getD}
+use lib.Seq.{length-take-le}
+use denote.Ref.{now}
+use Rattle.config.specs.declared.Config.{Config}
+use Rattle.config.specs.Tables.{noVariableConf}
+use Rattle.reading.specs.declared.Outcome.the-variants.{Refused}
+use Rattle.reading.specs.Reading.{refusedAt}
+use Rattle.trip.proofs.Fitting.{initials-fit}
+use Rattle.trip.proofs.Back.{back-size, back-whole, back-refused}
+use borrow.Author.Needs.{needs}
+use Rattle.trip.proofs.write_and_read.Statement.{statement}
+use Rattle.trip.proofs.write_and_read.Tie as tie
+
+slice-reshare-prefix-read-config : tie.Need-slice-reshare-prefix-read-config
+slice-reshare-prefix-read-config c = back-size (now (c .before .before .before .before .before .before .before .before .args .buf)) (c .before .before .before .before .before .write-config .last .0) (c .before .before .before .before .before .before .before .before .args .cfg) (c .before .before .before .before .before .write-config .result) (c .before .before .before .before .before .write-config .ensures .0) (c .before .before .before .before .before .write-config .ensures .1) (c .before .size .given .0 .0) (c .before .size .given .1)
+
+slice-aggregate-read-config : tie.Need-slice-aggregate-read-config
+slice-aggregate-read-config c = sym (length-take-le (c .before .before .size .given .0 .0) (c .before .before .before .before .before .before .write-config .last .0) (back-size (now (c .before .before .before .before .before .before .before .before .before .args .buf)) (c .before .before .before .before .before .before .write-config .last .0) (c .before .before .before .before .before .before .before .before .before .args .cfg) (c .before .before .before .before .before .before .write-config .result) (c .before .before .before .before .before .before .write-config .ensures .0) (c .before .before .before .before .before .before .write-config .ensures .1) (c .before .before .size .given .0 .0) (c .before .before .size .given .1)))
+
+returns : tie.Need-returns
+returns c =
+    let v : (i : ℕ) → getD (c .before .before .before .before .before .before .before .before .before .before .args .cfg .variables .at) i noVariableConf .initial < 2 ^ 32 = initials-fit (c .before .before .before .before .before .before .before .before .before .before .args .cfg .variables .at) _ (c .before .before .before .before .before .before .before .before .before .before .good .1 .0 .1 .1 .1 .0 .1 .1 .1 .0 .1 .1) in
+    (c .read-config .ensures ∙ back-whole (now (c .before .before .before .before .before .before .before .before .before .before .args .buf)) (c .before .before .before .before .before .before .before .write-config .last .0) (c .before .before .before .before .before .before .before .before .before .before .args .cfg) (c .before .before .before .before .before .before .before .write-config .result) (c .before .before .before .before .before .before .before .write-config .ensures .0) (c .before .before .before .before .before .before .before .write-config .ensures .1) (c .before .before .before .size .given .0 .0) v (c .before .before .before .size .given .1), c .before .before .before .before .before .before .before .write-config .ensures .1)
+
+returns-2 : tie.Need-returns-2
+unfolding refusedAt
+returns-2 c =
+    (ap (λ (x : Config). record { outcome = Refused (c .before .before .number .given .0 .0) 0; config = x }) (c .none .ensures) ∙ back-refused (now (c .before .before .before .before .before .before .before .before .before .args .buf)) (c .before .before .before .before .before .before .write-config .last .0) (c .before .before .before .before .before .before .before .before .before .args .cfg) (c .before .before .before .before .before .before .write-config .result) (c .before .before .before .before .before .before .write-config .ensures .0) (c .before .before .before .before .before .before .write-config .ensures .1) (c .before .before .number .given .0 .0) (c .before .before .number .given .1), c .before .before .before .before .before .before .write-config .ensures .1)
+
+pub write-and-read-spec : {M : Type 1} → statement M
+write-and-read-spec =
+    tie.close (tie.spec (λ c κs. search needs) (λ c. search needs) slice-reshare-prefix-read-config slice-aggregate-read-config (λ c κs. search needs) (λ c. search needs) (λ c κs. search needs) (λ c. search needs) returns (λ c. search needs) returns-2)

@@ -1,0 +1,2 @@
+-- Document 01, "The files": a configuration's text, there and back.
+pub mod Trip
