@@ -8,7 +8,7 @@ use Rattle.values.specs.declared.Answer.the-variants.{Refused}
 use Rattle.config.specs.declared.Config.{Config}
 use Rattle.state.specs.declared.State.{State}
 use Rattle.rules.specs.Step.{stepOf}
-use Rattle.board.proofs.Refusals.{refusal-keeps, never-zero}
+use Rattle.keep.proofs.Refusals.{refusal-keeps, never-zero}
 
 module _ (cfg : Config) (st : State) (s : Step) where
   -- the contract: the answer, and the state that is left

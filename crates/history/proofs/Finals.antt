@@ -12,11 +12,11 @@ use native.Mathlib.Omega.{arith}
 use lib.Dec.{ltb, leb, eqb}
 use lib.ListN.{getD}
 use lib.Seq.{getD-set-same}
-use borrow.Author.Tests.{leb-true, eq-eqb, lt-ltb, le-ltb}
+use borrow.Author.Tests.{leb-true, eqb-true, eq-eqb, lt-ltb, le-ltb}
 use Rattle.laws.specs.Choice.{pick, both, bit}
 use Rattle.laws.specs.Loop.{sumBelow}
-use Rattle.laws.proofs.Choosing.{both-left, both-right}
-use Rattle.laws.proofs.Looping.{all-at, sum-term, sum-two, sum-find}
+use Rattle.laws.proofs.Choosing.{both-left, both-right, all-told}
+use Rattle.laws.proofs.Looping.{all-at, sum-term, sum-two, sum-find, count-most}
 use Rattle.values.specs.declared.Value.{Value}
 use Rattle.values.specs.declared.Step.{Step}
 use Rattle.values.specs.declared.Answer.the-variants.{Taken}
@@ -27,7 +27,7 @@ use Rattle.entries.specs.Faults.{isServer}
 use Rattle.state.specs.declared.State.{State}
 use Rattle.state.specs.declared.Stepped.{Stepped}
 use Rattle.state.specs.Tables.{areaIn, elementIn, operationIn, slotIn, withSlot, withSlots}
-use Rattle.rules.specs.Sound.{isStored, valuesSound, elementSound, elementsSound, timesIn, holders}
+use Rattle.rules.specs.Sound.{isStored, valuesSound, elementSound, elementsSound, timesIn, holders, isNoSlot, slotSound, slotsSound}
 use Rattle.rules.specs.Refusals.{instanceRefusal}
 use Rattle.rules.specs.Steps.{refused, took, runningOn, pollOf, collectOf, resultOf}
 use Rattle.rules.specs.Step.{instanceActOf, instanceStepOf, possibleOf}
@@ -39,14 +39,26 @@ use Rattle.history.proofs.Accepts.{never}
 
 -- ---- areas
 
+-- a slot whose stack has something is in use: the stack of an empty one is empty
+holder-used : (cfg : Config) (st : State) (a i : ℕ) → Sound cfg st → i < 32 → 1 ≤ timesIn a (slotIn (st .slots) i .stack) → slotIn (st .slots) i .used ≡ true
+unfolding slotsSound slotSound isNoSlot timesIn
+holder-used cfg st a i g b h = go (slotIn (st .slots) i .used) refl
+  where
+    go : (u : Bool) → slotIn (st .slots) i .used ≡ u → slotIn (st .slots) i .used ≡ true
+    go true e = e
+    go false e =
+        let s = all-told _ (rw e at (all-at (λ (k : ℕ). slotSound cfg (slotIn (st .slots) k)) 32 (g .slots) i b)) in
+        let z : slotIn (st .slots) i .stack .held ≡ 0 = eqb-true _ 0 (s .1 .1 .1 .1 .1 .1 .0) in
+        absurd (omega (arith, h, count-most (λ (j : ℕ). eqb (getD (slotIn (st .slots) i .stack .at) j 0) a) (slotIn (st .slots) i .stack .held)))
+
 pub holder : (cfg : Config) (st : State) (a : ℕ) → Sound cfg st → a < 16 → areaIn (st .areas) a .taken ≡ true
-    → (i : ℕ) × (i < 32) × (timesIn a (slotIn (st .slots) i .stack) ≡ 1) × ((j : ℕ) → j < 32 → (j ≡ i → ⊥) → timesIn a (slotIn (st .slots) j .stack) ≡ 0)
+    → (i : ℕ) × (i < 32) × (slotIn (st .slots) i .used ≡ true) × (timesIn a (slotIn (st .slots) i .stack) ≡ 1) × ((j : ℕ) → j < 32 → (j ≡ i → ⊥) → timesIn a (slotIn (st .slots) j .stack) ≡ 0)
 unfolding holders
 holder cfg st a g b e =
     let times : ℕ → ℕ = λ k. timesIn a (slotIn (st .slots) k .stack) in
     let total : sumBelow times 32 ≡ 1 = rw e at (g .areas .once a b) in
     let f = sum-find times 32 (omega (arith, total)) in
-    (f .0, f .1, omega (arith, f .2, total, sum-term times (f .0) 32 (f .1)), λ j c n. omega (arith, f .2, total, sum-two times j (f .0) 32 c (f .1) n))
+    (f .0, f .1, holder-used cfg st a (f .0) g (f .1) (f .2), omega (arith, f .2, total, sum-term times (f .0) 32 (f .1)), λ j c n. omega (arith, f .2, total, sum-two times j (f .0) 32 c (f .1) n))
 
 pub no-holder : (cfg : Config) (st : State) (a : ℕ) → Sound cfg st → a < 16 → areaIn (st .areas) a .taken ≡ false → (i : ℕ) → i < 32 → timesIn a (slotIn (st .slots) i .stack) ≡ 0
 unfolding holders

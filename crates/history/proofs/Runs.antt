@@ -4,15 +4,33 @@
 -- reaches (`along`); a step may use all that is known of the run before it.
 -- Assumes nothing.
 use mathlib.Core.List.{List, [], _∷_, _++_, append-nil, append-assoc}
-use mathlib.Core.Path.{_≡_, refl, subst}
+use Prim.Native.Nat.{ℕ}
+use mathlib.Core.Path.{_≡_, refl, sym, ap, _∙_, subst}
+use native.Mathlib.Omega.{arith}
 use Rattle.values.specs.declared.Step.{Step}
-use Rattle.values.specs.declared.Answer.the-variants.{Taken}
+use Rattle.values.specs.declared.Value.{Value}
+use Rattle.values.specs.declared.Answer.{Answer}
+use Rattle.values.specs.declared.Answer.the-variants.{Taken, Refused}
+use Rattle.values.specs.Values.{refusalIn, valueIn}
 use Rattle.config.specs.declared.Config.{Config}
 use Rattle.state.specs.declared.State.{State}
 use Rattle.state.specs.Start.{startOf}
 use Rattle.rules.specs.Step.{stepOf}
+use Rattle.keep.proofs.Refusals.{never-zero}
 use Rattle.history.specs.History.{History, nothing, observe, historyFrom, historyOf}
-use Rattle.history.specs.Promises.{Accepted, Run}
+use Rattle.history.specs.Promises.{Answers, Accepted, Run}
+
+-- ---- an accepted step answers what it claims
+
+pub taken-of : (cfg : Config) (st : State) (s : Step) (v : Value) → Answers (stepOf cfg st s .answer) v → stepOf cfg st s .answer ≡ Taken v
+taken-of cfg st s v h = go (stepOf cfg st s .answer) refl
+  where
+    go : (a : Answer) → stepOf cfg st s .answer ≡ a → stepOf cfg st s .answer ≡ Taken v
+    go (Taken w) e = e ∙ ap Taken (sym (ap valueIn e) ∙ h .1)
+    go (Refused n) e = absurd (omega (arith, never-zero cfg st s n e, sym (ap refusalIn e) ∙ h .0))
+
+pub of-taken : (a : Answer) (v : Value) → a ≡ Taken v → Answers a v
+of-taken a v e = (ap refusalIn e, ap valueIn e)
 
 -- ---- recordings of two parts
 
@@ -37,12 +55,12 @@ joined cfg st m st′ (x ∷ xs) ys e f = (e .0, joined cfg (stepOf cfg st x .st
 -- one step
 pub one : (cfg : Config) (st : State) (s : Step) → stepOf cfg st s .answer ≡ Taken (s .claim) → Accepted cfg st (s ∷ []) (stepOf cfg st s .state)
 unfolding Accepted
-one cfg st s e = (e, refl)
+one cfg st s e = (of-taken _ _ e, refl)
 
 -- the first of several
 pub first : (cfg : Config) (st st′ : State) (s : Step) (rs : List Step) → Accepted cfg st (s ∷ rs) st′ → stepOf cfg st s .answer ≡ Taken (s .claim)
 unfolding Accepted
-first cfg st st′ s rs e = e .0
+first cfg st st′ s rs e = taken-of cfg st s (s .claim) (e .0)
 
 -- ---- their histories
 
@@ -65,7 +83,7 @@ module _ (cfg : Config) (P : List Step → State → Type 0)
     onward before [] st st′ r p e = rw append-nil (subst (P before) e p)
     onward before (s ∷ rs) st st′ r p e =
         rw (append-assoc before (s ∷ []) rs) at
-        (onward (before ++ (s ∷ [])) rs (stepOf cfg st s .state) st′ (joined cfg (startOf cfg) st _ before (s ∷ []) r (one cfg st s (e .0))) (keeps before s st r p (e .0)) (e .1))
+        (onward (before ++ (s ∷ [])) rs (stepOf cfg st s .state) st′ (joined cfg (startOf cfg) st _ before (s ∷ []) r (one cfg st s (taken-of cfg st s (s .claim) (e .0)))) (keeps before s st r p (taken-of cfg st s (s .claim) (e .0))) (e .1))
 
     pub along : P [] (startOf cfg) → (rs : List Step) (st : State) → Run cfg rs st → P rs st
     unfolding Accepted

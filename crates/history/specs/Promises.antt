@@ -11,8 +11,7 @@ use lib.ListN.{length, getD, drop}
 use Rattle.values.specs.declared.Value.{Value}
 use Rattle.values.specs.declared.Step.{Step}
 use Rattle.values.specs.declared.Answer.{Answer}
-use Rattle.values.specs.declared.Answer.the-variants.{Taken, Refused}
-use Rattle.values.specs.Values.{numberV}
+use Rattle.values.specs.Values.{numberV, refusalIn, valueIn}
 use Rattle.config.specs.declared.Config.{Config}
 use Rattle.config.specs.Tables.{maxRunnableConfs, maxAreaConfs, maxRequiredConfs, maxOperationConfs, runnableConfIn, requiredConfIn}
 use Rattle.entries.specs.Faults.{configSound}
@@ -23,20 +22,24 @@ use Rattle.rules.specs.Sound.{timesIn}
 use Rattle.rules.specs.Step.{stepOf}
 use Rattle.history.specs.History.{Request, noRequest, How, byTimeout, byInstance, Ending, History, historyOf, queuedAt, takenBy, latestOn, endsOf, lastOn, Proper, Started, allQueued, allSpawns}
 
+-- an answer says that the step was taken, with this value: by the number and the value that stand for it
+abbrev pub Answers : Answer → Value → Type 0
+Answers a v = (refusalIn a ≡ 0) × (valueIn a ≡ v)
+
 -- every step of rs is accepted, from st to st′
 unfoldable pub Accepted : Config → State → List Step → State → Type 0
 Accepted cfg st [] st′ = st ≡ st′
-Accepted cfg st (s ∷ rs) st′ = (stepOf cfg st s .answer ≡ Taken (s .claim)) × Accepted cfg (stepOf cfg st s .state) rs st′
+Accepted cfg st (s ∷ rs) st′ = Answers (stepOf cfg st s .answer) (s .claim) × Accepted cfg (stepOf cfg st s .state) rs st′
 
 abbrev pub Run : Config → List Step → State → Type 0
 Run cfg rs st = Accepted cfg (startOf cfg) rs st
 
--- a taken area has exactly one holder
+-- a taken area has exactly one holder: an instance whose stack has it, once, and no other stack has it
 abbrev pub TakenHasOne : Type 0
 TakenHasOne =
     (cfg : Config) (rs : List Step) (st : State) → configSound cfg ≡ true → Run cfg rs st
     → (a : ℕ) → a < maxAreaConfs → areaIn (st .areas) a .taken ≡ true
-    → (i : ℕ) × (i < maxSlots) × (timesIn a (slotIn (st .slots) i .stack) ≡ 1) × ((j : ℕ) → j < maxSlots → (j ≡ i → ⊥) → timesIn a (slotIn (st .slots) j .stack) ≡ 0)
+    → (i : ℕ) × (i < maxSlots) × (slotIn (st .slots) i .used ≡ true) × (timesIn a (slotIn (st .slots) i .stack) ≡ 1) × ((j : ℕ) → j < maxSlots → (j ≡ i → ⊥) → timesIn a (slotIn (st .slots) j .stack) ≡ 0)
 
 -- a free area has none
 abbrev pub FreeHasNone : Type 0

@@ -15,3 +15,4 @@ pub mod Shapes
 pub mod Says
 pub mod Start
 pub mod Keeps
+pub mod Refusals

@@ -34,6 +34,7 @@ use Rattle.judging.specs.declared.Judged.{Judged}
 use Rattle.judging.specs.Judging.{judged, onField, judgeFrom}
 use Rattle.judging.proofs.Laws.{ended, stopped, starved, barred, went}
 use Rattle.history.specs.Promises.{Accepted as AllAccepted}
+use Rattle.history.proofs.Runs.{of-taken}
 
 -- ---- a step that is taken answers what it claims
 
@@ -80,7 +81,7 @@ sound-end t e = ap (λ (w : Whole). isEnd (w .last)) (whole-end t e)
 -- one more accepted step in front
 one-accepted : (cfg : Config) (st : State) (s : Step) (v : Value) (rs l : List Step) (x y : State) → stepOf cfg st s .answer ≡ Taken v → AllAccepted cfg (stepOf cfg st s .state) rs y → l ≡ s ∷ rs → x ≡ y → AllAccepted cfg st l x
 unfolding AllAccepted
-one-accepted cfg st s v rs l x y q h e w = rw (e, w) (taken-claims cfg st s v q, h)
+one-accepted cfg st s v rs l x y q h e w = rw (e, w) (of-taken _ _ (taken-claims cfg st s v q), h)
 
 none-accepted : (cfg : Config) (st : State) (l : List Step) (x : State) → l ≡ [] → x ≡ st → AllAccepted cfg st l x
 unfolding AllAccepted
@@ -93,12 +94,14 @@ module _ (cfg : Config) where
   pub record Counts (t : List ℕ) (n : ℕ) (st : State) (j : Judged) : Type 0 where
     pub steps : ℕ
     pub count : j .count ≡ n + steps
+    pub there : steps ≤ length (stepsIn t)
     pub taken : AllAccepted cfg st (take steps (stepsIn t)) (j .state)
 
   none-counted : (t : List ℕ) (n : ℕ) (st : State) (v : Verdict) (j : Judged) → j ≡ judged v n st → Counts t n st j
   none-counted t n st v j e = record {
     steps = 0;
     count = ap (λ (j : Judged). j .count) e ∙ omega arith;
+    there = omega arith;
     taken = none-accepted cfg st [] (j .state) refl (ap (λ (j : Judged). j .state) e);
   }
 
@@ -106,6 +109,7 @@ module _ (cfg : Config) where
   one-counted t n st s z v j j′ e q c w = record {
     steps = suc (c .steps);
     count = ap (λ (j : Judged). j .count) w ∙ c .count ∙ omega arith;
+    there = omega (arith, c .there, ap length (steps-step t s z e));
     taken = one-accepted cfg st s v (take (c .steps) (stepsIn (drop z t))) (take (suc (c .steps)) (stepsIn t)) (j .state) (j′ .state) q (c .taken) (ap (take (suc (c .steps))) (steps-step t s z e)) (ap (λ (j : Judged). j .state) w);
   }
 
@@ -156,6 +160,9 @@ module _ (cfg : Config) where
   other : (v : Verdict) {k p : ℕ} → v ≡ Accepted → v ≡ Refused p k → ⊥
   other v e q = let z : _≡_ {A = ℕ} 0 1 = cc in omega arith
 
+  not-both : (v : Verdict) {k p : ℕ} → v ≡ Unfinished → v ≡ Refused p k → ⊥
+  not-both v e q = let z : _≡_ {A = ℕ} 0 1 = cc in omega arith
+
   left-over : (v : Verdict) → v ≡ Accepted → v ≡ Unfinished → ⊥
   left-over v e q = let z : _≡_ {A = ℕ} 0 1 = cc in omega arith
 
@@ -185,3 +192,32 @@ module _ (cfg : Config) where
       go (IsStep s z) e rest = by s z (stepOf cfg st s .answer) e refl rest
       go End e rest = end-whole t n st _ e (ended (stepOf cfg) t n st (suc a) e)
       go (NoField k p) e rest = absurd (other _ h (ap (λ (j : Judged). j .verdict) (stopped (stepOf cfg) t n st (suc a) e)))
+
+  -- an unfinished one leaves a step that was not tried
+  pub unfinished-more : (a : ℕ) (t : List ℕ) (n : ℕ) (st : State) → judgeFrom (stepOf cfg) a t n st .verdict ≡ Unfinished → judgeFrom (stepOf cfg) a t n st .count < n + length (stepsIn t)
+  unfinished-more zero t n st h = go (fieldOf t) refl
+    where
+      go : (x : Field) → fieldOf t ≡ x → judgeFrom (stepOf cfg) 0 t n st .count < n + length (stepsIn t)
+      go (IsStep s z) e = omega (arith, ap (λ (j : Judged). j .count) (starved (stepOf cfg) t n st e), ap length (steps-step t s z e))
+      go End e = absurd (left-over _ (ap (λ (j : Judged). j .verdict) (ended (stepOf cfg) t n st 0 e)) h)
+      go (NoField k p) e = absurd (not-both _ h (ap (λ (j : Judged). j .verdict) (stopped (stepOf cfg) t n st 0 e)))
+  unfinished-more (suc a) t n st h = go (fieldOf t) refl (λ z s. unfinished-more a (drop z t) (n + 1) (stepOf cfg st s .state))
+    where
+      Rest : Type 0
+      Rest = (z : ℕ) (s : Step) → judgeFrom (stepOf cfg) a (drop z t) (n + 1) (stepOf cfg st s .state) .verdict ≡ Unfinished
+          → judgeFrom (stepOf cfg) a (drop z t) (n + 1) (stepOf cfg st s .state) .count < n + 1 + length (stepsIn (drop z t))
+
+      one : suc a - 1 ≡ a
+      one = omega arith
+
+      by : (s : Step) (z : ℕ) (x : Answer) → fieldOf t ≡ IsStep s z → stepOf cfg st s .answer ≡ x → Rest → judgeFrom (stepOf cfg) (suc a) t n st .count < n + length (stepsIn t)
+      by s z (Taken v) e q rest =
+          let w : judgeFrom (stepOf cfg) (suc a) t n st ≡ judgeFrom (stepOf cfg) a (drop z t) (n + 1) (stepOf cfg st s .state) = went (stepOf cfg) t n st (suc a) (λ c. omega (arith, c)) e refl q ∙ rw one in
+          let r = rest z s (sym (ap (λ (j : Judged). j .verdict) w) ∙ h) in
+          omega (arith, r, ap (λ (j : Judged). j .count) w, ap length (steps-step t s z e))
+      by s z (Barred k) e q rest = absurd (not-both _ h (ap (λ (j : Judged). j .verdict) (barred (stepOf cfg) t n st (suc a) (λ c. omega (arith, c)) e refl q)))
+
+      go : (x : Field) → fieldOf t ≡ x → Rest → judgeFrom (stepOf cfg) (suc a) t n st .count < n + length (stepsIn t)
+      go (IsStep s z) e rest = by s z (stepOf cfg st s .answer) e refl rest
+      go End e rest = absurd (left-over _ (ap (λ (j : Judged). j .verdict) (ended (stepOf cfg) t n st (suc a) e)) h)
+      go (NoField k p) e rest = absurd (not-both _ h (ap (λ (j : Judged). j .verdict) (stopped (stepOf cfg) t n st (suc a) e)))

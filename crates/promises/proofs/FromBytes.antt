@@ -31,8 +31,8 @@ use Rattle.judging.specs.declared.Line.the-variants.{Accepted as AcceptedLine, 
 use Rattle.judging.specs.Judging.{judgeFrom, judgeOf}
 use Rattle.judging.specs.Line.{maxConfig, maxRecording, allowed, verdictLine, judgedLine, outcomeLine, readLine, lineOf}
 use Rattle.history.specs.Promises.{Run}
-use Rattle.promises.specs.Claims.{WholeRun, AcceptedIsRun, FirstRun, CountedIsRun, UnfinishedIsRun}
-use Rattle.promises.proofs.Counted.{Counts, counted, Whole-counted, accepted-whole}
+use Rattle.promises.specs.Claims.{WholeRun, AcceptedIsRun, FirstRun, CountedIsRun, AcceptedIsWhole, UnfinishedIsRun}
+use Rattle.promises.proofs.Counted.{Counts, counted, Whole-counted, accepted-whole, unfinished-more}
 
 -- from the start state of a sound configuration, no refusal at place 0
 from-start : (cfg : Config) (t : List ℕ) (a : ℕ) → configSound cfg ≡ true → judgeOf cfg (startOf cfg) t a ≡ judgeFrom (stepOf cfg) a t 0 (startOf cfg)
@@ -45,6 +45,7 @@ counted-is-run cfg t a h =
     let k = counted cfg a t 0 (startOf cfg) in
     let n : judgeOf cfg (startOf cfg) t a .count ≡ k .steps = ap (λ (j : Judged). j .count) e ∙ k .count ∙ omega arith in
     record {
+      there = omega (arith, n, k .there);
       run = subst (λ (m : ℕ). Run cfg (take m (stepsIn t)) (judgeOf cfg (startOf cfg) t a .state)) (sym n)
           (subst (λ (x : State). Run cfg (take (k .steps) (stepsIn t)) x) (sym (ap (λ (j : Judged). j .state) e)) (k .taken));
     }
@@ -108,14 +109,24 @@ accepted-is-run c t n h =
 
 -- ---- unfinished
 
-unfinished-told : (v : Verdict) (m n : ℕ) → verdictLine v m ≡ UnfinishedLine n → m ≡ n
+unfinished-told : (v : Verdict) (m n : ℕ) → verdictLine v m ≡ UnfinishedLine n → (v ≡ Unfinished) × (m ≡ n)
 unfinished-told Accepted m n h = absurd (let z : _≡_ {A = ℕ} 0 1 = cc in omega arith)
 unfinished-told (Refused p k) m n h = absurd (let z : _≡_ {A = ℕ} 0 1 = cc in omega arith)
-unfinished-told Unfinished m n h = cc
+unfinished-told Unfinished m n h = (refl, cc)
 
 pub unfinished-is-run : UnfinishedIsRun
 unfinished-is-run c t n h =
     let r = read-line c t (UnfinishedLine n) (λ e. let z : _≡_ {A = ℕ} 0 1 = cc in omega arith) (λ p k e. let z : _≡_ {A = ℕ} 0 1 = cc in omega arith) h in
     let cfg = r .config in
     let m = unfinished-told (judgeOf cfg (startOf cfg) t allowed .verdict) (judgeOf cfg (startOf cfg) t allowed .count) n (r .line) in
-    (cfg, r .sound, judgeOf cfg (startOf cfg) t allowed .state, rw m at (counted-is-run cfg t allowed (r .sound)))
+    let e = from-start cfg t allowed (r .sound) in
+    let more = unfinished-more cfg allowed t 0 (startOf cfg) (sym (ap (λ (j : Judged). j .verdict) e) ∙ m .0) in
+    (cfg, r .read, r .sound, judgeOf cfg (startOf cfg) t allowed .state, subst (λ (k : ℕ). FirstRun cfg t k (judgeOf cfg (startOf cfg) t allowed .state)) (m .1) (counted-is-run cfg t allowed (r .sound)), omega (arith, more, m .1, ap (λ (j : Judged). j .count) e))
+
+-- ---- accepted, by any allowance
+
+pub accepted-is-whole : AcceptedIsWhole
+accepted-is-whole cfg t a h v =
+    let e = from-start cfg t a h in
+    let w = accepted-whole cfg a t 0 (startOf cfg) (sym (ap (λ (j : Judged). j .verdict) e) ∙ v) in
+    (w .whole, ap (λ (j : Judged). j .count) e ∙ w .count ∙ omega arith, subst (λ (x : State). Run cfg (stepsIn t) x) (sym (ap (λ (j : Judged). j .state) e)) (w .taken))

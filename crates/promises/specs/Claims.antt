@@ -1,7 +1,7 @@
 -- What the line that the program prints says of the bytes of its two files, as types; proved in proofs/. With it every promise of the history page holds of the
 -- recording: each asks for a sound configuration and a run of accepted steps from the start state, and these are what stands in the bytes.
 -- Assumes nothing.
-use Prim.Native.Nat.{ℕ, _≤_}
+use Prim.Native.Nat.{ℕ, _≤_, _<_}
 use mathlib.Core.Bool.{Bool, true}
 use mathlib.Core.List.{List}
 use mathlib.Core.Path.{_≡_}
@@ -11,12 +11,10 @@ use Rattle.state.specs.declared.State.{State}
 use Rattle.state.specs.Start.{startOf}
 use Rattle.entries.specs.Faults.{configSound}
 use Rattle.reading.specs.declared.Outcome.the-variants.{Whole}
-use Rattle.reading.specs.declared.Reading.{Reading}
 use Rattle.reading.specs.Reading.{configOf}
 use Rattle.recording.specs.Whole.{stepsIn, isSound}
-use Rattle.judging.specs.declared.Line.{Line}
 use Rattle.judging.specs.declared.Line.the-variants.{Accepted, Unfinished}
-use Rattle.judging.specs.declared.Judged.{Judged}
+use Rattle.judging.specs.declared.Verdict.the-variants.{Accepted as Verdict·Accepted}
 use Rattle.judging.specs.Judging.{judgeOf}
 use Rattle.judging.specs.Line.{lineOf}
 use Rattle.history.specs.Promises.{Run}
@@ -35,18 +33,25 @@ pub record WholeRun (c t : List ℕ) (n : ℕ) : Type 0 where
 abbrev pub AcceptedIsRun : Type 0
 AcceptedIsRun = (c t : List ℕ) (n : ℕ) → lineOf c t ≡ Accepted n → WholeRun c t n
 
--- the first n steps of the bytes t are accepted from the start state
+-- the first n steps of the bytes t, which has as many, are accepted from the start state
 pub record FirstRun (config : Config) (t : List ℕ) (n : ℕ) (state : State) : Type 0 where
+  pub there : n ≤ length (stepsIn t)
   pub run : Run config (take n (stepsIn t)) state
 
--- accepted, refused or unfinished: the steps that the judge counts, and the state that it gives
+-- accepted, refused or unfinished, by any allowance: the steps that the judge counts, and the state that it gives
 abbrev pub CountedIsRun : Type 0
 CountedIsRun =
     (cfg : Config) (t : List ℕ) (a : ℕ) → configSound cfg ≡ true
     → FirstRun cfg t (judgeOf cfg (startOf cfg) t a .count) (judgeOf cfg (startOf cfg) t a .state)
 
--- `unfinished N`: N steps are accepted; that there is more is all that is said
+-- accepted, by any allowance: the text is a whole recording, and every step of it was counted
+abbrev pub AcceptedIsWhole : Type 0
+AcceptedIsWhole =
+    (cfg : Config) (t : List ℕ) (a : ℕ) → configSound cfg ≡ true → judgeOf cfg (startOf cfg) t a .verdict ≡ Verdict·Accepted
+    → (isSound t ≡ true) × (judgeOf cfg (startOf cfg) t a .count ≡ length (stepsIn t)) × Run cfg (stepsIn t) (judgeOf cfg (startOf cfg) t a .state)
+
+-- `unfinished N`: the configuration is read from the bytes c, N steps are accepted, and a step follows that was not tried
 abbrev pub UnfinishedIsRun : Type 0
 UnfinishedIsRun =
     (c t : List ℕ) (n : ℕ) → lineOf c t ≡ Unfinished n
-    → (cfg : Config) × (configSound cfg ≡ true) × (st : State) × FirstRun cfg t n st
+    → (cfg : Config) × (configOf c ≡ record { outcome = Whole; config = cfg }) × (configSound cfg ≡ true) × (st : State) × FirstRun cfg t n st × (n < length (stepsIn t))
