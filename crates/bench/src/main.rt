@@ -1,4 +1,4 @@
-// The benchmark: reads rte.cfg and a recording on standard input as the judge does, judges it as often as the first argument says, and prints the last line.
+// The benchmark: takes rte.cfg and the recording from where the judge takes them, judges it as often as the first argument says, and prints the last line.
 ghost use Prim.Native.Nat.{_<_};
 
 // The number that the first argument spells.

@@ -1,4 +1,4 @@
-// A board lends its one state: the step is taken there, and a refusal leaves it as it was.
+// The lent state: a step taken in place, for a board that keeps one state only.
 ghost use mathlib.Core.Path.{_≡_};
 ghost use Rattle.rules.specs.Step.{stepOf};
 use config::Config;

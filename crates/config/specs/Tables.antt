@@ -30,204 +30,224 @@ use Rattle.config.specs.declared.Config.{Config}
 
 -- ---- runnables, at most 16
 
+-- the most runnables that a configuration has ("The parts, and how many")
 abbrev pub maxRunnableConfs : ℕ
 maxRunnableConfs = 16
 
--- an unused place
+-- the runnable of an unused place ("A sound state", unused places)
 abbrev pub noRunnableConf : RunnableConf
 noRunnableConf = record { component = 0; concurrent = false; init = false; interval = 0; capacity = 0 }
 
+-- a table with no runnable ("A sound state", unused places)
 abbrev pub noRunnableConfs : RunnableConfs
 noRunnableConfs = record { n = 0; at = replicate maxRunnableConfs noRunnableConf }
 
--- what stands at place i
+-- the runnable at place i ("The parts, and how many")
 unfoldable pub runnableConfIn : RunnableConfs → ℕ → RunnableConf
 runnableConfIn t i = getD (t .at) i noRunnableConf
 
--- one more, at the first unused place
+-- one runnable more, at the first unused place ("The parts, and how many")
 unfoldable pub addRunnableConf : RunnableConfs → RunnableConf → RunnableConfs
 addRunnableConf t x = pick (ltb (t .n) maxRunnableConfs) (record { n = t .n + 1; at = set (t .at) (t .n) x }) t
 
 -- ---- variables, at most 16
 
+-- the most variables that a configuration has ("The parts, and how many")
 abbrev pub maxVariableConfs : ℕ
 maxVariableConfs = 16
 
--- an unused place
+-- the variable of an unused place ("A sound state", unused places)
 abbrev pub noVariableConf : VariableConf
 noVariableConf = record { component = 0; initialed = false; initial = 0 }
 
+-- a table with no variable ("A sound state", unused places)
 abbrev pub noVariableConfs : VariableConfs
 noVariableConfs = record { n = 0; at = replicate maxVariableConfs noVariableConf }
 
--- what stands at place i
+-- the variable at place i ("The parts, and how many")
 unfoldable pub variableConfIn : VariableConfs → ℕ → VariableConf
 variableConfIn t i = getD (t .at) i noVariableConf
 
--- one more, at the first unused place
+-- one variable more, at the first unused place ("The parts, and how many")
 unfoldable pub addVariableConf : VariableConfs → VariableConf → VariableConfs
 addVariableConf t x = pick (ltb (t .n) maxVariableConfs) (record { n = t .n + 1; at = set (t .at) (t .n) x }) t
 
 -- ---- exclusive areas, at most 16
 
+-- the most areas that a configuration has ("The parts, and how many")
 abbrev pub maxAreaConfs : ℕ
 maxAreaConfs = 16
 
--- an unused place
+-- the area of an unused place ("A sound state", unused places)
 abbrev pub noAreaConf : AreaConf
 noAreaConf = record { component = 0 }
 
+-- a table with no area ("A sound state", unused places)
 abbrev pub noAreaConfs : AreaConfs
 noAreaConfs = record { n = 0; at = replicate maxAreaConfs noAreaConf }
 
--- what stands at place i
+-- the area at place i ("The parts, and how many")
 unfoldable pub areaConfIn : AreaConfs → ℕ → AreaConf
 areaConfIn t i = getD (t .at) i noAreaConf
 
--- one more, at the first unused place
+-- one area more, at the first unused place ("The parts, and how many")
 unfoldable pub addAreaConf : AreaConfs → AreaConf → AreaConfs
 addAreaConf t x = pick (ltb (t .n) maxAreaConfs) (record { n = t .n + 1; at = set (t .at) (t .n) x }) t
 
 -- ---- required elements, at most 16
 
+-- the most required elements that a configuration has ("The parts, and how many")
 abbrev pub maxRequiredConfs : ℕ
 maxRequiredConfs = 16
 
--- an unused place
+-- the required element of an unused place ("A sound state", unused places)
 abbrev pub noRequiredConf : RequiredConf
 noRequiredConf = record { component = 0; capacity = 0 }
 
+-- a table with no required element ("A sound state", unused places)
 abbrev pub noRequiredConfs : RequiredConfs
 noRequiredConfs = record { n = 0; at = replicate maxRequiredConfs noRequiredConf }
 
--- what stands at place i
+-- the required element at place i ("The parts, and how many")
 unfoldable pub requiredConfIn : RequiredConfs → ℕ → RequiredConf
 requiredConfIn t i = getD (t .at) i noRequiredConf
 
--- one more, at the first unused place
+-- one required element more, at the first unused place ("The parts, and how many")
 unfoldable pub addRequiredConf : RequiredConfs → RequiredConf → RequiredConfs
 addRequiredConf t x = pick (ltb (t .n) maxRequiredConfs) (record { n = t .n + 1; at = set (t .at) (t .n) x }) t
 
 -- ---- provided elements, at most 16
 
+-- the most provided elements that a configuration has ("The parts, and how many")
 abbrev pub maxProvidedConfs : ℕ
 maxProvidedConfs = 16
 
--- an unused place
+-- the provided element of an unused place ("A sound state", unused places)
 abbrev pub noProvidedConf : ProvidedConf
 noProvidedConf = record { component = 0; queued = false }
 
+-- a table with no provided element ("A sound state", unused places)
 abbrev pub noProvidedConfs : ProvidedConfs
 noProvidedConfs = record { n = 0; at = replicate maxProvidedConfs noProvidedConf }
 
--- what stands at place i
+-- the provided element at place i ("The parts, and how many")
 unfoldable pub providedConfIn : ProvidedConfs → ℕ → ProvidedConf
 providedConfIn t i = getD (t .at) i noProvidedConf
 
--- one more, at the first unused place
+-- one provided element more, at the first unused place ("The parts, and how many")
 unfoldable pub addProvidedConf : ProvidedConfs → ProvidedConf → ProvidedConfs
 addProvidedConf t x = pick (ltb (t .n) maxProvidedConfs) (record { n = t .n + 1; at = set (t .at) (t .n) x }) t
 
 -- ---- links, at most 32
 
+-- the most links that a configuration has ("The parts, and how many")
 abbrev pub maxLinks : ℕ
 maxLinks = 32
 
--- an unused place
+-- the link of an unused place ("A sound state", unused places)
 abbrev pub noLink : Link
 noLink = record { provided = 0; required = 0 }
 
+-- a table with no link ("A sound state", unused places)
 abbrev pub noLinks : Links
 noLinks = record { n = 0; at = replicate maxLinks noLink }
 
--- what stands at place i
+-- the link at place i ("The parts, and how many")
 unfoldable pub linkIn : Links → ℕ → Link
 linkIn t i = getD (t .at) i noLink
 
--- one more, at the first unused place
+-- one link more, at the first unused place ("The parts, and how many")
 unfoldable pub addLink : Links → Link → Links
 addLink t x = pick (ltb (t .n) maxLinks) (record { n = t .n + 1; at = set (t .at) (t .n) x }) t
 
 -- ---- operations, at most 8
 
+-- the most operations that a configuration has ("The parts, and how many")
 abbrev pub maxOperationConfs : ℕ
 maxOperationConfs = 8
 
--- an unused place
+-- the operation of an unused place ("A sound state", unused places)
 abbrev pub noOperationConf : OperationConf
 noOperationConf = record { component = 0; asynchronous = false; server = 0; timeout = 0 }
 
+-- a table with no operation ("A sound state", unused places)
 abbrev pub noOperationConfs : OperationConfs
 noOperationConfs = record { n = 0; at = replicate maxOperationConfs noOperationConf }
 
--- what stands at place i
+-- the operation at place i ("The parts, and how many")
 unfoldable pub operationConfIn : OperationConfs → ℕ → OperationConf
 operationConfIn t i = getD (t .at) i noOperationConf
 
--- one more, at the first unused place
+-- one operation more, at the first unused place ("The parts, and how many")
 unfoldable pub addOperationConf : OperationConfs → OperationConf → OperationConfs
 addOperationConf t x = pick (ltb (t .n) maxOperationConfs) (record { n = t .n + 1; at = set (t .at) (t .n) x }) t
 
 -- ---- timers, at most 8
 
+-- the most timers that a configuration has ("The parts, and how many")
 abbrev pub maxTimerConfs : ℕ
 maxTimerConfs = 8
 
--- an unused place
+-- the timer of an unused place ("A sound state", unused places)
 abbrev pub noTimerConf : TimerConf
 noTimerConf = record { runnable = 0; period = 0 }
 
+-- a table with no timer ("A sound state", unused places)
 abbrev pub noTimerConfs : TimerConfs
 noTimerConfs = record { n = 0; at = replicate maxTimerConfs noTimerConf }
 
--- what stands at place i
+-- the timer at place i ("The parts, and how many")
 unfoldable pub timerConfIn : TimerConfs → ℕ → TimerConf
 timerConfIn t i = getD (t .at) i noTimerConf
 
--- one more, at the first unused place
+-- one timer more, at the first unused place ("The parts, and how many")
 unfoldable pub addTimerConf : TimerConfs → TimerConf → TimerConfs
 addTimerConf t x = pick (ltb (t .n) maxTimerConfs) (record { n = t .n + 1; at = set (t .at) (t .n) x }) t
 
 -- ---- data events, at most 32
 
+-- the most data events that a configuration has ("The parts, and how many")
 abbrev pub maxDataEvents : ℕ
 maxDataEvents = 32
 
--- an unused place
+-- the data event of an unused place ("A sound state", unused places)
 abbrev pub noDataEvent : DataEvent
 noDataEvent = record { runnable = 0; required = 0 }
 
+-- a table with no data event ("A sound state", unused places)
 abbrev pub noDataEvents : DataEvents
 noDataEvents = record { n = 0; at = replicate maxDataEvents noDataEvent }
 
--- what stands at place i
+-- the data event at place i ("The parts, and how many")
 unfoldable pub dataEventIn : DataEvents → ℕ → DataEvent
 dataEventIn t i = getD (t .at) i noDataEvent
 
--- one more, at the first unused place
+-- one data event more, at the first unused place ("The parts, and how many")
 unfoldable pub addDataEvent : DataEvents → DataEvent → DataEvents
 addDataEvent t x = pick (ltb (t .n) maxDataEvents) (record { n = t .n + 1; at = set (t .at) (t .n) x }) t
 
 -- ---- return events, at most 16
 
+-- the most return events that a configuration has ("The parts, and how many")
 abbrev pub maxReturnEvents : ℕ
 maxReturnEvents = 16
 
--- an unused place
+-- the return event of an unused place ("A sound state", unused places)
 abbrev pub noReturnEvent : ReturnEvent
 noReturnEvent = record { runnable = 0; operation = 0 }
 
+-- a table with no return event ("A sound state", unused places)
 abbrev pub noReturnEvents : ReturnEvents
 noReturnEvents = record { n = 0; at = replicate maxReturnEvents noReturnEvent }
 
--- what stands at place i
+-- the return event at place i ("The parts, and how many")
 unfoldable pub returnEventIn : ReturnEvents → ℕ → ReturnEvent
 returnEventIn t i = getD (t .at) i noReturnEvent
 
--- one more, at the first unused place
+-- one return event more, at the first unused place ("The parts, and how many")
 unfoldable pub addReturnEvent : ReturnEvents → ReturnEvent → ReturnEvents
 addReturnEvent t x = pick (ltb (t .n) maxReturnEvents) (record { n = t .n + 1; at = set (t .at) (t .n) x }) t
 
--- a configuration with no part
+-- a configuration with no part ("A sound state", unused places)
 unfoldable pub noConfig : Config
 noConfig = record { runnables = noRunnableConfs; variables = noVariableConfs; areas = noAreaConfs; required = noRequiredConfs; provided = noProvidedConfs; links = noLinks; operations = noOperationConfs; timers = noTimerConfs; devents = noDataEvents; revents = noReturnEvents }

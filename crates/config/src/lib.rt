@@ -10,7 +10,7 @@ pub struct RunnableConf {
     pub capacity: u8,
 }
 
-// The runnables, numbered from 0 in file order; the first n places are in use.
+// The runnables, in the order of the file and counted from 0; the first n places are in use.
 pub struct RunnableConfs {
     pub n: u8,
     pub at: [RunnableConf; RunnableConfs::MAX],
@@ -71,7 +71,7 @@ pub struct VariableConf {
     pub initial: u32,
 }
 
-// The variables, numbered from 0 in file order; the first n places are in use.
+// The variables, in the order of the file and counted from 0; the first n places are in use.
 pub struct VariableConfs {
     pub n: u8,
     pub at: [VariableConf; VariableConfs::MAX],
@@ -128,7 +128,7 @@ pub struct AreaConf {
     pub component: u8,
 }
 
-// The exclusive areas, numbered from 0 in file order; the first n places are in use.
+// The exclusive areas, in the order of the file and counted from 0; the first n places are in use.
 pub struct AreaConfs {
     pub n: u8,
     pub at: [AreaConf; AreaConfs::MAX],
@@ -182,7 +182,7 @@ pub struct RequiredConf {
     pub capacity: u8,
 }
 
-// The required elements, numbered from 0 in file order; the first n places are in use.
+// The required elements, in the order of the file and counted from 0; the first n places are in use.
 pub struct RequiredConfs {
     pub n: u8,
     pub at: [RequiredConf; RequiredConfs::MAX],
@@ -239,7 +239,7 @@ pub struct ProvidedConf {
     pub queued: bool,
 }
 
-// The provided elements, numbered from 0 in file order; the first n places are in use.
+// The provided elements, in the order of the file and counted from 0; the first n places are in use.
 pub struct ProvidedConfs {
     pub n: u8,
     pub at: [ProvidedConf; ProvidedConfs::MAX],
@@ -296,7 +296,7 @@ pub struct Link {
     pub required: u8,
 }
 
-// The links, numbered from 0 in file order; the first n places are in use.
+// The links, in the order of the file and counted from 0; the first n places are in use.
 pub struct Links {
     pub n: u8,
     pub at: [Link; Links::MAX],
@@ -355,7 +355,7 @@ pub struct OperationConf {
     pub timeout: u32,
 }
 
-// The operations, numbered from 0 in file order; the first n places are in use.
+// The operations, in the order of the file and counted from 0; the first n places are in use.
 pub struct OperationConfs {
     pub n: u8,
     pub at: [OperationConf; OperationConfs::MAX],
@@ -414,7 +414,7 @@ pub struct TimerConf {
     pub period: u32,
 }
 
-// The timers, numbered from 0 in file order; the first n places are in use.
+// The timers, in the order of the file and counted from 0; the first n places are in use.
 pub struct TimerConfs {
     pub n: u8,
     pub at: [TimerConf; TimerConfs::MAX],
@@ -471,7 +471,7 @@ pub struct DataEvent {
     pub required: u8,
 }
 
-// The data events, numbered from 0 in file order; the first n places are in use.
+// The data events, in the order of the file and counted from 0; the first n places are in use.
 pub struct DataEvents {
     pub n: u8,
     pub at: [DataEvent; DataEvents::MAX],
@@ -528,7 +528,7 @@ pub struct ReturnEvent {
     pub operation: u8,
 }
 
-// The return events, numbered from 0 in file order; the first n places are in use.
+// The return events, in the order of the file and counted from 0; the first n places are in use.
 pub struct ReturnEvents {
     pub n: u8,
     pub at: [ReturnEvent; ReturnEvents::MAX],

@@ -4,6 +4,7 @@ use Prim.Native.Nat.{ℕ, _≤_}
 use Rattle.desk.specs.declared.Got.{Got}
 use Rattle.desk.specs.declared.Got.the-variants.{Bytes, Failed}
 
+-- the bytes that came are no more than there was room for; nothing is said of a failed read ("Judging", the program)
 abbrev pub Fits : Got → ℕ → Type 0
 Fits (Bytes n) m = n ≤ m
 Fits Failed m = Unit {0}

@@ -30,11 +30,11 @@ use Rattle.config.specs.declared.Config.{Config}
 use Rattle.config.specs.Tables.{maxRunnableConfs, maxVariableConfs, maxAreaConfs, maxRequiredConfs, maxProvidedConfs, maxLinks, maxOperationConfs, maxTimerConfs, maxDataEvents, maxReturnEvents, runnableConfIn, variableConfIn, areaConfIn, requiredConfIn, providedConfIn, linkIn, operationConfIn, timerConfIn, dataEventIn, returnEventIn, addRunnableConf, addVariableConf, addAreaConf, addRequiredConf, addProvidedConf, addLink, addOperationConf, addTimerConf, addDataEvent, addReturnEvent}
 use Rattle.entries.specs.declared.Entry.{Entry}
 
--- the entry of an unused place, and of a tag that names no kind
+-- the entry of an unused place, and of a tag that names no kind ("A sound state", unused places)
 abbrev pub noEntry : Entry
 noEntry = record { first = 0; second = 0; third = 0; number = 0 }
 
--- how many parts of a kind there may be
+-- how many parts of a kind there may be, by its tag ("The parts, and how many")
 unfoldable pub maxOf : ℕ → ℕ
 maxOf tag =
     pick (eqb tag 0x10) (maxRunnableConfs)
@@ -49,7 +49,7 @@ maxOf tag =
     (pick (eqb tag 0x19) (maxReturnEvents)
     0)))))))))
 
--- how many parts of a kind there are
+-- how many parts of a kind there are, by its tag ("The parts, and how many")
 unfoldable pub countOf : Config → ℕ → ℕ
 countOf cfg tag =
     pick (eqb tag 0x10) (cfg .runnables .n)
@@ -64,7 +64,7 @@ countOf cfg tag =
     (pick (eqb tag 0x19) (cfg .revents .n)
     0)))))))))
 
--- how many places the table of a kind has: in a configuration that code holds, always as many as there may be
+-- how many places the table of a kind has: in a configuration that code holds, always as many as there may be ("The parts, and how many")
 unfoldable pub placesOf : Config → ℕ → ℕ
 placesOf cfg tag =
     pick (eqb tag 0x10) (length (cfg .runnables .at))
@@ -79,77 +79,87 @@ placesOf cfg tag =
     (pick (eqb tag 0x19) (length (cfg .revents .at))
     0)))))))))
 
--- component, flags (1 for concurrent, 2 for init), request capacity; start interval
+-- the entry of a runnable: component, flags (1 for concurrent, 2 for init), request capacity; start interval ("The files", tag 10)
 abbrev pub runnableEntry : RunnableConf → Entry
 runnableEntry x = record { first = x .component; second = bit (x .concurrent) + 2 * bit (x .init); third = x .capacity; number = x .interval }
 
+-- the runnable that an entry says ("The files", tag 10)
 abbrev pub runnablePart : Entry → RunnableConf
 runnablePart e = record { component = e .first; concurrent = eqb (e .second % 2) 1; init = ltb 1 (e .second); interval = e .number; capacity = e .third }
 
--- component, mark of an initial; initial
+-- the entry of a variable: component, mark of an initial; initial ("The files", tag 11)
 abbrev pub variableEntry : VariableConf → Entry
 variableEntry x = record { first = x .component; second = bit (x .initialed); third = 0; number = x .initial }
 
+-- the variable that an entry says ("The files", tag 11)
 abbrev pub variablePart : Entry → VariableConf
 variablePart e = record { component = e .first; initialed = eqb (e .second) 1; initial = e .number }
 
--- component
+-- the entry of an area: component ("The files", tag 12)
 abbrev pub areaEntry : AreaConf → Entry
 areaEntry x = record { first = x .component; second = 0; third = 0; number = 0 }
 
+-- the area that an entry says ("The files", tag 12)
 abbrev pub areaPart : Entry → AreaConf
 areaPart e = record { component = e .first }
 
--- component, capacity
+-- the entry of a required element: component, capacity ("The files", tag 13)
 abbrev pub requiredEntry : RequiredConf → Entry
 requiredEntry x = record { first = x .component; second = x .capacity; third = 0; number = 0 }
 
+-- the required element that an entry says ("The files", tag 13)
 abbrev pub requiredPart : Entry → RequiredConf
 requiredPart e = record { component = e .first; capacity = e .second }
 
--- component, kind (1 queued)
+-- the entry of a provided element: component, kind (1 queued) ("The files", tag 14)
 abbrev pub providedEntry : ProvidedConf → Entry
 providedEntry x = record { first = x .component; second = bit (x .queued); third = 0; number = 0 }
 
+-- the provided element that an entry says ("The files", tag 14)
 abbrev pub providedPart : Entry → ProvidedConf
 providedPart e = record { component = e .first; queued = eqb (e .second) 1 }
 
--- provided, required
+-- the entry of a link: provided, required ("The files", tag 15)
 abbrev pub linkEntry : Link → Entry
 linkEntry x = record { first = x .provided; second = x .required; third = 0; number = 0 }
 
+-- the link that an entry says ("The files", tag 15)
 abbrev pub linkPart : Entry → Link
 linkPart e = record { provided = e .first; required = e .second }
 
--- component, kind (1 asynchronous), server; timeout
+-- the entry of an operation: component, kind (1 asynchronous), server; timeout ("The files", tag 16)
 abbrev pub operationEntry : OperationConf → Entry
 operationEntry x = record { first = x .component; second = bit (x .asynchronous); third = x .server; number = x .timeout }
 
+-- the operation that an entry says ("The files", tag 16)
 abbrev pub operationPart : Entry → OperationConf
 operationPart e = record { component = e .first; asynchronous = eqb (e .second) 1; server = e .third; timeout = e .number }
 
--- runnable; period
+-- the entry of a timer: runnable; period ("The files", tag 17)
 abbrev pub timerEntry : TimerConf → Entry
 timerEntry x = record { first = x .runnable; second = 0; third = 0; number = x .period }
 
+-- the timer that an entry says ("The files", tag 17)
 abbrev pub timerPart : Entry → TimerConf
 timerPart e = record { runnable = e .first; period = e .number }
 
--- runnable, required element
+-- the entry of a data event: runnable, required element ("The files", tag 18)
 abbrev pub dataEventEntry : DataEvent → Entry
 dataEventEntry x = record { first = x .runnable; second = x .required; third = 0; number = 0 }
 
+-- the data event that an entry says ("The files", tag 18)
 abbrev pub dataEventPart : Entry → DataEvent
 dataEventPart e = record { runnable = e .first; required = e .second }
 
--- runnable, operation
+-- the entry of a return event: runnable, operation ("The files", tag 19)
 abbrev pub returnEventEntry : ReturnEvent → Entry
 returnEventEntry x = record { first = x .runnable; second = x .operation; third = 0; number = 0 }
 
+-- the return event that an entry says ("The files", tag 19)
 abbrev pub returnEventPart : Entry → ReturnEvent
 returnEventPart e = record { runnable = e .first; operation = e .second }
 
--- the entry of the part of a kind at place i
+-- the entry of the part of a kind at place i ("The files", the table)
 unfoldable pub entryOf : Config → ℕ → ℕ → Entry
 entryOf cfg tag i =
     pick (eqb tag 0x10) (runnableEntry (runnableConfIn (cfg .runnables) i))
@@ -164,37 +174,47 @@ entryOf cfg tag i =
     (pick (eqb tag 0x19) (returnEventEntry (returnEventIn (cfg .revents) i))
     noEntry)))))))))
 
+-- the configuration with another table of runnables ("The parts, and how many")
 abbrev pub withRunnableConfs : Config → RunnableConfs → Config
 withRunnableConfs cfg t = record { runnables = t; variables = cfg .variables; areas = cfg .areas; required = cfg .required; provided = cfg .provided; links = cfg .links; operations = cfg .operations; timers = cfg .timers; devents = cfg .devents; revents = cfg .revents }
 
+-- the configuration with another table of variables ("The parts, and how many")
 abbrev pub withVariableConfs : Config → VariableConfs → Config
 withVariableConfs cfg t = record { runnables = cfg .runnables; variables = t; areas = cfg .areas; required = cfg .required; provided = cfg .provided; links = cfg .links; operations = cfg .operations; timers = cfg .timers; devents = cfg .devents; revents = cfg .revents }
 
+-- the configuration with another table of areas ("The parts, and how many")
 abbrev pub withAreaConfs : Config → AreaConfs → Config
 withAreaConfs cfg t = record { runnables = cfg .runnables; variables = cfg .variables; areas = t; required = cfg .required; provided = cfg .provided; links = cfg .links; operations = cfg .operations; timers = cfg .timers; devents = cfg .devents; revents = cfg .revents }
 
+-- the configuration with another table of required elements ("The parts, and how many")
 abbrev pub withRequiredConfs : Config → RequiredConfs → Config
 withRequiredConfs cfg t = record { runnables = cfg .runnables; variables = cfg .variables; areas = cfg .areas; required = t; provided = cfg .provided; links = cfg .links; operations = cfg .operations; timers = cfg .timers; devents = cfg .devents; revents = cfg .revents }
 
+-- the configuration with another table of provided elements ("The parts, and how many")
 abbrev pub withProvidedConfs : Config → ProvidedConfs → Config
 withProvidedConfs cfg t = record { runnables = cfg .runnables; variables = cfg .variables; areas = cfg .areas; required = cfg .required; provided = t; links = cfg .links; operations = cfg .operations; timers = cfg .timers; devents = cfg .devents; revents = cfg .revents }
 
+-- the configuration with another table of links ("The parts, and how many")
 abbrev pub withLinks : Config → Links → Config
 withLinks cfg t = record { runnables = cfg .runnables; variables = cfg .variables; areas = cfg .areas; required = cfg .required; provided = cfg .provided; links = t; operations = cfg .operations; timers = cfg .timers; devents = cfg .devents; revents = cfg .revents }
 
+-- the configuration with another table of operations ("The parts, and how many")
 abbrev pub withOperationConfs : Config → OperationConfs → Config
 withOperationConfs cfg t = record { runnables = cfg .runnables; variables = cfg .variables; areas = cfg .areas; required = cfg .required; provided = cfg .provided; links = cfg .links; operations = t; timers = cfg .timers; devents = cfg .devents; revents = cfg .revents }
 
+-- the configuration with another table of timers ("The parts, and how many")
 abbrev pub withTimerConfs : Config → TimerConfs → Config
 withTimerConfs cfg t = record { runnables = cfg .runnables; variables = cfg .variables; areas = cfg .areas; required = cfg .required; provided = cfg .provided; links = cfg .links; operations = cfg .operations; timers = t; devents = cfg .devents; revents = cfg .revents }
 
+-- the configuration with another table of data events ("The parts, and how many")
 abbrev pub withDataEvents : Config → DataEvents → Config
 withDataEvents cfg t = record { runnables = cfg .runnables; variables = cfg .variables; areas = cfg .areas; required = cfg .required; provided = cfg .provided; links = cfg .links; operations = cfg .operations; timers = cfg .timers; devents = t; revents = cfg .revents }
 
+-- the configuration with another table of return events ("The parts, and how many")
 abbrev pub withReturnEvents : Config → ReturnEvents → Config
 withReturnEvents cfg t = record { runnables = cfg .runnables; variables = cfg .variables; areas = cfg .areas; required = cfg .required; provided = cfg .provided; links = cfg .links; operations = cfg .operations; timers = cfg .timers; devents = cfg .devents; revents = t }
 
--- the configuration with one part more of a kind, as the entry says
+-- the configuration with one part more of a kind, as the entry says ("The files", the table)
 unfoldable pub placed : Config → ℕ → Entry → Config
 placed cfg tag e =
     pick (eqb tag 0x10) (withRunnableConfs cfg (addRunnableConf (cfg .runnables) (runnablePart e)))

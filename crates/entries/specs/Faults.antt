@@ -11,23 +11,23 @@ use Rattle.config.specs.Tables.{runnableConfIn, requiredConfIn, providedConfIn}
 use Rattle.entries.specs.declared.Entry.{Entry}
 use Rattle.entries.specs.Entries.{maxOf, countOf, placesOf, entryOf}
 
--- components are 0 to 15
+-- the highest number of a component ("The files", below the table)
 abbrev pub maxComponent : ℕ
 maxComponent = 15
 
--- an hour in milliseconds: the top of intervals, timeouts and periods
+-- an hour in milliseconds: the top of intervals, timeouts and periods ("The files", below the table)
 abbrev pub maxTime : ℕ
 maxTime = 3600000
 
--- the top of a capacity; where it is 0 a runnable is plain, and an element unqueued
+-- the top of a capacity; where it is 0 a runnable is plain, and an element unqueued ("The files", below the table)
 abbrev pub maxCapacity : ℕ
 maxCapacity = 16
 
--- a time of at least 1 and at most maxTime, an hour
+-- a time of at least 1 and at most maxTime, an hour ("The files", below the table)
 abbrev pub isTime : ℕ → Bool
 isTime n = both (ltb 0 n) (leb n maxTime)
 
--- the numbers of an entry are in range; numbers of parts are not looked at here
+-- the numbers of an entry are in range; numbers of parts are not looked at here ("Numbers of refusal", 24)
 unfoldable pub inRange : ℕ → Entry → Bool
 inRange tag e =
     pick (eqb tag 0x10) (both (leb (e .first) maxComponent) (both (leb (e .second) 3) (both (leb (e .number) maxTime) (leb (e .third) maxCapacity))))
@@ -39,7 +39,7 @@ inRange tag e =
     (pick (eqb tag 0x17) (isTime (e .number))
     true))))))
 
--- every part that an entry names is there
+-- every part that an entry names is there ("Numbers of refusal", 25)
 unfoldable pub namesThere : Config → ℕ → Entry → Bool
 namesThere cfg tag e =
     pick (eqb tag 0x15) (both (ltb (e .first) (cfg .provided .n)) (ltb (e .second) (cfg .required .n)))
@@ -49,23 +49,23 @@ namesThere cfg tag e =
     (pick (eqb tag 0x19) (both (ltb (e .first) (cfg .runnables .n)) (ltb (e .second) (cfg .operations .n)))
     true))))
 
--- a runnable with a request capacity is a server, any other plain
+-- a runnable with a request capacity is a server, any other plain ("The files", below the table)
 unfoldable pub isServer : Config → ℕ → Bool
 isServer cfg r = ltb 0 (runnableConfIn (cfg .runnables) r .capacity)
 
--- a required element with a capacity is queued
+-- a required element with a capacity is queued ("The files", below the table)
 unfoldable pub isQueued : Config → ℕ → Bool
 isQueued cfg q = ltb 0 (requiredConfIn (cfg .required) q .capacity)
 
--- the pair of an entry lies above another's, by the first number and then by the second
+-- the pair of an entry lies above another's, by the first number and then by the second ("Numbers of refusal", 26)
 unfoldable pub rises : Entry → Entry → Bool
 rises d e = either (ltb (d .first) (e .first)) (both (eqb (d .first) (e .first)) (ltb (d .second) (e .second)))
 
--- the pair at place i lies above the one before it
+-- the pair at place i lies above the one before it ("Numbers of refusal", 26)
 unfoldable pub risesAt : Config → ℕ → ℕ → Entry → Bool
 risesAt cfg tag i e = either (eqb i 0) (rises (entryOf cfg tag (i - 1)) e)
 
--- no bad pairing: no init flag on a server, no initial without its mark, links join like kinds, operations stand on servers, timers and events on plain runnables, and link and event pairs rise
+-- no bad pairing: no init flag on a server, no initial without its mark, links join like kinds, operations stand on servers, timers and events on plain runnables, and link and event pairs rise ("Numbers of refusal", 26)
 unfoldable pub pairsWell : Config → ℕ → ℕ → Entry → Bool
 pairsWell cfg tag i e =
     pick (eqb tag 0x10) (either (leb (e .second) 1) (eqb (e .third) 0))
@@ -77,7 +77,7 @@ pairsWell cfg tag i e =
     (pick (eqb tag 0x19) (both (not (isServer cfg (e .first))) (risesAt cfg tag i e))
     true))))))
 
--- the first fault of an entry at place i of its kind: too many, a number out of range, a part that isn't there, a bad pairing; 0 for none
+-- the first fault of an entry at place i of its kind: too many, a number out of range, a part that isn't there, a bad pairing; 0 for none ("Numbers of refusal", 23 to 26)
 unfoldable pub entryFault : Config → ℕ → ℕ → Entry → ℕ
 entryFault cfg tag i e =
     pick (ltb i (maxOf tag))
@@ -90,20 +90,20 @@ entryFault cfg tag i e =
     24)
     23
 
--- an entry of zeros
+-- an entry of zeros ("A sound state", unused places)
 unfoldable pub isNoEntry : Entry → Bool
 isNoEntry e = both (eqb (e .first) 0) (both (eqb (e .second) 0) (both (eqb (e .third) 0) (eqb (e .number) 0)))
 
--- one place of a kind: without fault where it is in use, else blank
+-- one place of a kind: without fault where it is in use, else blank ("A sound state", first sentence)
 unfoldable pub placeSound : Config → ℕ → ℕ → Bool
 placeSound cfg tag i =
     pick (ltb i (countOf cfg tag)) (eqb (entryFault cfg tag i (entryOf cfg tag i)) 0) (isNoEntry (entryOf cfg tag i))
 
--- all of a kind: its table has its length, no more are in use than there may be, and each place is sound
+-- all of a kind: its table has its length, no more are in use than there may be, and each place is sound ("A sound state", first sentence)
 unfoldable pub kindSound : Config → ℕ → Bool
 kindSound cfg tag =
     both (eqb (placesOf cfg tag) (maxOf tag)) (both (leb (countOf cfg tag) (maxOf tag)) (allBelow (placeSound cfg tag) (maxOf tag)))
 
--- all ten kinds, whose tags are 10 to 19
+-- a sound configuration: all ten kinds are sound, with the tags from 10 to 19 ("A sound state", first sentence)
 unfoldable pub configSound : Config → Bool
 configSound cfg = allBelow (λ (j : ℕ). kindSound cfg (0x10 + j)) 10

@@ -72,7 +72,7 @@ spawnClient = 0x40 ∷ 0x00 ∷ 0x0d ∷ 0x0f ∷ 0x00 ∷ 0x00 ∷ 0x00 ∷ 0x0
 spawnServer : List ℕ
 spawnServer = 0x40 ∷ 0x00 ∷ 0x0d ∷ 0x0f ∷ 0x00 ∷ 0x01 ∷ 0x00 ∷ 0x00 ∷ 0x00 ∷ 0x00 ∷ 0x00 ∷ 0x01 ∷ 0x00 ∷ 0x00 ∷ 0x00 ∷ 0x01 ∷ []
 
--- slot 0 calls operation 0 with 7, Ok
+-- the instance in slot 0 calls the operation, argument 7: Ok
 callSeven : List ℕ
 callSeven = 0x40 ∷ 0x00 ∷ 0x0d ∷ 0x0b ∷ 0x00 ∷ 0x00 ∷ 0x01 ∷ 0x00 ∷ 0x00 ∷ 0x00 ∷ 0x07 ∷ 0x02 ∷ 0x00 ∷ 0x00 ∷ 0x00 ∷ 0x00 ∷ []
 
@@ -92,11 +92,11 @@ waitLonger = 0x40 ∷ 0x00 ∷ 0x0d ∷ 0x12 ∷ 0x00 ∷ 0x00 ∷ 0x01 ∷ 0x00
 timesOut : List ℕ
 timesOut = 0x40 ∷ 0x00 ∷ 0x0d ∷ 0x10 ∷ 0x00 ∷ 0x00 ∷ 0x00 ∷ 0x00 ∷ 0x00 ∷ 0x00 ∷ 0x00 ∷ 0x00 ∷ 0x00 ∷ 0x00 ∷ 0x00 ∷ 0x00 ∷ []
 
--- slot 1 hands back 9, Number 0
+-- the server in slot 1 hands 9 back too late: Number 0
 backLate : List ℕ
 backLate = 0x40 ∷ 0x00 ∷ 0x0d ∷ 0x0d ∷ 0x01 ∷ 0x00 ∷ 0x01 ∷ 0x00 ∷ 0x00 ∷ 0x00 ∷ 0x09 ∷ 0x01 ∷ 0x00 ∷ 0x00 ∷ 0x00 ∷ 0x00 ∷ []
 
--- slot 1 hands back 9, Number 1
+-- the server in slot 1 hands 9 back in time: Number 1
 backInTime : List ℕ
 backInTime = 0x40 ∷ 0x00 ∷ 0x0d ∷ 0x0d ∷ 0x01 ∷ 0x00 ∷ 0x01 ∷ 0x00 ∷ 0x00 ∷ 0x00 ∷ 0x09 ∷ 0x01 ∷ 0x00 ∷ 0x00 ∷ 0x00 ∷ 0x01 ∷ []
 
@@ -191,7 +191,7 @@ waitTooLong = record { config = lateConfig; recording = file (spawnClient ∷ ca
 inTime : Row
 inTime = record { config = lateConfig; recording = file (spawnClient ∷ callSeven ∷ spawnServer ∷ backInTime ∷ askNine ∷ []); line = Accepted 5 }
 
--- (e) a result before any call is Void
+-- (e) where nothing was called yet, a result is Void
 noCall : Row
 noCall = record { config = lateConfig; recording = file (spawnClient ∷ askVoid ∷ []); line = Accepted 2 }
 
@@ -199,7 +199,7 @@ noCall = record { config = lateConfig; recording = file (spawnClient ∷ askVoid
 callTwice : Row
 callTwice = record { config = lateConfig; recording = file (spawnClient ∷ callSeven ∷ callAgain ∷ []); line = Accepted 3 }
 
--- (g) an exit below the top is 7
+-- (g) an exit from an area under the top one is 7
 exitBelow : Row
 exitBelow = record { config = areasConfig; recording = file (spawnClient ∷ enterFirst ∷ enterSecond ∷ exitFirst ∷ []); line = Refused 4 7 }
 

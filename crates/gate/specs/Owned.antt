@@ -8,7 +8,7 @@ use Rattle.state.specs.declared.Life.{Life}
 use Rattle.rules.specs.Sound.{componentOf}
 use Rattle.rules.specs.Refusals.{partOf, queueingOf, partOwn, lifeLets}
 
--- 4, 5 or 0
+-- the first of 4 and 5 that a slot's step falls under, or 0 ("Numbers of refusal", 4 and 5)
 unfoldable pub ownedRefusal : Config → Life → ℕ → ℕ → ℕ
 ownedRefusal cfg l code what =
     pick (partOwn cfg (componentOf cfg (l .runnable)) (partOf code) (queueingOf code) what) (pick (lifeLets cfg l code what) 0 5) 4

@@ -1,4 +1,4 @@
-// Refusals 2 to 5, which all steps share: what a code's entries are to be, whether the parts are there, whose they are, and what an instance may do as it lives.
+// Refusals 2 to 5; a slot's steps have all four, the scheduler's steps have refusals 2 and 3 only. What a code's entries are to be, whether the parts are there, whose they are, and what an instance may do as it lives.
 ghost use mathlib.Core.Path.{_≡_};
 ghost use Rattle.rules.specs.Refusals.{partOf, queueingOf, argumentOf, argues, formed, partThere, queuesAs, partOwn, asksSynchronous, lifeLets, instanceRefusal, schedulerRefusal};
 ghost use mathlib.Core.Bool.{not};

@@ -115,7 +115,7 @@ tied-closed cfg st h o w v e p g t = record {
 pub tied-timeout : (cfg : Config) (st : State) (h : History) (o : ℕ) → CanTimeout cfg st o → Tied st h → Tied (closed cfg st o timeoutV) (closes h o byTimeout)
 tied-timeout cfg st h o z t = tied-closed cfg st h o byTimeout timeoutV (z .calling) tt refl t
 
--- the client is gone, and the instance is finished
+-- the slot owes nobody any longer, and its instance counts as finished
 tied-finish : (st : State) (h : History) (i : ℕ) (x : Slot) → i < length (st .slots .at) → Tied st h → Tied (withSlots st (withSlot (st .slots) i (finishing x))) h
 tied-finish st h i x b t = record { queues = t .queues; served = served-idle (st .operations) (h .latest) (st .slots) (h .taken) i (finishing x) (t .served) b refl; calls = t .calls }
 

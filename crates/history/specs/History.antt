@@ -17,25 +17,27 @@ use Rattle.config.specs.Tables.{maxRunnableConfs, maxOperationConfs, operationC
 use Rattle.entries.specs.Faults.{isServer}
 use Rattle.state.specs.Tables.{maxSlots}
 
--- a request: the call step that queued it, and its operation
+-- a request: the call step that queued it, and its operation ("How tight the contracts are", demand 3)
 pub record Request : Type 0 where
   pub at : ℕ
   pub on : ℕ
 
+-- no request, as a slot has that serves none ("How tight the contracts are", demand 3)
 abbrev pub noRequest : Request
 noRequest = record { at = 0; on = 0 }
 
--- how a call ended: by its timeout, or by an instance, spawned for the call named, that handed back the value
+-- how a call ended: by its timeout, or by an instance, spawned for the call named, that handed back the value ("How tight the contracts are", demand 3)
 pub data How : Type 0 where
   byTimeout : How
   byInstance : ℕ → Value → How
 
--- an ending: the operation, the call that it ended, and how
+-- an ending: the operation, the call that it ended, and how ("How tight the contracts are", demand 3)
 pub record Ending : Type 0 where
   pub on : ℕ
   pub call : ℕ
   pub how : How
 
+-- what is known after some steps of a recording ("How tight the contracts are", demand 3)
 pub record History : Type 0 where
   -- the steps so far
   pub place : ℕ
@@ -48,26 +50,29 @@ pub record History : Type 0 where
   -- the calls that ended, the last one first
   pub endings : List Ending
 
--- before any step
+-- the history before any step ("How tight the contracts are", demand 3)
 unfoldable pub nothing : History
 nothing = record { place = 0; queued = replicate maxRunnableConfs []; taken = replicate maxSlots noRequest; latest = replicate maxOperationConfs 0; endings = [] }
 
+-- the requests that wait at the runnable r ("How tight the contracts are", demand 3)
 abbrev pub queuedAt : History → ℕ → List Request
 queuedAt h r = getD (h .queued) r []
 
+-- the request that the instance in the slot i took ("How tight the contracts are", demand 3)
 abbrev pub takenBy : History → ℕ → Request
 takenBy h i = getD (h .taken) i noRequest
 
+-- the latest started call on the operation o ("How tight the contracts are", demand 3)
 abbrev pub latestOn : History → ℕ → ℕ
 latestOn h o = getD (h .latest) o 0
 
 -- ---- what one step adds
 
--- a step that starts, takes and ends no call
+-- a step that starts, takes and ends no call ("How tight the contracts are", demand 3)
 abbrev pub passed : History → History
 passed h = record { place = h .place + 1; queued = h .queued; taken = h .taken; latest = h .latest; endings = h .endings }
 
--- a call of o starts: this step's request is now the last that waits at the server of o
+-- a call of o starts: this step's request is now the last that waits at the server of o ("How tight the contracts are", demand 3)
 abbrev pub begins : Config → History → ℕ → History
 begins cfg h o = record {
   place = h .place + 1;
@@ -77,7 +82,7 @@ begins cfg h o = record {
   endings = h .endings;
 }
 
--- the latest call of o ends
+-- the latest call of o ends ("How tight the contracts are", demand 3)
 abbrev pub closes : History → ℕ → How → History
 closes h o w = record {
   place = h .place + 1;
@@ -87,11 +92,11 @@ closes h o w = record {
   endings = record { on = o; call = latestOn h o; how = w } ∷ h .endings;
 }
 
--- the slot i has an instance that took q
+-- the slot i has an instance that took q ("How tight the contracts are", demand 3)
 abbrev pub takes : History → ℕ → Request → History
 takes h i q = record { place = h .place + 1; queued = h .queued; taken = set (h .taken) i q; latest = h .latest; endings = h .endings }
 
--- the slot i has an instance that took the oldest request of r
+-- the slot i has an instance that took the oldest request of r ("How tight the contracts are", demand 3)
 abbrev pub takesOldest : History → ℕ → ℕ → History
 takesOldest h i r = record {
   place = h .place + 1;
@@ -101,7 +106,7 @@ takesOldest h i r = record {
   endings = h .endings;
 }
 
--- an accepted step: a call answered Ok starts one, a hand back answered 1 and a timeout end one, a spawn of a server takes a request; all others pass
+-- an accepted step: a call answered Ok starts one, a hand back answered 1 and a timeout end one, a spawn of a server takes a request; all others pass ("How tight the contracts are", demand 3)
 unfoldable pub observe : Config → History → Step → History
 observe cfg h s =
     pick (eqb (s .code) 11) (pick (sameValue (s .claim) okV) (begins cfg h (s .what)) (passed h))
@@ -111,32 +116,33 @@ observe cfg h s =
     (pick (eqb (s .code) 16) (closes h (s .what) byTimeout)
     (passed h)))))
 
+-- the history after more steps, from one on ("How tight the contracts are", demand 3)
 unfoldable pub historyFrom : Config → History → List Step → History
 historyFrom cfg h [] = h
 historyFrom cfg h (s ∷ rs) = historyFrom cfg (observe cfg h s) rs
 
--- the history of a recording
+-- the history of a recording ("How tight the contracts are", demand 3)
 unfoldable pub historyOf : Config → List Step → History
 historyOf cfg rs = historyFrom cfg nothing rs
 
 -- ---- questions to a history
 
--- how often the call k ended
+-- how often the call k ended ("How tight the contracts are", demand 3)
 unfoldable pub endsOf : ℕ → List Ending → ℕ
 endsOf k [] = 0
 endsOf k (e ∷ es) = bit (eqb (e .call) k) + endsOf k es
 
--- the last ending on o
+-- the last ending on o ("How tight the contracts are", demand 3)
 unfoldable pub lastOn : ℕ → List Ending → Option Ending
 lastOn o [] = none
 lastOn o (e ∷ es) = pick (eqb (e .on) o) (some e) (lastOn o es)
 
--- an ending is by a timeout, or by an instance that was spawned for this very call
+-- an ending is by a timeout, or by an instance that was spawned for this very call ("How tight the contracts are", demand 3)
 abbrev pub Proper : ℕ → How → Type 0
 Proper k byTimeout = Unit {0}
 Proper k (byInstance j v) = j ≡ k
 
--- the step at place k of the recording, counted from 1, is a call on o that was answered Ok
+-- the step at place k of the recording, counted from 1, is a call on o that was answered Ok ("How tight the contracts are", demand 3)
 unfoldable pub Started : List Step → ℕ → ℕ → Type 0
 Started [] k o = ⊥
 Started (s ∷ rs) zero o = ⊥
@@ -145,7 +151,7 @@ Started (s ∷ rs) (suc (suc k)) o = Started rs (suc k) o
 
 -- ---- requests followed in a second way: all that were ever queued at r, and how many were taken there
 
--- the requests that rs queues at r, oldest first; n steps stand before rs
+-- the requests that rs queues at r, oldest first; n steps stand before rs ("How tight the contracts are", demand 3)
 unfoldable pub allQueued : Config → ℕ → ℕ → List Step → List Request
 allQueued cfg r n [] = []
 allQueued cfg r n (s ∷ rs) =
@@ -153,7 +159,7 @@ allQueued cfg r n (s ∷ rs) =
     (record { at = n + 1; on = s .what } ∷ allQueued cfg r (n + 1) rs)
     (allQueued cfg r (n + 1) rs)
 
--- how many instances of r were spawned
+-- how many instances of r were spawned ("How tight the contracts are", demand 3)
 unfoldable pub allSpawns : ℕ → List Step → ℕ
 allSpawns r [] = 0
 allSpawns r (s ∷ rs) = bit (both (eqb (s .code) 15) (eqb (s .what) r)) + allSpawns r rs

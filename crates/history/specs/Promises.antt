@@ -22,67 +22,69 @@ use Rattle.rules.specs.Sound.{timesIn}
 use Rattle.rules.specs.Step.{stepOf}
 use Rattle.history.specs.History.{Request, noRequest, How, byTimeout, byInstance, Ending, History, historyOf, queuedAt, takenBy, latestOn, endsOf, lastOn, Proper, Started, allQueued, allSpawns}
 
--- an answer says that the step was taken, with this value: by the number and the value that stand for it
+-- an answer says that the step was taken, with this value: by the number and the value that stand for it ("Numbers of refusal")
 abbrev pub Answers : Answer → Value → Type 0
 Answers a v = (refusalIn a ≡ 0) × (valueIn a ≡ v)
 
--- every step of rs is accepted, from st to st′
+-- every step of rs is accepted, from st to st′ ("Judging")
 unfoldable pub Accepted : Config → State → List Step → State → Type 0
 Accepted cfg st [] st′ = st ≡ st′
 Accepted cfg st (s ∷ rs) st′ = Answers (stepOf cfg st s .answer) (s .claim) × Accepted cfg (stepOf cfg st s .state) rs st′
 
+-- the steps are accepted one after another, from the start state to st ("Judging")
 abbrev pub Run : Config → List Step → State → Type 0
 Run cfg rs st = Accepted cfg (startOf cfg) rs st
 
--- a taken area has exactly one holder: an instance whose stack has it, once, and no other stack has it
+-- a taken area has exactly one holder: an instance whose stack has it, once, and no other stack has it ("A sound state", areas)
 abbrev pub TakenHasOne : Type 0
 TakenHasOne =
     (cfg : Config) (rs : List Step) (st : State) → configSound cfg ≡ true → Run cfg rs st
     → (a : ℕ) → a < maxAreaConfs → areaIn (st .areas) a .taken ≡ true
     → (i : ℕ) × (i < maxSlots) × (slotIn (st .slots) i .used ≡ true) × (timesIn a (slotIn (st .slots) i .stack) ≡ 1) × ((j : ℕ) → j < maxSlots → (j ≡ i → ⊥) → timesIn a (slotIn (st .slots) j .stack) ≡ 0)
 
--- a free area has none
+-- a free area is in no stack ("A sound state", areas)
 abbrev pub FreeHasNone : Type 0
 FreeHasNone =
     (cfg : Config) (rs : List Step) (st : State) → configSound cfg ≡ true → Run cfg rs st
     → (a : ℕ) → a < maxAreaConfs → areaIn (st .areas) a .taken ≡ false → (i : ℕ) → i < maxSlots → timesIn a (slotIn (st .slots) i .stack) ≡ 0
 
--- no queue passes its capacity: requests, and values
+-- no queue of requests passes its capacity ("A sound state", queue lengths)
 abbrev pub RequestsFit : Type 0
 RequestsFit =
     (cfg : Config) (rs : List Step) (st : State) → configSound cfg ≡ true → Run cfg rs st
     → (r : ℕ) → r < maxRunnableConfs → runnableIn (st .runnables) r .requests .queued ≤ runnableConfIn (cfg .runnables) r .capacity
 
+-- no queue of values passes its capacity ("A sound state", queue lengths)
 abbrev pub ValuesFit : Type 0
 ValuesFit =
     (cfg : Config) (rs : List Step) (st : State) → configSound cfg ≡ true → Run cfg rs st
     → (q : ℕ) → q < maxRequiredConfs → elementIn (st .elements) q .queue .queued ≤ requiredConfIn (cfg .required) q .capacity
 
--- each started call ends at most once
+-- each started call ends at most once ("How tight the contracts are", demand 3)
 abbrev pub EndsOnce : Type 0
 EndsOnce =
     (cfg : Config) (rs : List Step) (st : State) → configSound cfg ≡ true → Run cfg rs st
     → (k : ℕ) → endsOf k (historyOf cfg rs .endings) ≤ 1
 
--- what an ending names is a started call on that operation, and it is by its timeout or by an instance spawned for that very call
+-- what an ending names is a started call on that operation, and it is by its timeout or by an instance spawned for that very call ("How tight the contracts are", demand 3)
 abbrev pub EndsProperly : Type 0
 EndsProperly =
     (cfg : Config) (rs : List Step) (st : State) → configSound cfg ≡ true → Run cfg rs st
     → (e : Ending) → List·Memᴰ e (historyOf cfg rs .endings) → Started rs (e .call) (e .on) × Proper (e .call) (e .how)
 
--- a timeout is taken at count zero of an open call
+-- a timeout is taken at count zero of an open call ("How tight the contracts are", demand 3)
 abbrev pub TimeoutAtZero : Type 0
 TimeoutAtZero =
     (cfg : Config) (before after : List Step) (s : Step) (st : State) → configSound cfg ≡ true → Run cfg (before ++ (s ∷ after)) st → s .code ≡ 16
     → (m : State) × Run cfg before m × (operationIn (m .operations) (s .what) .calling ≡ true) × (operationIn (m .operations) (s .what) .count ≡ 0)
 
--- a result answers a Number only if the latest call ended on that operation was ended by an instance spawned for it that handed back that number, and that call ends only this once in the whole recording: before any timeout of it
+-- a result answers a Number only if the latest call ended on that operation was ended by an instance spawned for it that handed back that number, and that call ends only this once in the whole recording: before any timeout of it ("How tight the contracts are", demand 3)
 abbrev pub NumberIsFinal : Type 0
 NumberIsFinal =
     (cfg : Config) (before after : List Step) (s : Step) (n : ℕ) (st : State) → configSound cfg ≡ true → Run cfg (before ++ (s ∷ after)) st → s .code ≡ 12 → s .claim ≡ numberV n
     → (e : Ending) × (lastOn (s .what) (historyOf cfg before .endings) ≡ some e) × (e .how ≡ byInstance (e .call) (numberV n)) × (endsOf (e .call) (historyOf cfg (before ++ (s ∷ after)) .endings) ≡ 1)
 
--- the same of the state reached: an operation Done with a Number
+-- the same of the state reached: an operation Done with a Number ("How tight the contracts are", demand 3)
 abbrev pub DoneIsFinal : Type 0
 DoneIsFinal =
     (cfg : Config) (rs : List Step) (st : State) → configSound cfg ≡ true → Run cfg rs st
@@ -91,32 +93,32 @@ DoneIsFinal =
 
 -- ---- that the history misses and invents nothing
 
--- an operation is open exactly if its latest call has no ending yet
+-- an operation is open exactly if its latest call has no ending yet ("How tight the contracts are", demand 3)
 abbrev pub OpenIsUnended : Type 0
 OpenIsUnended =
     (cfg : Config) (rs : List Step) (st : State) → configSound cfg ≡ true → Run cfg rs st
     → (o : ℕ) → o < maxOperationConfs
     → (operationIn (st .operations) o .calling ≡ true) ↔ ((0 < latestOn (historyOf cfg rs) o) × (endsOf (latestOn (historyOf cfg rs) o) (historyOf cfg rs .endings) ≡ 0))
 
--- the latest call of an operation, where it has one, was started on it
+-- the latest call of an operation, where it has one, was started on it ("How tight the contracts are", demand 3)
 abbrev pub LatestStarted : Type 0
 LatestStarted =
     (cfg : Config) (rs : List Step) (st : State) → configSound cfg ≡ true → Run cfg rs st
     → (o : ℕ) → o < maxOperationConfs → 0 < latestOn (historyOf cfg rs) o → Started rs (latestOn (historyOf cfg rs) o) o
 
--- the followed queues are as long as the machine's
+-- the followed queues are as long as the machine's ("How tight the contracts are", demand 3)
 abbrev pub QueuesFollowed : Type 0
 QueuesFollowed =
     (cfg : Config) (rs : List Step) (st : State) → configSound cfg ≡ true → Run cfg rs st
     → (r : ℕ) → r < maxRunnableConfs → length (queuedAt (historyOf cfg rs) r) ≡ runnableIn (st .runnables) r .requests .queued
 
--- the n-th spawn of a server takes the n-th request queued there: what waits is all that was queued, less one for each spawn
+-- the n-th spawn of a server takes the n-th request queued there: what waits is all that was queued, less one for each spawn ("How tight the contracts are", demand 3)
 abbrev pub FirstInFirstOut : Type 0
 FirstInFirstOut =
     (cfg : Config) (rs : List Step) (st : State) → configSound cfg ≡ true → Run cfg rs st
     → (r : ℕ) → r < cfg .runnables .n → 0 < runnableConfIn (cfg .runnables) r .capacity → queuedAt (historyOf cfg rs) r ≡ drop (allSpawns r rs) (allQueued cfg r 0 rs)
 
--- and so a spawn takes the request whose number in that order is the number of spawns before it
+-- and so a spawn takes the request whose number in that order is the number of spawns before it ("How tight the contracts are", demand 3)
 abbrev pub SpawnTakesNext : Type 0
 SpawnTakesNext =
     (cfg : Config) (before : List Step) (s : Step) (st : State) → configSound cfg ≡ true → Run cfg (before ++ (s ∷ [])) st → s .code ≡ 15 → 0 < runnableConfIn (cfg .runnables) (s .what) .capacity

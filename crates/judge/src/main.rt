@@ -1,4 +1,4 @@
-// The judge: reads rte.cfg and a recording on standard input, and prints one line.
+// The judge: reads rte.cfg, and from standard input a recording, and prints its one line.
 
 // One byte more than is allowed, so that a longer input is seen to be too long.
 fn main() {

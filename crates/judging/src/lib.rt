@@ -17,7 +17,7 @@ pub enum Verdict {
     Unfinished,
 }
 
-// A verdict, the count of steps taken and the state reached.
+// A verdict, how many steps were taken, and the state that they led to.
 pub struct Judged {
     pub verdict: Verdict,
     pub count: usize,

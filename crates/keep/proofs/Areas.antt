@@ -1,4 +1,4 @@
--- A taken area stands once in exactly one stack and a free one in none, after every step: what each kind of change does, and then step by step.
+-- After every step a taken area lies in all the stacks together once, a free one not at all: what each kind of change does, and then step by step.
 -- While an area is free every stack has room for it, so none grows past its end.
 -- Assumes nothing.
 use Prim.Native.Nat.{ℕ, _+_, _-_, _≤_, _<_}

@@ -1,4 +1,4 @@
--- Clients after every step: no two share operation and number, each has a number below its operation's or equal while that is Calling, and a Calling operation has one with its number.
+-- Clients after every step: a pair of operation and number belongs to one at most, the number lies under the operation's or is the same during a call, and an open call has its one client.
 -- All of it goes by how many clients have an operation and a number: what each kind of change does to that, and then step by step.
 -- Assumes nothing.
 use Prim.Native.Nat.{ℕ, _+_, _-_, _≤_, _<_}

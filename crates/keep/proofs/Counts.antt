@@ -1,4 +1,4 @@
--- A runnable's count equals its slots after every step: what each kind of change does to the count, and then step by step.
+-- After every step a runnable counts as many instances as it has slots: what each kind of change does to the count, and then step by step.
 -- Assumes nothing.
 use Prim.Native.Nat.{ℕ, _+_, _<_}
 use mathlib.Core.Bool.{true, false}

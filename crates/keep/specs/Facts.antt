@@ -43,6 +43,7 @@ pub record Clients (os : Operations) (rs : Runnables) (ss : Slots) : Type 0 wher
 
 -- ---- a sound state
 
+-- all clauses, one a field
 pub record Sound (cfg : Config) (st : State) : Type 0 where
   pub config : configSound cfg ≡ true
   pub shape : shaped st ≡ true
@@ -68,17 +69,20 @@ pub record Acts (st : State) (i : ℕ) : Type 0 where
   pub running : slotIn (st .slots) i .life .waiting ≡ false
   pub unfinished : slotIn (st .slots) i .life .finished ≡ false
 
+-- a payload for a variable that is there
 pub record CanWriteVariable (cfg : Config) (st : State) (i v : ℕ) (x : Value) : Type 0 where
   pub who : Acts st i
   pub inside : v < cfg .variables .n
   pub payload : isPayload x ≡ true
 
+-- a free area of the own component
 pub record CanEnter (cfg : Config) (st : State) (i a : ℕ) : Type 0 where
   pub who : Acts st i
   pub inside : a < cfg .areas .n
   pub own : areaConfIn (cfg .areas) a .component ≡ componentOf cfg (slotIn (st .slots) i .life .runnable)
   pub free : areaIn (st .areas) a .taken ≡ false
 
+-- the area on top of the own stack
 pub record CanExit (cfg : Config) (st : State) (i a : ℕ) : Type 0 where
   pub who : Acts st i
   pub inside : a < cfg .areas .n
@@ -97,6 +101,7 @@ pub record CanFeed (cfg : Config) (st : State) (i p : ℕ) (v : Value) : Type 0 
   pub inside : p < cfg .provided .n
   pub payload : isPayload v ≡ true
 
+-- a provided element that is unqueued
 pub record CanInvalidate (cfg : Config) (st : State) (i p : ℕ) : Type 0 where
   pub who : Acts st i
   pub inside : p < cfg .provided .n
@@ -127,16 +132,19 @@ pub record CanCollect (cfg : Config) (st : State) (i o : ℕ) : Type 0 where
   pub on : slotIn (st .slots) i .life .on ≡ o
   pub shut : operationIn (st .operations) o .calling ≡ false
 
+-- a payload for the client that is served
 pub record CanHandBack (cfg : Config) (st : State) (i : ℕ) (v : Value) : Type 0 where
   pub who : Acts st i
   pub payload : isPayload v ≡ true
   pub serving : slotIn (st .slots) i .owed .serving ≡ true
 
+-- neither a client nor an area is left
 pub record CanEnd (st : State) (i : ℕ) : Type 0 where
   pub there : There st i
   pub none : slotIn (st .slots) i .owed .serving ≡ false
   pub flat : slotIn (st .slots) i .stack .held ≡ 0
 
+-- the three needs of a spawn, and an empty slot
 pub record CanSpawn (cfg : Config) (st : State) (r : ℕ) : Type 0 where
   pub inside : r < cfg .runnables .n
   pub rested : runnableIn (st .runnables) r .interval ≡ 0
@@ -144,15 +152,18 @@ pub record CanSpawn (cfg : Config) (st : State) (r : ℕ) : Type 0 where
   pub due : isDue (runnableConfIn (cfg .runnables) r) (runnableIn (st .runnables) r) ≡ true
   pub slot : lowestEmpty (st .slots) < maxSlots
 
+-- an open call whose time is up
 pub record CanTimeout (cfg : Config) (st : State) (o : ℕ) : Type 0 where
   pub inside : o < cfg .operations .n
   pub calling : operationIn (st .operations) o .calling ≡ true
   pub zero : operationIn (st .operations) o .count ≡ 0
 
+-- a timer that has run down
 pub record CanTick (cfg : Config) (st : State) (t : ℕ) : Type 0 where
   pub inside : t < cfg .timers .n
   pub zero : timerIn (st .timers) t .count ≡ 0
 
+-- every running count lets the time pass
 pub record CanWait (cfg : Config) (st : State) (t : ℕ) : Type 0 where
   pub operations : operationsLet cfg (st .operations) t ≡ true
   pub timers : timersLet cfg (st .timers) t ≡ true

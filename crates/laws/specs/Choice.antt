@@ -10,10 +10,12 @@ abbrev pub pick : {A : Type 0} → Bool → A → A → A
 pick true a b = a
 pick false a b = b
 
+-- both tests hold
 abbrev pub both : Bool → Bool → Bool
 both true b = b
 both false b = false
 
+-- one of two tests holds, or both
 abbrev pub either : Bool → Bool → Bool
 either true b = true
 either false b = b

@@ -37,6 +37,7 @@ wholeOf t = wholeFrom (suc (length t)) t
 abbrev pub stepsIn : List ℕ → List Step
 stepsIn t = wholeOf t .steps
 
+-- a field is the end of a recording ("The files")
 abbrev pub isEnd : Field → Bool
 isEnd (IsStep s n) = false
 isEnd End = true

@@ -38,34 +38,34 @@ use Rattle.state.specs.declared.State.{State}
 use Rattle.state.specs.Parts.{noClient, maxRequests, maxValues}
 use Rattle.state.specs.Tables.{maxSlots, runnableIn, variableIn, areaIn, elementIn, operationIn, timerIn, slotIn}
 
--- the component of a runnable
+-- the component of a runnable ("The parts, and how many")
 abbrev pub componentOf : Config → ℕ → ℕ
 componentOf cfg r = runnableConfIn (cfg .runnables) r .component
 
 -- ---- clients and queues
 
--- the client that stands where there is none
+-- the client that stands where there is none ("A sound state", unused places)
 unfoldable pub isNoClient : Client → Bool
 isNoClient c = both (eqb (c .operation) 0) (both (eqb (c .number) 0) (isVoid (c .argument)))
 
--- a client of the server r: its operation is there and r serves it, and its argument is a payload
+-- a client of the server r: its operation is there and r serves it, and its argument is a payload ("A sound state", clients)
 unfoldable pub clientFits : Config → ℕ → Client → Bool
 clientFits cfg r c =
     both (ltb (c .operation) (cfg .operations .n))
     (both (eqb (operationConfIn (cfg .operations) (c .operation) .server) r) (isPayload (c .argument)))
 
--- requests keep to the capacity, each is a client of that server, and the places behind them are blank
+-- requests keep to the capacity, each is a client of that server, and the places behind them are blank ("A sound state", queue lengths)
 unfoldable pub requestsSound : Config → ℕ → Requests → Bool
 requestsSound cfg r q =
     both (leb (q .queued) (runnableConfIn (cfg .runnables) r .capacity)) (filled (clientFits cfg r) isNoClient noClient maxRequests (q .queued) (q .at))
 
--- queued values keep to the capacity, each is a payload, and the places behind them are blank
+-- queued values keep to the capacity, each is a payload, and the places behind them are blank ("A sound state", queue lengths)
 unfoldable pub valuesSound : ℕ → ℕ → List Value → Bool
 valuesSound capacity n l = both (leb n capacity) (filled isPayload isVoid voidV maxValues n l)
 
 -- ---- one part at a time
 
--- a runnable: its interval is at most the configured one, it has at most one instance without the concurrent flag, only a plain runnable that is there is pending, and its requests are sound
+-- a runnable: its interval is at most the configured one, it has at most one instance without the concurrent flag, only a plain runnable that is there is pending, and its requests are sound ("A sound state", counts and unused places)
 unfoldable pub runnableSound : Config → ℕ → Runnable → Bool
 runnableSound cfg r x =
     allOf
@@ -75,15 +75,15 @@ runnableSound cfg r x =
     ∷ requestsSound cfg r (x .requests)
     ∷ [])
 
--- a variable holds a payload, an unused one Void
+-- a variable holds a payload, an unused one Void ("A sound state", stored values)
 unfoldable pub variableSound : Config → ℕ → Variable → Bool
 variableSound cfg v x = pick (ltb v (cfg .variables .n)) (isPayload (x .value)) (isVoid (x .value))
 
--- what an unqueued element may hold: a payload, NeverReceived or Invalid
+-- what an unqueued element may hold: a payload, NeverReceived or Invalid ("A sound state", stored values)
 unfoldable pub isStored : Value → Bool
 isStored v = either (isPayload v) (both (either (eqb (v .kind) 6) (eqb (v .kind) 7)) (eqb (v .number) 0))
 
--- an element: an unqueued one holds what it may and has no queue; a queued one, or one that isn't there, holds no value and has its flag off
+-- an element: an unqueued one holds what it may and has no queue; a queued one, or one that isn't there, holds no value and has its flag off ("A sound state", stored values and unused places)
 unfoldable pub elementSound : Config → ℕ → Element → Bool
 elementSound cfg q x =
     both
@@ -92,11 +92,11 @@ elementSound cfg q x =
     (both (isVoid (x .value)) (not (x .updated))))
     (valuesSound (requiredConfIn (cfg .required) q .capacity) (x .queue .queued) (x .queue .at))
 
--- what Done may hold: a payload or Timeout
+-- what Done may hold: a payload or Timeout ("A sound state", stored values)
 unfoldable pub isOutcome : Value → Bool
 isOutcome v = either (isPayload v) (both (eqb (v .kind) 5) (eqb (v .number) 0))
 
--- a Calling operation is there, its count is at most the timeout, its number at most 65,534, and it holds no value
+-- a Calling operation is there, its count is at most the timeout, its number at most 65,534, and it holds no value ("A sound state", Calling)
 unfoldable pub callingSound : Config → ℕ → Operation → Bool
 callingSound cfg o x =
     allOf
@@ -106,21 +106,21 @@ callingSound cfg o x =
     ∷ isVoid (x .done)
     ∷ [])
 
--- a Done operation has count 0; one that isn't there is at number 0, Done(Void)
+-- a Done operation has count 0; one that isn't there is at number 0, Done(Void) ("A sound state", stored values and unused places)
 unfoldable pub doneSound : Config → ℕ → Operation → Bool
 doneSound cfg o x = both (eqb (x .count) 0) (pick (ltb o (cfg .operations .n)) (isOutcome (x .done)) (both (eqb (x .number) 0) (isVoid (x .done))))
 
--- an operation: its number fits, and it is soundly Calling or Done
+-- an operation: its number fits, and it is soundly Calling or Done ("A sound state", Calling and Done)
 unfoldable pub operationSound : Config → ℕ → Operation → Bool
 operationSound cfg o x = both (leb (x .number) 65535) (pick (x .calling) (callingSound cfg o x) (doneSound cfg o x))
 
--- a timer's count is at most its period
+-- a timer's count is at most its period ("A sound state", counts)
 unfoldable pub timerSound : Config → ℕ → Timer → Bool
 timerSound cfg t x = leb (x .count) (timerConfIn (cfg .timers) t .period)
 
 -- ---- one slot at a time
 
--- a waiter's operation is there, is synchronous, and belongs to the waiter's component
+-- a waiter's operation is there, is synchronous, and belongs to the waiter's component ("A sound state", waiting)
 unfoldable pub waitsWell : Config → Life → Bool
 waitsWell cfg l =
     allOf
@@ -129,7 +129,7 @@ waitsWell cfg l =
     ∷ eqb (operationConfIn (cfg .operations) (l .on) .component) (componentOf cfg (l .runnable))
     ∷ [])
 
--- an instance is of a runnable that is there; a plain one is never finished; it waits well, or names no operation
+-- an instance is of a runnable that is there; a plain one is never finished; it waits well, or names no operation ("A sound state", instances)
 unfoldable pub lifeSound : Config → Life → Bool
 lifeSound cfg l =
     allOf
@@ -138,25 +138,26 @@ lifeSound cfg l =
     ∷ pick (l .waiting) (waitsWell cfg l) (eqb (l .on) 0)
     ∷ [])
 
--- who owes an answer: every unfinished instance of a server and no other; its client is one of that server, and where nobody is owed the place is blank
+-- who owes an answer: every unfinished instance of a server and no other; its client is one of that server, and where nobody is owed the place is blank ("A sound state", clients of instances)
 unfoldable pub owedSound : Config → Life → Owed → Bool
 owedSound cfg l w =
     both (alike (w .serving) (both (isServer cfg (l .runnable)) (not (l .finished))))
     (pick (w .serving) (clientFits cfg (l .runnable) (w .client)) (isNoClient (w .client)))
 
--- an area in a stack is there and of the instance's component
+-- an area in a stack is there and of the instance's component ("A sound state", areas)
 unfoldable pub areaFits : Config → ℕ → ℕ → Bool
 areaFits cfg component a = both (ltb a (cfg .areas .n)) (eqb (areaConfIn (cfg .areas) a .component) component)
 
+-- a place of a stack that holds the number 0, as a blank one does ("A sound state", unused places)
 abbrev pub isZero : ℕ → Bool
 isZero n = eqb n 0
 
--- a stack holds areas that fit, and the places above its top are blank
+-- a stack holds areas that fit, and the places above its top are blank ("A sound state", areas)
 unfoldable pub stackSound : Config → Life → Stack → Bool
 stackSound cfg l s =
     both (leb (s .held) maxAreaConfs) (filled (areaFits cfg (componentOf cfg (l .runnable))) isZero 0 maxAreaConfs (s .held) (s .at))
 
--- an empty slot is blank
+-- an empty slot is blank ("A sound state", unused places)
 unfoldable pub isNoSlot : Slot → Bool
 isNoSlot x =
     allOf
@@ -170,111 +171,123 @@ isNoSlot x =
     ∷ filled isZero isZero 0 maxAreaConfs 0 (x .stack .at)
     ∷ [])
 
--- a slot: empty, or with a sound instance in it
+-- a slot: empty, or with a sound instance in it ("A sound state", instances)
 unfoldable pub slotSound : Config → Slot → Bool
 slotSound cfg x =
     pick (x .used) (allOf (lifeSound cfg (x .life) ∷ owedSound cfg (x .life) (x .owed) ∷ stackSound cfg (x .life) (x .stack) ∷ [])) (isNoSlot x)
 
 -- ---- counts: each runnable counts as many instances as slots are in use by it
 
+-- the slot is in use by an instance of the runnable r ("A sound state", counts)
 unfoldable pub ofRunnable : ℕ → Slot → Bool
 ofRunnable r x = both (x .used) (eqb (x .life .runnable) r)
 
--- how many slots are of the runnable r
+-- how many slots are of the runnable r ("A sound state", counts)
 unfoldable pub slotsOf : Slots → ℕ → ℕ
 slotsOf t r = countBelow (λ (k : ℕ). ofRunnable r (slotIn t k)) maxSlots
 
+-- the runnable r counts as many instances as it has slots ("A sound state", counts)
 unfoldable pub countSound : Runnables → Slots → ℕ → Bool
 countSound rs ss r = eqb (runnableIn rs r .instances) (slotsOf ss r)
 
 -- ---- areas: a taken one lies in all the stacks together once, a free one not at all
 
--- how often the area a stands in a stack
+-- how often the area a stands in a stack ("A sound state", areas)
 unfoldable pub timesIn : ℕ → Stack → ℕ
 timesIn a s = countBelow (λ (j : ℕ). eqb (getD (s .at) j 0) a) (s .held)
 
--- how often it stands in all stacks
+-- how often the area a stands in all stacks together ("A sound state", areas)
 unfoldable pub holders : Slots → ℕ → ℕ
 holders t a = sumBelow (λ (k : ℕ). timesIn a (slotIn t k .stack)) maxSlots
 
--- one that isn't there is free
+-- a taken area is there and stands in all stacks together once, a free one not at all ("A sound state", areas)
 unfoldable pub areaSound : Config → Areas → Slots → ℕ → Bool
 areaSound cfg t ss a = both (either (not (areaIn t a .taken)) (ltb a (cfg .areas .n))) (eqb (holders ss a) (bit (areaIn t a .taken)))
 
 -- ---- clients: a pair of operation and number belongs to one client at most
 
+-- the client has the operation o and the number m ("A sound state", clients)
 unfoldable pub isClient : ℕ → ℕ → Client → Bool
 isClient o m c = both (eqb (c .operation) o) (eqb (c .number) m)
 
--- how many requests of a queue have the operation o and the number m
+-- how many requests of a queue have the operation o and the number m ("A sound state", clients)
 unfoldable pub queuedAs : ℕ → ℕ → Requests → ℕ
 queuedAs o m q = countBelow (λ (j : ℕ). isClient o m (getD (q .at) j noClient)) (q .queued)
 
--- whether the client of an instance does
+-- one if an instance has a client with the operation o and the number m, else none ("A sound state", clients)
 unfoldable pub servedAs : ℕ → ℕ → Owed → ℕ
 servedAs o m w = bit (both (w .serving) (isClient o m (w .client)))
 
--- how many clients do, queued or on an instance
+-- how many clients have them, in all queues and on all instances ("A sound state", clients)
 unfoldable pub clientsAs : Runnables → Slots → ℕ → ℕ → ℕ
 clientsAs rs ss o m =
     sumBelow (λ (r : ℕ). queuedAs o m (runnableIn rs r .requests)) maxRunnableConfs
     + sumBelow (λ (k : ℕ). servedAs o m (slotIn ss k .owed)) maxSlots
 
--- a client's number is below its operation's, or equal while that is Calling
+-- a client's number lies under that of its operation, or is the same during a call ("A sound state", clients)
 unfoldable pub numbered : Operations → Client → Bool
 numbered os c =
     either (ltb (c .number) (operationIn os (c .operation) .number))
     (both (operationIn os (c .operation) .calling) (eqb (c .number) (operationIn os (c .operation) .number)))
 
--- a client has such a number, and shares operation and number with no other
+-- a client has such a number, and shares operation and number with no other ("A sound state", clients)
 unfoldable pub clientSound : Operations → Runnables → Slots → Client → Bool
 clientSound os rs ss c = both (numbered os c) (eqb (clientsAs rs ss (c .operation) (c .number)) 1)
 
--- every queued client of the runnable r
+-- every queued client of the runnable r is sound ("A sound state", clients)
 unfoldable pub queuedSound : Operations → Runnables → Slots → ℕ → Bool
 queuedSound os rs ss r =
     allBelow (λ (j : ℕ). clientSound os rs ss (getD (runnableIn rs r .requests .at) j noClient)) (runnableIn rs r .requests .queued)
 
--- the client on the instance k
+-- the client on the instance k, if it has one, is sound ("A sound state", clients)
 unfoldable pub servedSound : Operations → Runnables → Slots → ℕ → Bool
 servedSound os rs ss k = either (not (slotIn ss k .owed .serving)) (clientSound os rs ss (slotIn ss k .owed .client))
 
--- while an operation is Calling there is one client under its number, neither more nor fewer
+-- while an operation is Calling there is one client under its number, neither more nor fewer ("A sound state", Calling)
 unfoldable pub calledSound : Operations → Runnables → Slots → ℕ → Bool
 calledSound os rs ss o = either (not (operationIn os o .calling)) (eqb (clientsAs rs ss o (operationIn os o .number)) 1)
 
 -- ---- the clauses over whole tables
 
+-- every runnable is sound, each unused place too ("A sound state")
 unfoldable pub runnablesSound : Config → Runnables → Bool
 runnablesSound cfg t = allBelow (λ (r : ℕ). runnableSound cfg r (runnableIn t r)) maxRunnableConfs
 
+-- every variable is sound, each unused place too ("A sound state")
 unfoldable pub variablesSound : Config → Variables → Bool
 variablesSound cfg t = allBelow (λ (v : ℕ). variableSound cfg v (variableIn t v)) maxVariableConfs
 
+-- every required element is sound, each unused place too ("A sound state")
 unfoldable pub elementsSound : Config → Elements → Bool
 elementsSound cfg t = allBelow (λ (q : ℕ). elementSound cfg q (elementIn t q)) maxRequiredConfs
 
+-- every operation is sound, each unused place too ("A sound state")
 unfoldable pub operationsSound : Config → Operations → Bool
 operationsSound cfg t = allBelow (λ (o : ℕ). operationSound cfg o (operationIn t o)) maxOperationConfs
 
+-- every timer is sound, each unused place too ("A sound state")
 unfoldable pub timersSound : Config → Timers → Bool
 timersSound cfg t = allBelow (λ (k : ℕ). timerSound cfg k (timerIn t k)) maxTimerConfs
 
+-- every instance slot is sound ("A sound state")
 unfoldable pub slotsSound : Config → Slots → Bool
 slotsSound cfg t = allBelow (λ (k : ℕ). slotSound cfg (slotIn t k)) maxSlots
 
+-- the count of every runnable is right ("A sound state", counts)
 unfoldable pub countsSound : Runnables → Slots → Bool
 countsSound rs ss = allBelow (countSound rs ss) maxRunnableConfs
 
+-- every area lies as it should ("A sound state", areas)
 unfoldable pub areasSound : Config → Areas → Slots → Bool
 areasSound cfg t ss = allBelow (areaSound cfg t ss) maxAreaConfs
 
+-- every client is sound, queued or on an instance, and every open call has its one client ("A sound state", clients)
 unfoldable pub clientsSound : Operations → Runnables → Slots → Bool
 clientsSound os rs ss =
     both (allBelow (queuedSound os rs ss) maxRunnableConfs)
     (both (allBelow (servedSound os rs ss) maxSlots) (allBelow (calledSound os rs ss) maxOperationConfs))
 
--- the seven tables have their lengths
+-- the seven tables have their lengths ("The parts, and how many")
 unfoldable pub shaped : State → Bool
 shaped st =
     allOf
@@ -287,7 +300,7 @@ shaped st =
     ∷ eqb (length (st .slots .at)) maxSlots
     ∷ [])
 
--- a sound state of a sound configuration
+-- a sound state of a sound configuration ("A sound state")
 unfoldable pub soundOf : Config → State → Bool
 soundOf cfg st =
     allOf

@@ -7,7 +7,7 @@ use Rattle.config.specs.declared.Config.{Config}
 use Rattle.state.specs.declared.State.{State}
 use Rattle.rules.specs.Sound.{runnablesSound, variablesSound, elementsSound, operationsSound, timersSound, slotsSound, countsSound, areasSound, clientsSound}
 
--- what is tested of each part by itself
+-- what is tested of each part by itself ("A sound state")
 abbrev pub partTests : Config → State → List Bool
 partTests cfg st =
     runnablesSound cfg (st .runnables)
@@ -18,7 +18,7 @@ partTests cfg st =
     ∷ slotsSound cfg (st .slots)
     ∷ []
 
--- what is tested of a table against others: counts against slots, areas against stacks, clients against operations and each other
+-- what is tested of a table against others: counts against slots, areas against stacks, clients against operations and each other ("A sound state")
 abbrev pub tieTests : Config → State → List Bool
 tieTests cfg st =
     countsSound (st .runnables) (st .slots)

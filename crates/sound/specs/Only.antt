@@ -8,17 +8,22 @@ use Rattle.config.specs.declared.OperationConfs.{OperationConfs}
 use Rattle.config.specs.declared.TimerConfs.{TimerConfs}
 use Rattle.config.specs.Tables.{noRunnableConfs, noVariableConfs, noAreaConfs, noRequiredConfs, noProvidedConfs, noLinks, noOperationConfs, noTimerConfs, noDataEvents, noReturnEvents}
 
+-- a configuration with these variables and nothing else
 unfoldable pub onlyVariables : VariableConfs → Config
 onlyVariables t = record { runnables = noRunnableConfs; variables = t; areas = noAreaConfs; required = noRequiredConfs; provided = noProvidedConfs; links = noLinks; operations = noOperationConfs; timers = noTimerConfs; devents = noDataEvents; revents = noReturnEvents }
 
+-- a configuration with these areas and nothing else
 unfoldable pub onlyAreas : AreaConfs → Config
 onlyAreas t = record { runnables = noRunnableConfs; variables = noVariableConfs; areas = t; required = noRequiredConfs; provided = noProvidedConfs; links = noLinks; operations = noOperationConfs; timers = noTimerConfs; devents = noDataEvents; revents = noReturnEvents }
 
+-- a configuration with these required elements and nothing else
 unfoldable pub onlyRequired : RequiredConfs → Config
 onlyRequired t = record { runnables = noRunnableConfs; variables = noVariableConfs; areas = noAreaConfs; required = t; provided = noProvidedConfs; links = noLinks; operations = noOperationConfs; timers = noTimerConfs; devents = noDataEvents; revents = noReturnEvents }
 
+-- a configuration with these operations and nothing else
 unfoldable pub onlyOperations : OperationConfs → Config
 onlyOperations t = record { runnables = noRunnableConfs; variables = noVariableConfs; areas = noAreaConfs; required = noRequiredConfs; provided = noProvidedConfs; links = noLinks; operations = t; timers = noTimerConfs; devents = noDataEvents; revents = noReturnEvents }
 
+-- a configuration with these timers and nothing else
 unfoldable pub onlyTimers : TimerConfs → Config
 onlyTimers t = record { runnables = noRunnableConfs; variables = noVariableConfs; areas = noAreaConfs; required = noRequiredConfs; provided = noProvidedConfs; links = noLinks; operations = noOperationConfs; timers = t; devents = noDataEvents; revents = noReturnEvents }

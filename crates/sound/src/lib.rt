@@ -370,7 +370,7 @@ fn timer_sound(t: TimerConfs, k: u8, x: Timer) -> bool
 
 // ---- one slot at a time
 
-// A waiting instance waits on a synchronous operation of its component.
+// A waiter's operation is there, is synchronous, and belongs to the waiter's component.
 fn waits_well(cfg: Config, l: Life) -> bool
     ensures { λ b. ⌜ b ≡ waitsWell cfg l ⌝ }
 {
@@ -591,7 +591,7 @@ fn slots_of(t: Slots, r: u8) -> u8
     n
 }
 
-// A runnable's count equals its slots.
+// A runnable counts as many instances as it has slots.
 fn count_sound(rs: Runnables, ss: Slots, r: u8) -> bool
     ensures { λ b. ⌜ b ≡ countSound rs ss r ⌝ }
 {
@@ -630,7 +630,7 @@ fn holders(t: Slots, a: u8) -> u16
     n
 }
 
-// A taken area is there and stands once in one stack, a free one in none.
+// A taken area is there and stands in all stacks together once, a free one not at all.
 fn area_sound(t: AreaConfs, areas: Areas, ss: Slots, a: u8) -> bool
     ensures { λ b. ⌜ b ≡ areaSound (onlyAreas t) areas ss a ⌝ }
 {
@@ -773,7 +773,7 @@ fn served_sound(os: Operations, rs: Runnables, ss: Slots, k: u8) -> bool
     true
 }
 
-// A Calling operation has exactly one client with its number.
+// While an operation is Calling, one client has its number, neither more nor fewer.
 fn called_sound(os: Operations, rs: Runnables, ss: Slots, o: u8) -> bool
     ensures { λ b. ⌜ b ≡ calledSound os rs ss o ⌝ }
 {

@@ -19,56 +19,62 @@ use Rattle.state.specs.declared.Owed.{Owed}
 use Rattle.state.specs.declared.Stack.{Stack}
 use Rattle.state.specs.declared.Slot.{Slot}
 
--- no client
+-- the client that stands where there is none ("A sound state", unused places)
 abbrev pub noClient : Client
 noClient = record { operation = 0; number = 0; argument = voidV }
 
--- a queue has as many places as a capacity may be
+-- a queue of requests has as many places as a capacity may be ("The files", below the table)
 abbrev pub maxRequests : ℕ
 maxRequests = 16
 
--- an empty queue of requests
+-- an empty queue of requests ("A sound state", unused places)
 unfoldable pub noRequests : Requests
 noRequests = record { queued = 0; at = replicate maxRequests noClient }
 
--- idle, with no instance and no request
+-- the blank runnable: idle, with no instance and no request ("A sound state", unused places)
 unfoldable pub noRunnable : Runnable
 noRunnable = record { interval = 0; pending = false; instances = 0; requests = noRequests }
 
+-- the blank variable holds Void ("A sound state", unused places)
 abbrev pub noVariable : Variable
 noVariable = record { value = voidV }
 
--- free
+-- the blank area is free ("A sound state", unused places)
 abbrev pub noArea : Area
 noArea = record { taken = false }
 
+-- a queue of values has as many places as a capacity may be ("The files", below the table)
 abbrev pub maxValues : ℕ
 maxValues = 16
 
--- an empty queue of values
+-- an empty queue of values ("A sound state", unused places)
 unfoldable pub noValues : Values
 noValues = record { queued = 0; at = replicate maxValues voidV }
 
+-- the blank element: Void, its flag off, its queue empty ("A sound state", unused places)
 unfoldable pub noElement : Element
 noElement = record { value = voidV; updated = false; queue = noValues }
 
--- Done(Void) at number 0
+-- the blank operation is Done(Void) at number 0 ("A sound state", unused places)
 abbrev pub noOperation : Operation
 noOperation = record { number = 0; calling = false; count = 0; done = voidV }
 
+-- the blank timer has count 0 ("A sound state", unused places)
 abbrev pub noTimer : Timer
 noTimer = record { count = 0 }
 
+-- the life of no instance ("A sound state", unused places)
 abbrev pub noLife : Life
 noLife = record { runnable = 0; waiting = false; on = 0; finished = false }
 
+-- no client that an answer is owed to ("A sound state", unused places)
 abbrev pub noOwed : Owed
 noOwed = record { serving = false; client = noClient }
 
--- no area held; a stack has a place for every area
+-- no area held; a stack has a place for every area ("A sound state", unused places)
 unfoldable pub noStack : Stack
 noStack = record { held = 0; at = replicate maxAreaConfs 0 }
 
--- empty
+-- the blank slot has no instance ("A sound state", unused places)
 unfoldable pub noSlot : Slot
 noSlot = record { used = false; life = noLife; owed = noOwed; stack = noStack }

@@ -18,42 +18,42 @@ upOne n = (n + 1) % 256
 
 -- ---- requests
 
--- one more, at the end
+-- one request more, at the end ("The eighteen steps", Call)
 unfoldable pub pushRequest : Requests → Client → Requests
 pushRequest q c = record { queued = upOne (q .queued); at = set (q .at) (q .queued) c }
 
--- the oldest
+-- the oldest request ("The eighteen steps", Spawn)
 unfoldable pub firstRequest : Requests → Client
 firstRequest q = getD (q .at) 0 noClient
 
--- the oldest taken, each other one place down
+-- the oldest request taken, each other one place down ("The eighteen steps", Spawn)
 unfoldable pub restRequests : Requests → Requests
 restRequests q = record { queued = q .queued - 1; at = shifted noClient (q .at) }
 
 -- ---- values
 
--- one more, at the end
+-- one value more, at the end ("The eighteen steps", 10)
 unfoldable pub pushValue : Values → Value → Values
 pushValue q v = record { queued = upOne (q .queued); at = set (q .at) (q .queued) v }
 
--- the oldest
+-- the oldest value ("The eighteen steps", 9)
 unfoldable pub firstValue : Values → Value
 firstValue q = getD (q .at) 0 voidV
 
--- the oldest taken, each other one place down
+-- the oldest value taken, each other one place down ("The eighteen steps", 9)
 unfoldable pub restValues : Values → Values
 restValues q = record { queued = q .queued - 1; at = shifted voidV (q .at) }
 
 -- ---- areas
 
--- one more, on top
+-- one area more, on top ("The eighteen steps", 3)
 unfoldable pub pushArea : Stack → ℕ → Stack
 pushArea s a = record { held = upOne (s .held); at = set (s .at) (s .held) a }
 
--- the one on top
+-- the area on top ("The eighteen steps", 4)
 unfoldable pub topArea : Stack → ℕ
 topArea s = getD (s .at) (s .held - 1) 0
 
--- the one on top taken off
+-- the area on top taken off ("The eighteen steps", 4)
 unfoldable pub popArea : Stack → Stack
 popArea s = record { held = s .held - 1; at = set (s .at) (s .held - 1) 0 }

@@ -24,29 +24,31 @@ use Rattle.state.specs.declared.Element.{Element}
 use Rattle.state.specs.declared.Elements.{Elements}
 use Rattle.state.specs.declared.State.{State}
 
--- a runnable starts pending under the init flag, else idle; a server's queue is empty
+-- a runnable starts pending under the init flag, else idle; a server's queue is empty ("The parts, and how many", start state)
 abbrev pub startRunnable : RunnableConf → Runnable
 startRunnable c = record { interval = 0; pending = c .init; instances = 0; requests = noRequests }
 
--- a variable starts at its initial Number, or Void
+-- a variable starts at its initial Number, or Void ("The parts, and how many", start state)
 unfoldable pub startVariable : VariableConf → Variable
 startVariable c = pick (c .initialed) (record { value = numberV (c .initial) }) noVariable
 
--- an unqueued element starts NeverReceived with the flag off, a queued one empty
+-- an unqueued element starts NeverReceived with the flag off, a queued one empty ("The parts, and how many", start state)
 unfoldable pub startElement : RequiredConf → Element
 startElement c = pick (eqb (c .capacity) 0) (record { value = neverReceivedV; updated = false; queue = noValues }) noElement
 
--- each kind by its configured parts, and blank beyond them
+-- every runnable as it starts, and blank beyond them ("The parts, and how many", start state)
 unfoldable pub startRunnables : RunnableConfs → Runnables
 startRunnables t = record { at = eachBelow (λ (k : ℕ) (x : Runnable). startRunnable (runnableConfIn t k)) noRunnable (t .n) (noRunnables .at) }
 
+-- every variable as it starts, and blank beyond them ("The parts, and how many", start state)
 unfoldable pub startVariables : VariableConfs → Variables
 startVariables t = record { at = eachBelow (λ (k : ℕ) (x : Variable). startVariable (variableConfIn t k)) noVariable (t .n) (noVariables .at) }
 
+-- every required element as it starts, and blank beyond them ("The parts, and how many", start state)
 unfoldable pub startElements : RequiredConfs → Elements
 startElements t = record { at = eachBelow (λ (k : ℕ) (x : Element). startElement (requiredConfIn t k)) noElement (t .n) (noElements .at) }
 
--- all slots empty, all areas free, intervals and timers at 0, each operation Done(Void) under number 0, and the rest as its kind starts
+-- all slots empty, all areas free, intervals and timers at 0, each operation Done(Void) under number 0, and the rest as its kind starts ("The parts, and how many", start state)
 unfoldable pub startOf : Config → State
 startOf cfg = record {
   runnables = startRunnables (cfg .runnables);

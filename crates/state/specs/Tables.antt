@@ -21,125 +21,132 @@ use Rattle.state.specs.declared.Slot.{Slot}
 use Rattle.state.specs.declared.Slots.{Slots}
 use Rattle.state.specs.declared.State.{State}
 
--- there are 32 instance slots
+-- how many slots there are for instances ("The parts, and how many")
 abbrev pub maxSlots : ℕ
 maxSlots = 32
 
 -- ---- runnables
 
+-- a table of blank runnables ("A sound state", unused places)
 unfoldable pub noRunnables : Runnables
 noRunnables = record { at = replicate maxRunnableConfs noRunnable }
 
--- what stands at place i
+-- the runnable at place i ("The parts, and how many")
 unfoldable pub runnableIn : Runnables → ℕ → Runnable
 runnableIn t i = getD (t .at) i noRunnable
 
--- the table with x at place i
+-- the table with the runnable x at place i ("The parts, and how many")
 unfoldable pub withRunnable : Runnables → ℕ → Runnable → Runnables
 withRunnable t i x = record { at = set (t .at) i x }
 
--- the state with another such table
+-- the state with another table of runnables ("The parts, and how many")
 abbrev pub withRunnables : State → Runnables → State
 withRunnables st t = record { runnables = t; variables = st .variables; areas = st .areas; elements = st .elements; operations = st .operations; timers = st .timers; slots = st .slots }
 
 -- ---- variables
 
+-- a table of blank variables ("A sound state", unused places)
 unfoldable pub noVariables : Variables
 noVariables = record { at = replicate maxVariableConfs noVariable }
 
--- what stands at place i
+-- the variable at place i ("The parts, and how many")
 unfoldable pub variableIn : Variables → ℕ → Variable
 variableIn t i = getD (t .at) i noVariable
 
--- the table with x at place i
+-- the table with the variable x at place i ("The parts, and how many")
 unfoldable pub withVariable : Variables → ℕ → Variable → Variables
 withVariable t i x = record { at = set (t .at) i x }
 
--- the state with another such table
+-- the state with another table of variables ("The parts, and how many")
 abbrev pub withVariables : State → Variables → State
 withVariables st t = record { runnables = st .runnables; variables = t; areas = st .areas; elements = st .elements; operations = st .operations; timers = st .timers; slots = st .slots }
 
 -- ---- exclusive areas
 
+-- a table of blank areas ("A sound state", unused places)
 unfoldable pub noAreas : Areas
 noAreas = record { at = replicate maxAreaConfs noArea }
 
--- what stands at place i
+-- the area at place i ("The parts, and how many")
 unfoldable pub areaIn : Areas → ℕ → Area
 areaIn t i = getD (t .at) i noArea
 
--- the table with x at place i
+-- the table with the area x at place i ("The parts, and how many")
 unfoldable pub withArea : Areas → ℕ → Area → Areas
 withArea t i x = record { at = set (t .at) i x }
 
--- the state with another such table
+-- the state with another table of areas ("The parts, and how many")
 abbrev pub withAreas : State → Areas → State
 withAreas st t = record { runnables = st .runnables; variables = st .variables; areas = t; elements = st .elements; operations = st .operations; timers = st .timers; slots = st .slots }
 
 -- ---- required elements
 
+-- a table of blank required elements ("A sound state", unused places)
 unfoldable pub noElements : Elements
 noElements = record { at = replicate maxRequiredConfs noElement }
 
--- what stands at place i
+-- the required element at place i ("The parts, and how many")
 unfoldable pub elementIn : Elements → ℕ → Element
 elementIn t i = getD (t .at) i noElement
 
--- the table with x at place i
+-- the table with the required element x at place i ("The parts, and how many")
 unfoldable pub withElement : Elements → ℕ → Element → Elements
 withElement t i x = record { at = set (t .at) i x }
 
--- the state with another such table
+-- the state with another table of required elements ("The parts, and how many")
 abbrev pub withElements : State → Elements → State
 withElements st t = record { runnables = st .runnables; variables = st .variables; areas = st .areas; elements = t; operations = st .operations; timers = st .timers; slots = st .slots }
 
 -- ---- operations
 
+-- a table of blank operations ("A sound state", unused places)
 unfoldable pub noOperations : Operations
 noOperations = record { at = replicate maxOperationConfs noOperation }
 
--- what stands at place i
+-- the operation at place i ("The parts, and how many")
 unfoldable pub operationIn : Operations → ℕ → Operation
 operationIn t i = getD (t .at) i noOperation
 
--- the table with x at place i
+-- the table with the operation x at place i ("The parts, and how many")
 unfoldable pub withOperation : Operations → ℕ → Operation → Operations
 withOperation t i x = record { at = set (t .at) i x }
 
--- the state with another such table
+-- the state with another table of operations ("The parts, and how many")
 abbrev pub withOperations : State → Operations → State
 withOperations st t = record { runnables = st .runnables; variables = st .variables; areas = st .areas; elements = st .elements; operations = t; timers = st .timers; slots = st .slots }
 
 -- ---- timers
 
+-- a table of blank timers ("A sound state", unused places)
 unfoldable pub noTimers : Timers
 noTimers = record { at = replicate maxTimerConfs noTimer }
 
--- what stands at place i
+-- the timer at place i ("The parts, and how many")
 unfoldable pub timerIn : Timers → ℕ → Timer
 timerIn t i = getD (t .at) i noTimer
 
--- the table with x at place i
+-- the table with the timer x at place i ("The parts, and how many")
 unfoldable pub withTimer : Timers → ℕ → Timer → Timers
 withTimer t i x = record { at = set (t .at) i x }
 
--- the state with another such table
+-- the state with another table of timers ("The parts, and how many")
 abbrev pub withTimers : State → Timers → State
 withTimers st t = record { runnables = st .runnables; variables = st .variables; areas = st .areas; elements = st .elements; operations = st .operations; timers = t; slots = st .slots }
 
 -- ---- instance slots
 
+-- a table of blank slots ("A sound state", unused places)
 unfoldable pub noSlots : Slots
 noSlots = record { at = replicate maxSlots noSlot }
 
--- what stands at place i
+-- the slot at place i ("The parts, and how many")
 unfoldable pub slotIn : Slots → ℕ → Slot
 slotIn t i = getD (t .at) i noSlot
 
--- the table with x at place i
+-- the table with the slot x at place i ("The parts, and how many")
 unfoldable pub withSlot : Slots → ℕ → Slot → Slots
 withSlot t i x = record { at = set (t .at) i x }
 
--- the state with another such table
+-- the state with another table of slots ("The parts, and how many")
 abbrev pub withSlots : State → Slots → State
 withSlots st t = record { runnables = st .runnables; variables = st .variables; areas = st .areas; elements = st .elements; operations = st .operations; timers = st .timers; slots = t }

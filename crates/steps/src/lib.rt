@@ -567,7 +567,7 @@ fn running_on(x: Slot) -> Slot
     y
 }
 
-// Asynchronous: NoData while the call is open, else the stored value, which stays.
+// Asynchronous: NoData as long as the call has not ended, then what the operation is Done with, which it keeps.
 fn poll(st: State, o: u8) -> Stepped
     ensures { λ r. ⌜ r ≡ pollOf st o ⌝ }
 {
@@ -673,7 +673,7 @@ fn answers(t: Operations, c: Client) -> bool
     false
 }
 
-// The client is gone, and the instance is finished.
+// The slot owes nobody any longer, and its instance counts as finished.
 fn finishing(x: Slot) -> Slot
     ensures { λ r. ⌜ r ≡ finishing x ⌝ }
 {
@@ -712,7 +712,7 @@ pub fn hand_back(cfg: Config, st: State, i: u8, v: Value) -> Stepped
     refuse(16, st)
 }
 
-// An open call at count 0 becomes Done(Timeout).
+// A call that is open, and whose count has run out, ends with Timeout.
 pub fn timeout(cfg: Config, st: State, o: u8) -> Stepped
     ensures { λ r. ⌜ r ≡ timeoutOf cfg st o ⌝ }
 {
@@ -777,7 +777,7 @@ fn is_due(c: RunnableConf, x: Runnable) -> bool
     0 < q.queued
 }
 
-// The three needs: start interval 0; no instance or the concurrent flag; due.
+// The three needs: the start interval has run out; it is concurrent or has no instance; it is due.
 fn may_spawn(c: RunnableConf, x: Runnable) -> bool
     ensures { λ r. ⌜ r ≡ maySpawn c x ⌝ }
 {
@@ -793,7 +793,7 @@ fn may_spawn(c: RunnableConf, x: Runnable) -> bool
     false
 }
 
-// The interval is reset and the count goes up; a plain runnable becomes idle, a server's oldest request is taken.
+// The interval starts again, there is one instance more, and a plain runnable is idle, a server without its oldest request.
 fn starting(c: RunnableConf, x: Runnable) -> Runnable
     ensures { λ r. ⌜ r ≡ starting c x ⌝ }
 {
@@ -905,7 +905,7 @@ pub fn tick(cfg: Config, st: State, t: u8) -> Stepped
 
 // ---- 18: wait
 
-// What lets t pass: an open call, a timer and a running start interval with a count of at least t.
+// What lets t pass: each open call, each timer and each start interval that still runs has t or more left.
 fn operation_lets(t: u32, x: Operation) -> bool
     ensures { λ r. ⌜ r ≡ operationLets t x ⌝ }
 {
@@ -1002,7 +1002,7 @@ fn less(n: u32, t: u32) -> u32
     0
 }
 
-// Each of those loses t; an interval at 0 stays 0.
+// Each of those has t less; an interval that had run out is at 0 as before.
 fn operation_after(t: u32, x: Operation) -> Operation
     ensures { λ r. ⌜ r ≡ operationAfter t x ⌝ }
 {

@@ -8,60 +8,60 @@ use Rattle.values.specs.declared.Value.{Value}
 use Rattle.values.specs.declared.Answer.{Answer}
 use Rattle.values.specs.declared.Answer.the-variants.{Taken, Refused}
 
--- kind 0
+-- the value Void, kind 0 ("The parts, and how many")
 abbrev pub voidV : Value
 voidV = record { kind = 0; number = 0 }
 
--- kind 1, the only one with a number
+-- a Number, kind 1, the only one with a number beside it ("The parts, and how many")
 abbrev pub numberV : ℕ → Value
 numberV n = record { kind = 1; number = n }
 
--- kind 2
+-- the value Ok, kind 2 ("The parts, and how many")
 abbrev pub okV : Value
 okV = record { kind = 2; number = 0 }
 
--- kind 3
+-- the value Limit, kind 3 ("The parts, and how many")
 abbrev pub limitV : Value
 limitV = record { kind = 3; number = 0 }
 
--- kind 4
+-- the value NoData, kind 4 ("The parts, and how many")
 abbrev pub noDataV : Value
 noDataV = record { kind = 4; number = 0 }
 
--- kind 5
+-- the value Timeout, kind 5 ("The parts, and how many")
 abbrev pub timeoutV : Value
 timeoutV = record { kind = 5; number = 0 }
 
--- kind 6
+-- the value NeverReceived, kind 6 ("The parts, and how many")
 abbrev pub neverReceivedV : Value
 neverReceivedV = record { kind = 6; number = 0 }
 
--- kind 7
+-- the value Invalid, kind 7 ("The parts, and how many")
 abbrev pub invalidV : Value
 invalidV = record { kind = 7; number = 0 }
 
--- Void, with nothing beside it
+-- Void, with nothing beside it ("The parts, and how many")
 unfoldable pub isVoid : Value → Bool
 isVoid v = both (eqb (v .kind) 0) (eqb (v .number) 0)
 
--- a payload is Void or a Number (ours: instances hand over nothing else)
+-- a payload is Void or a Number (ours: instances hand over nothing else) ("The parts, and how many")
 unfoldable pub isPayload : Value → Bool
 isPayload v = either (eqb (v .kind) 1) (isVoid v)
 
--- a value is good if its kind is one of the eight and only a Number has a number; any other is a bad value
+-- a value is good if its kind is one of the eight and only a Number has a number; any other is a bad value ("The files", last sentence)
 unfoldable pub isGood : Value → Bool
 isGood v = either (eqb (v .kind) 1) (both (ltb (v .kind) 8) (eqb (v .number) 0))
 
--- two values are the same if kind and number are
+-- two values are the same if kind and number are ("Numbers of refusal", 17)
 unfoldable pub sameValue : Value → Value → Bool
 sameValue v w = both (eqb (v .kind) (w .kind)) (eqb (v .number) (w .number))
 
--- the number of refusal that an answer stands for; 0 for a step that was taken
+-- the number of refusal that an answer stands for; 0 for a step that was taken ("Numbers of refusal")
 abbrev pub refusalIn : Answer → ℕ
 refusalIn (Taken v) = 0
 refusalIn (Refused n) = n
 
--- the value that an answer gives; Void beside a refusal
+-- the value that an answer gives; Void beside a refusal ("The eighteen steps")
 abbrev pub valueIn : Answer → Value
 valueIn (Taken v) = v
 valueIn (Refused n) = voidV
