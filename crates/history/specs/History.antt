@@ -1,8 +1,7 @@
 -- What a recording tells of its calls, read off its steps and their answers alone: no state of the machine, no number of an operation.
 -- A call is named by the place of its step in the recording, counted from 1; 0 is no call. The answer of an accepted step is the one that it claims.
 -- Assumes nothing.
-use Prim.Native.Nat.{ℕ, zero, suc, _+_, _≤_, _<_}
-use mathlib.Core.Bool.{Bool, true, false}
+use Prim.Native.Nat.{ℕ, zero, suc, _+_}
 use mathlib.Core.List.{List, [], _∷_, _++_}
 use mathlib.Core.Option.{Option, none, some}
 use mathlib.Core.Path.{_≡_}
@@ -11,7 +10,7 @@ use lib.ListN.{getD, set, drop, replicate}
 use Rattle.laws.specs.Choice.{pick, both, bit}
 use Rattle.values.specs.declared.Value.{Value}
 use Rattle.values.specs.declared.Step.{Step}
-use Rattle.values.specs.Values.{voidV, okV, timeoutV, sameValue}
+use Rattle.values.specs.Values.{okV, sameValue}
 use Rattle.config.specs.declared.Config.{Config}
 use Rattle.config.specs.Tables.{maxRunnableConfs, maxOperationConfs, operationConfIn}
 use Rattle.entries.specs.Faults.{isServer}

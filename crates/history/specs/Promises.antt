@@ -2,10 +2,10 @@
 -- `Run cfg rs st` says that every step of rs, in turn from the start state, is accepted with the answer it claims, and that st is the state reached.
 -- Assumes nothing.
 use Prim.Native.Nat.{ℕ, _+_, _≤_, _<_}
-use mathlib.Core.Bool.{Bool, true, false}
+use mathlib.Core.Bool.{true, false}
 use mathlib.Core.List.{List, [], _∷_, _++_, List·Memᴰ}
 use mathlib.Core.Logic.{_↔_}
-use mathlib.Core.Option.{Option, none, some}
+use mathlib.Core.Option.{some}
 use mathlib.Core.Path.{_≡_}
 use lib.ListN.{length, getD, drop}
 use Rattle.values.specs.declared.Value.{Value}
@@ -20,7 +20,7 @@ use Rattle.state.specs.Tables.{maxSlots, runnableIn, areaIn, elementIn, operati
 use Rattle.state.specs.Start.{startOf}
 use Rattle.rules.specs.Sound.{timesIn}
 use Rattle.rules.specs.Step.{stepOf}
-use Rattle.history.specs.History.{Request, noRequest, How, byTimeout, byInstance, Ending, History, historyOf, queuedAt, takenBy, latestOn, endsOf, lastOn, Proper, Started, allQueued, allSpawns}
+use Rattle.history.specs.History.{noRequest, byInstance, Ending, historyOf, queuedAt, takenBy, latestOn, endsOf, lastOn, Proper, Started, allQueued, allSpawns}
 
 -- an answer says that the step was taken, with this value: by the number and the value that stand for it ("Numbers of refusal")
 abbrev pub Answers : Answer → Value → Type 0

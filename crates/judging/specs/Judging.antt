@@ -2,7 +2,6 @@
 -- The step function is a parameter: the verdict is said with the step that tests soundness each time, and computed with the one that does not.
 -- Assumes nothing.
 use Prim.Native.Nat.{ℕ, zero, suc, _+_}
-use mathlib.Core.Bool.{Bool, true, false}
 use mathlib.Core.List.{List}
 use lib.ListN.{drop}
 use Rattle.laws.specs.Choice.{pick}

@@ -87,10 +87,6 @@ module _ (cfg : Config) (h : configSound cfg ≡ true) where
   unfolding countOf maxOf
   runnables-most = kind 0 (omega arith) .most
 
-  pub variables-most : cfg .variables .n ≤ 16
-  unfolding countOf maxOf
-  variables-most = kind 1 (omega arith) .most
-
   pub areas-most : cfg .areas .n ≤ 16
   unfolding countOf maxOf
   areas-most = kind 2 (omega arith) .most
@@ -99,29 +95,9 @@ module _ (cfg : Config) (h : configSound cfg ≡ true) where
   unfolding countOf maxOf
   required-most = kind 3 (omega arith) .most
 
-  pub provided-most : cfg .provided .n ≤ 16
-  unfolding countOf maxOf
-  provided-most = kind 4 (omega arith) .most
-
-  pub links-most : cfg .links .n ≤ 32
-  unfolding countOf maxOf
-  links-most = kind 5 (omega arith) .most
-
   pub operations-most : cfg .operations .n ≤ 8
   unfolding countOf maxOf
   operations-most = kind 6 (omega arith) .most
-
-  pub timers-most : cfg .timers .n ≤ 8
-  unfolding countOf maxOf
-  timers-most = kind 7 (omega arith) .most
-
-  pub devents-most : cfg .devents .n ≤ 32
-  unfolding countOf maxOf
-  devents-most = kind 8 (omega arith) .most
-
-  pub revents-most : cfg .revents .n ≤ 16
-  unfolding countOf maxOf
-  revents-most = kind 9 (omega arith) .most
 
   -- ---- runnables
 
@@ -201,24 +177,7 @@ module _ (cfg : Config) (h : configSound cfg ≡ true) where
       go (yes b) = leb-true _ 16 (both-right (leb (requiredConfIn (cfg .required) q .component) 15) _ (kind 3 (omega arith) .used q b .range))
       go (no b) = omega (arith, ap (λ (x : RequiredConf). x .capacity) (required-blank q (omega (arith, b))))
 
-  -- a queued element is there
-  pub queued-there : (q : ℕ) → isQueued cfg q ≡ true → q < cfg .required .n
-  unfolding isQueued
-  queued-there q s = go (decLt q (cfg .required .n))
-    where
-      go : Dec (q < cfg .required .n) → q < cfg .required .n
-      go (yes b) = b
-      go (no b) = absurd (clash (ltb 0 (requiredConfIn (cfg .required) q .capacity)) s (rw (required-blank q (omega (arith, b)))))
-
   -- ---- links: both ends are there, and of one kind
-
-  pub link-provided : (l : ℕ) → l < cfg .links .n → linkIn (cfg .links) l .provided < cfg .provided .n
-  unfolding namesThere entryOf countOf
-  link-provided l b = ltb-true _ _ (both-left (ltb (linkIn (cfg .links) l .provided) (cfg .provided .n)) _ (kind 5 (omega arith) .used l b .names))
-
-  pub link-required : (l : ℕ) → l < cfg .links .n → linkIn (cfg .links) l .required < cfg .required .n
-  unfolding namesThere entryOf countOf
-  link-required l b = ltb-true _ _ (both-right (ltb (linkIn (cfg .links) l .provided) (cfg .provided .n)) _ (kind 5 (omega arith) .used l b .names))
 
   pub link-alike : (l : ℕ) → l < cfg .links .n → providedConfIn (cfg .provided) (linkIn (cfg .links) l .provided) .queued ≡ isQueued cfg (linkIn (cfg .links) l .required)
   unfolding pairsWell entryOf countOf
@@ -227,10 +186,6 @@ module _ (cfg : Config) (h : configSound cfg ≡ true) where
       (both-left (alike (providedConfIn (cfg .provided) (linkIn (cfg .links) l .provided) .queued) (isQueued cfg (linkIn (cfg .links) l .required))) _ (kind 5 (omega arith) .used l b .pairs))
 
   -- ---- operations: each stands on a server that is there
-
-  pub operation-server : (o : ℕ) → o < cfg .operations .n → isServer cfg (operationConfIn (cfg .operations) o .server) ≡ true
-  unfolding pairsWell entryOf countOf
-  operation-server o b = kind 6 (omega arith) .used o b .pairs
 
   pub operation-there : (o : ℕ) → o < cfg .operations .n → operationConfIn (cfg .operations) o .server < cfg .runnables .n
   unfolding namesThere entryOf countOf
@@ -246,17 +201,9 @@ module _ (cfg : Config) (h : configSound cfg ≡ true) where
   unfolding pairsWell entryOf countOf
   timer-plain t b = not-true _ (kind 7 (omega arith) .used t b .pairs)
 
-  pub devent-there : (e : ℕ) → e < cfg .devents .n → dataEventIn (cfg .devents) e .runnable < cfg .runnables .n
-  unfolding namesThere entryOf countOf
-  devent-there e b = ltb-true _ _ (both-left (ltb (dataEventIn (cfg .devents) e .runnable) (cfg .runnables .n)) _ (kind 8 (omega arith) .used e b .names))
-
   pub devent-plain : (e : ℕ) → e < cfg .devents .n → isServer cfg (dataEventIn (cfg .devents) e .runnable) ≡ false
   unfolding pairsWell entryOf countOf
   devent-plain e b = not-true _ (both-left (not (isServer cfg (dataEventIn (cfg .devents) e .runnable))) _ (kind 8 (omega arith) .used e b .pairs))
-
-  pub revent-there : (e : ℕ) → e < cfg .revents .n → returnEventIn (cfg .revents) e .runnable < cfg .runnables .n
-  unfolding namesThere entryOf countOf
-  revent-there e b = ltb-true _ _ (both-left (ltb (returnEventIn (cfg .revents) e .runnable) (cfg .runnables .n)) _ (kind 9 (omega arith) .used e b .names))
 
   pub revent-plain : (e : ℕ) → e < cfg .revents .n → isServer cfg (returnEventIn (cfg .revents) e .runnable) ≡ false
   unfolding pairsWell entryOf countOf

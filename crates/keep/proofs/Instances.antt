@@ -84,10 +84,6 @@ module _ (cfg : Config) (r : ℕ) (c : Client) (h : clientFits cfg r c ≡ true)
   unfolding clientFits
   client-there = ltb-true _ _ (both-left (ltb (c .operation) (cfg .operations .n)) _ h)
 
-  pub client-server : operationConfIn (cfg .operations) (c .operation) .server ≡ r
-  unfolding clientFits
-  client-server = eqb-true _ _ (both-left (eqb (operationConfIn (cfg .operations) (c .operation) .server) r) _ (both-right (ltb (c .operation) (cfg .operations .n)) _ h))
-
 -- ---- a stack
 
 module _ (cfg : Config) (l : Life) (k : Stack) (h : stackSound cfg l k ≡ true) where

@@ -61,20 +61,11 @@ module _ (cfg : Config) (st : State) (s : Sound cfg st) where
   pub runnables-length : length (st .runnables .at) ≡ 16
   runnables-length = shape-told st (s .shape) .runnables
 
-  pub variables-length : length (st .variables .at) ≡ 16
-  variables-length = shape-told st (s .shape) .variables
-
   pub areas-length : length (st .areas .at) ≡ 16
   areas-length = shape-told st (s .shape) .areas
 
-  pub elements-length : length (st .elements .at) ≡ 16
-  elements-length = shape-told st (s .shape) .elements
-
   pub operations-length : length (st .operations .at) ≡ 8
   operations-length = shape-told st (s .shape) .operations
-
-  pub timers-length : length (st .timers .at) ≡ 8
-  timers-length = shape-told st (s .shape) .timers
 
   pub slots-length : length (st .slots .at) ≡ 32
   slots-length = shape-told st (s .shape) .slots

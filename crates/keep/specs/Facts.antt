@@ -1,24 +1,23 @@
 -- A sound state as facts, one field a clause, each over only the tables that it reads; and, for each step, what it may rely on once it is not refused.
 -- Assumes nothing.
-use Prim.Native.Nat.{ℕ, _+_, _≤_, _<_}
-use mathlib.Core.Bool.{Bool, true, false, not}
+use Prim.Native.Nat.{ℕ, _≤_, _<_}
+use mathlib.Core.Bool.{true, false}
 use mathlib.Core.Path.{_≡_}
-use lib.Dec.{ltb, leb, eqb}
-use lib.ListN.{length, getD}
-use Rattle.laws.specs.Choice.{pick, both, either, bit}
+use lib.Dec.{eqb}
+use lib.ListN.{getD}
+use Rattle.laws.specs.Choice.{either, bit}
 use Rattle.values.specs.Values.{isPayload}
 use Rattle.values.specs.declared.Value.{Value}
 use Rattle.config.specs.declared.Config.{Config}
-use Rattle.config.specs.Tables.{maxRunnableConfs, maxVariableConfs, maxAreaConfs, maxRequiredConfs, maxOperationConfs, maxTimerConfs, runnableConfIn, areaConfIn, requiredConfIn, providedConfIn, operationConfIn, timerConfIn}
-use Rattle.entries.specs.Faults.{isServer, isQueued, configSound}
-use Rattle.state.specs.declared.Client.{Client}
+use Rattle.config.specs.Tables.{maxRunnableConfs, maxAreaConfs, maxOperationConfs, runnableConfIn, areaConfIn, providedConfIn, operationConfIn}
+use Rattle.entries.specs.Faults.{isQueued, configSound}
 use Rattle.state.specs.declared.Runnables.{Runnables}
 use Rattle.state.specs.declared.Areas.{Areas}
 use Rattle.state.specs.declared.Operations.{Operations}
 use Rattle.state.specs.declared.Slots.{Slots}
 use Rattle.state.specs.declared.State.{State}
 use Rattle.state.specs.Parts.{noClient}
-use Rattle.state.specs.Tables.{maxSlots, runnableIn, variableIn, areaIn, elementIn, operationIn, timerIn, slotIn}
+use Rattle.state.specs.Tables.{maxSlots, runnableIn, areaIn, elementIn, operationIn, timerIn, slotIn}
 use Rattle.state.specs.Queues.{topArea}
 use Rattle.rules.specs.Sound.{componentOf, slotsOf, holders, clientsAs, numbered, shaped, runnablesSound, variablesSound, elementsSound, operationsSound, timersSound, slotsSound}
 use Rattle.rules.specs.Steps.{isDue, lowestEmpty, operationsLet, timersLet, runnablesLet}

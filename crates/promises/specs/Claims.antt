@@ -2,7 +2,7 @@
 -- recording: each asks for a sound configuration and a run of accepted steps from the start state, and these are what stands in the bytes.
 -- Assumes nothing.
 use Prim.Native.Nat.{ℕ, _≤_, _<_}
-use mathlib.Core.Bool.{Bool, true}
+use mathlib.Core.Bool.{true}
 use mathlib.Core.List.{List}
 use mathlib.Core.Path.{_≡_}
 use lib.ListN.{length, take}
