@@ -2,7 +2,7 @@
 -- Past its end a table gives the blank part, which is what an unused place holds; a part added to a full table changes nothing.
 -- Assumes nothing.
 use Prim.Native.Nat.{ℕ, _+_}
-use mathlib.Core.Bool.{Bool, true, false}
+use mathlib.Core.Bool.{false}
 use lib.Dec.{ltb}
 use lib.ListN.{replicate, getD, set}
 use Rattle.laws.specs.Choice.{pick}

@@ -2,7 +2,6 @@
 -- The reader, the test of soundness and the writer all go by entries.
 -- Assumes nothing.
 use Prim.Native.Nat.{ℕ, _+_, _*_, _%_}
-use mathlib.Core.Bool.{Bool, true, false}
 use lib.Dec.{ltb, eqb}
 use lib.ListN.{length}
 use Rattle.laws.specs.Choice.{pick, bit}

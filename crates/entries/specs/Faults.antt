@@ -2,7 +2,7 @@
 -- A part names only parts of kinds that come before its own in the file, so the faults of an entry are the same while reading and afterwards.
 -- Assumes nothing.
 use Prim.Native.Nat.{ℕ, _+_, _-_}
-use mathlib.Core.Bool.{Bool, true, false, not}
+use mathlib.Core.Bool.{Bool, true, not}
 use lib.Dec.{ltb, leb, eqb}
 use Rattle.laws.specs.Choice.{pick, both, either, alike}
 use Rattle.laws.specs.Loop.{allBelow}

@@ -1,7 +1,6 @@
 -- The late plan's table: eight pairs of files, from their bytes to the line that is printed, in one claim over the definition that the program's contract cites.
 -- Assumes nothing.
 use Prim.Native.Nat.{ℕ}
-use mathlib.Core.Bool.{Bool, true, false}
 use mathlib.Core.List.{List, [], _∷_, _++_, map}
 use mathlib.Core.Path.{_≡_, refl}
 use Rattle.laws.specs.Choice.{allOf}

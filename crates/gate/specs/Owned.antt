@@ -1,7 +1,6 @@
 -- The last two of the refusals that all steps of a slot share, as one function computes them.
 -- Assumes nothing.
 use Prim.Native.Nat.{ℕ}
-use mathlib.Core.Bool.{Bool, true, false}
 use Rattle.laws.specs.Choice.{pick}
 use Rattle.config.specs.declared.Config.{Config}
 use Rattle.state.specs.declared.Life.{Life}

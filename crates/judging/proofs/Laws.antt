@@ -1,14 +1,12 @@
 -- Laws of judging, over any step function: how one field is judged, that a verdict other than unfinished stands whatever the allowance, and that an unfinished
 -- recording is taken up again with the state reached.
 -- Assumes nothing.
-use Prim.Native.Nat.{ℕ, zero, suc, _+_, _-_, _≤_, _<_}
-use mathlib.Core.Bool.{Bool, true, false}
-use mathlib.Core.List.{List, [], _∷_}
+use Prim.Native.Nat.{ℕ, zero, suc, _+_, _-_}
+use mathlib.Core.Bool.{Bool, true}
+use mathlib.Core.List.{List}
 use mathlib.Core.Path.{_≡_, refl, sym, ap, _∙_}
-use native.Mathlib.Nat.{add-zero, zero-add}
-use native.Mathlib.Numerals.{add-one}
 use native.Mathlib.Omega.{arith}
-use lib.ListN.{length, drop}
+use lib.ListN.{drop}
 use Rattle.values.specs.declared.Value.{Value}
 use Rattle.values.specs.declared.Step.{Step}
 use Rattle.values.specs.declared.Answer.{Answer}

@@ -4,14 +4,14 @@ use Prim.Native.Nat.{ℕ, _≤_, _<_}
 use mathlib.Core.Bool.{true, not}
 use mathlib.Core.Path.{_≡_, sym, _∙_}
 use native.Mathlib.Omega.{arith}
-use lib.Dec.{ltb, leb, eqb}
-use borrow.Author.Tests.{ltb-true, leb-true, eqb-true}
+use lib.Dec.{ltb, leb}
+use borrow.Author.Tests.{ltb-true, leb-true}
 use Rattle.laws.specs.Choice.{both, alike}
 use Rattle.laws.specs.Row.{filled}
 use Rattle.laws.proofs.Choosing.{both-left, both-right, alike-is, all-told, all-made}
 use Rattle.laws.proofs.Looping.{all-at}
 use Rattle.config.specs.declared.Config.{Config}
-use Rattle.config.specs.Tables.{maxAreaConfs, operationConfIn}
+use Rattle.config.specs.Tables.{maxAreaConfs}
 use Rattle.entries.specs.Faults.{isServer}
 use Rattle.state.specs.declared.Client.{Client}
 use Rattle.state.specs.declared.Life.{Life}

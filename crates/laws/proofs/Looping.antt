@@ -1,7 +1,7 @@
 -- Laws of loops that count from 0: how each begins and goes on, what it tells of each place, and sums.
 -- Assumes nothing.
 use Prim.Native.Nat.{ℕ, zero, suc, _+_, _≤_, _<_, _*_}
-use mathlib.Core.Bool.{Bool, true, false, not}
+use mathlib.Core.Bool.{Bool, true, false}
 use mathlib.Core.Logic.{⊎-elim}
 use mathlib.Core.Path.{_≡_, refl, sym, _∙_, ap}
 use native.Mathlib.Nat.{eq-or-lt-of-le, le-of-suc-le-suc, not-suc-le-zero}
@@ -9,7 +9,7 @@ use native.Mathlib.Numerals.{add-one}
 use native.Mathlib.Omega.{arith}
 use lib.Dec.{ltb, eqb}
 use borrow.Author.Tests.{lt-ltb, le-ltb, ltb-true, eq-eqb, ne-eqb}
-use Rattle.laws.specs.Choice.{pick, both, either, bit}
+use Rattle.laws.specs.Choice.{pick, bit}
 use Rattle.laws.specs.Loop.{allBelow, anyBelow, sumBelow, countBelow, firstBelow}
 use Rattle.laws.proofs.Choosing.{both-left, both-right, both-no, either-more, either-right, bit-most, clash}
 
@@ -84,14 +84,6 @@ pub any-same : (p q : ℕ → Bool) (n : ℕ) → ((k : ℕ) → k < n → p k �
 unfolding anyBelow
 any-same p q zero h = refl
 any-same p q (suc n) h = rw (any-same p q n (λ k l. h k (omega arith)), h n (omega arith))
-
--- no place passes
-pub any-off : (p : ℕ → Bool) (n : ℕ) → anyBelow p n ≡ false → (k : ℕ) → k < n → p k ≡ false
-any-off p n h k l = go (p k) refl
-  where
-    go : (b : Bool) → p k ≡ b → p k ≡ false
-    go true e = absurd (clash (anyBelow p n) (any-here p n k l e) h)
-    go false e = e
 
 -- ---- sums
 

@@ -1,21 +1,20 @@
 -- Laws of rows: one place changed, the first places changed each, a queue that grows at its end and is taken at its front.
 -- Assumes nothing.
 use Prim.Native.Nat.{ℕ, zero, suc, _+_, _-_, _≤_, _<_}
-use mathlib.Core.Bool.{Bool, true, false}
+use mathlib.Core.Bool.{Bool, true}
 use mathlib.Core.List.{List, [], _∷_, _++_, map, append-assoc}
 use mathlib.Core.Path.{_≡_, refl, sym, _∙_, ap}
 use native.Mathlib.Nat.{add-comm}
 use native.Mathlib.Numerals.{add-one}
 use native.Mathlib.Decide.{ℕ-discrete, decLt}
 use native.Mathlib.Omega.{arith}
-use lib.Dec.{ltb, eqb}
-use lib.ListN.{length, getD, set, take, drop, length-set, length-drop, length-take, length-append, length-map, List·getD-eq-default, List·getD-append}
+use lib.Dec.{eqb}
+use lib.ListN.{length, getD, set, take, drop, length-set, length-drop, length-append, length-map, List·getD-eq-default, List·getD-append}
 use lib.Seq.{set-at, set-out, drop-cons, take-suc, getD-drop, length-take-le, take-all, drop-length, getD-set-same, getD-set-other, getD-at}
-use borrow.Author.Tests.{lt-ltb, le-ltb, eq-eqb, eqb-true, ltb-true, ltb-false}
-use Rattle.laws.specs.Choice.{pick, both, bit}
-use Rattle.laws.specs.Loop.{allBelow, sumBelow, countBelow}
+use borrow.Author.Tests.{lt-ltb, le-ltb, eq-eqb, eqb-true}
+use Rattle.laws.specs.Loop.{allBelow, sumBelow}
 use Rattle.laws.specs.Row.{eachBelow, shifted, placeFilled, filled}
-use Rattle.laws.proofs.Choosing.{both-left, both-right, both-make, clash}
+use Rattle.laws.proofs.Choosing.{both-left, both-right, both-make}
 use Rattle.laws.proofs.Looping.{all-at, all-of, sum-changed, sum-same, sum-first, sum-more}
 
 -- ---- inside a row, and past its end

@@ -1,7 +1,7 @@
 -- Rows of places: an array of a state, whatever stands in it. A row is read by getD, with a blank past its end, and changed by set, which changes nothing there.
 -- Assumes nothing.
 use Prim.Native.Nat.{ℕ, zero, suc, _+_}
-use mathlib.Core.Bool.{Bool, true, false}
+use mathlib.Core.Bool.{Bool}
 use mathlib.Core.List.{List, [], _∷_, _++_}
 use lib.Dec.{ltb, eqb}
 use lib.ListN.{length, getD, set, drop}

@@ -1,1 +1,2 @@
-pub mod Claims
+-- Laws that the proofs of the machine cite.
+pub mod Going

@@ -4,14 +4,13 @@
 use Prim.Native.Nat.{ℕ, zero, suc, _+_, _-_, _≤_, _<_}
 use mathlib.Core.Bool.{Bool, true, false}
 use mathlib.Core.List.{List, [], _∷_}
-use mathlib.Core.Path.{_≡_, refl, sym, ap, _∙_, subst}
-use native.Mathlib.Numerals.{add-one}
+use mathlib.Core.Path.{_≡_, refl, sym, ap, _∙_}
 use native.Mathlib.Omega.{arith}
 use lib.Dec.{eqb}
 use lib.ListN.{length, take, drop}
 use borrow.Author.Tests.{eqb-true}
-use Rattle.laws.specs.Choice.{pick, both}
-use Rattle.laws.proofs.Choosing.{both-left, both-right, clash}
+use Rattle.laws.specs.Choice.{pick}
+use Rattle.laws.proofs.Choosing.{both-left, both-right}
 use Rattle.values.specs.declared.Value.{Value}
 use Rattle.values.specs.declared.Step.{Step}
 use Rattle.values.specs.declared.Answer.{Answer}
@@ -22,16 +21,16 @@ use Rattle.state.specs.declared.State.{State}
 use Rattle.state.specs.declared.Stepped.{Stepped}
 use Rattle.rules.specs.Sound.{soundOf}
 use Rattle.rules.specs.Steps.{refused}
-use Rattle.rules.specs.Step.{onAnswer, claimedOf, possibleOf, innerOf, stepOf}
+use Rattle.rules.specs.Step.{claimedOf, possibleOf, innerOf, stepOf}
 use Rattle.recording.specs.declared.Field.{Field}
 use Rattle.recording.specs.declared.Field.the-variants.{Step as IsStep, End, Refused as NoField}
 use Rattle.recording.specs.Recording.{fieldOf}
-use Rattle.recording.specs.Whole.{Whole, wholeOf, stepsIn, isEnd, isSound}
+use Rattle.recording.specs.Whole.{Whole, stepsIn, isEnd, isSound}
 use Rattle.recording.proofs.Texts.{whole-step, whole-end}
 use Rattle.judging.specs.declared.Verdict.{Verdict}
 use Rattle.judging.specs.declared.Verdict.the-variants.{Accepted, Refused, Unfinished}
 use Rattle.judging.specs.declared.Judged.{Judged}
-use Rattle.judging.specs.Judging.{judged, onField, judgeFrom}
+use Rattle.judging.specs.Judging.{judged, judgeFrom}
 use Rattle.judging.proofs.Laws.{ended, stopped, starved, barred, went}
 use Rattle.history.specs.Promises.{Accepted as AllAccepted}
 use Rattle.history.proofs.Runs.{of-taken}

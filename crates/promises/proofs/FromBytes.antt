@@ -1,7 +1,7 @@
 -- From the bytes to the runs that the promises speak of: the start state of a configuration that was read is sound, so judging it is judging its steps
 -- (`from-start`), and what a line names is what the verdict counts.
 -- Assumes nothing.
-use Prim.Native.Nat.{ℕ, zero, suc, _+_}
+use Prim.Native.Nat.{ℕ}
 use mathlib.Core.Bool.{Bool, true, false}
 use mathlib.Core.List.{List}
 use mathlib.Core.Path.{_≡_, refl, sym, ap, _∙_, subst}
@@ -9,12 +9,10 @@ use native.Mathlib.Omega.{arith}
 use lib.Dec.{ltb}
 use lib.ListN.{length, take}
 use Rattle.laws.specs.Choice.{pick, either}
-use Rattle.values.specs.declared.Step.{Step}
 use Rattle.config.specs.declared.Config.{Config}
 use Rattle.state.specs.declared.State.{State}
 use Rattle.state.specs.Start.{startOf}
 use Rattle.entries.specs.Faults.{configSound}
-use Rattle.rules.specs.Sound.{soundOf}
 use Rattle.rules.specs.Step.{stepOf}
 use Rattle.keep.proofs.Start.{start-sound}
 use Rattle.reading.specs.declared.Outcome.{Outcome}
@@ -27,12 +25,12 @@ use Rattle.judging.specs.declared.Verdict.{Verdict}
 use Rattle.judging.specs.declared.Verdict.the-variants.{Accepted, Refused, Unfinished}
 use Rattle.judging.specs.declared.Judged.{Judged}
 use Rattle.judging.specs.declared.Line.{Line}
-use Rattle.judging.specs.declared.Line.the-variants.{Accepted as AcceptedLine, Refused as RefusedLine, Unfinished as UnfinishedLine, Configuration, TooLong}
+use Rattle.judging.specs.declared.Line.the-variants.{Accepted as AcceptedLine, Unfinished as UnfinishedLine, Configuration, TooLong}
 use Rattle.judging.specs.Judging.{judgeFrom, judgeOf}
-use Rattle.judging.specs.Line.{maxConfig, maxRecording, allowed, verdictLine, judgedLine, outcomeLine, readLine, lineOf}
+use Rattle.judging.specs.Line.{maxConfig, maxRecording, allowed, verdictLine, judgedLine, readLine, lineOf}
 use Rattle.history.specs.Promises.{Run}
-use Rattle.promises.specs.Claims.{WholeRun, AcceptedIsRun, FirstRun, CountedIsRun, AcceptedIsWhole, UnfinishedIsRun}
-use Rattle.promises.proofs.Counted.{Counts, counted, Whole-counted, accepted-whole, unfinished-more}
+use Rattle.promises.specs.Claims.{AcceptedIsRun, FirstRun, CountedIsRun, AcceptedIsWhole, UnfinishedIsRun}
+use Rattle.promises.proofs.Counted.{counted, accepted-whole, unfinished-more}
 
 -- from the start state of a sound configuration, no refusal at place 0
 from-start : (cfg : Config) (t : List ℕ) (a : ℕ) → configSound cfg ≡ true → judgeOf cfg (startOf cfg) t a ≡ judgeFrom (stepOf cfg) a t 0 (startOf cfg)

@@ -5,7 +5,7 @@
 use Prim.Native.Nat.{ℕ, zero, suc, _+_, _-_, _≤_, _<_}
 use mathlib.Core.Bool.{Bool, true, false, not}
 use mathlib.Core.List.{List}
-use mathlib.Core.Path.{_≡_, refl, sym, ap, _∙_}
+use mathlib.Core.Path.{_≡_, refl, ap, _∙_}
 use native.Mathlib.Decide.{ℕ-discrete, decLt}
 use native.Mathlib.Omega.{arith}
 use lib.Dec.{eqb, leb}
@@ -175,7 +175,3 @@ read-sound s h = given s .sound
 -- a refused one is blank
 pub read-blank : (s : List ℕ) → (configOf s .outcome ≡ Whole → ⊥) → configOf s .config ≡ noConfig
 read-blank s = given s .blank
-
--- two readings of the same bytes are the same
-pub read-once : (s : List ℕ) (r r′ : Reading) → r ≡ configOf s → r′ ≡ configOf s → r ≡ r′
-read-once s r r′ p q = p ∙ sym q

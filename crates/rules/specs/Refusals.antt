@@ -1,7 +1,7 @@
 -- Refusals 2 to 5, in their order; a slot's steps have all four, the scheduler's 2 and 3 only ("Numbers of refusal"; "The eighteen steps", the table's columns).
 -- Assumes nothing.
 use Prim.Native.Nat.{ℕ}
-use mathlib.Core.Bool.{Bool, true, false, not}
+use mathlib.Core.Bool.{Bool, not}
 use mathlib.Core.List.{List, [], _∷_}
 use lib.Dec.{ltb, eqb}
 use lib.ListN.{getD}

@@ -2,7 +2,7 @@
 -- A state that code holds has tables of the right lengths; as a definition ranges over any lists, the lengths are tested too.
 -- Assumes nothing.
 use Prim.Native.Nat.{ℕ, _+_}
-use mathlib.Core.Bool.{Bool, true, false, not}
+use mathlib.Core.Bool.{Bool, not}
 use mathlib.Core.List.{List, [], _∷_}
 use lib.Dec.{ltb, leb, eqb}
 use lib.ListN.{length, getD}
@@ -12,8 +12,6 @@ use Rattle.laws.specs.Row.{filled}
 use Rattle.values.specs.Values.{voidV, isVoid, isPayload}
 use Rattle.values.specs.declared.Value.{Value}
 use Rattle.config.specs.declared.Config.{Config}
-use Rattle.config.specs.declared.RunnableConf.{RunnableConf}
-use Rattle.config.specs.declared.OperationConf.{OperationConf}
 use Rattle.config.specs.Tables.{maxRunnableConfs, maxVariableConfs, maxAreaConfs, maxRequiredConfs, maxOperationConfs, maxTimerConfs, runnableConfIn, areaConfIn, requiredConfIn, operationConfIn, timerConfIn}
 use Rattle.entries.specs.Faults.{isServer, configSound}
 use Rattle.state.specs.declared.Client.{Client}

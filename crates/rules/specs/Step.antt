@@ -1,7 +1,6 @@
 -- One step: by its code, before and with its claim, and after the test of soundness ("The eighteen steps"; "Numbers of refusal").
 -- Assumes nothing.
 use Prim.Native.Nat.{ℕ}
-use mathlib.Core.Bool.{Bool, true, false}
 use lib.Dec.{ltb, eqb}
 use Rattle.laws.specs.Choice.{pick}
 use Rattle.values.specs.Values.{sameValue}
@@ -14,7 +13,7 @@ use Rattle.state.specs.declared.State.{State}
 use Rattle.state.specs.declared.Stepped.{Stepped}
 use Rattle.rules.specs.Sound.{soundOf}
 use Rattle.rules.specs.Refusals.{instanceRefusal, schedulerRefusal}
-use Rattle.rules.specs.Steps.{refused, took, readVariableOf, writeVariableOf, enterOf, exitOf, readOf, writeOf, updatedOf, invalidateOf, receiveOf, sendOf, callOf, resultOf, handBackOf, endOf, spawnOf, timeoutOf, tickOf, waitOf}
+use Rattle.rules.specs.Steps.{refused, readVariableOf, writeVariableOf, enterOf, exitOf, readOf, writeOf, updatedOf, invalidateOf, receiveOf, sendOf, callOf, resultOf, handBackOf, endOf, spawnOf, timeoutOf, tickOf, waitOf}
 
 -- what a slot's step does by its code, 1 to 14 ("The eighteen steps", 1 to 14)
 unfoldable pub instanceActOf : Config → State → ℕ → ℕ → ℕ → Value → Stepped

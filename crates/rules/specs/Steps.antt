@@ -2,14 +2,12 @@
 -- Assumes nothing.
 use Prim.Native.Nat.{ℕ, _+_, _-_, _%_}
 use mathlib.Core.Bool.{Bool, true, false, not}
-use mathlib.Core.List.{List, [], _∷_}
 use lib.Dec.{ltb, leb, eqb}
-use Rattle.laws.specs.Choice.{pick, both, either, bit, allOf}
+use Rattle.laws.specs.Choice.{pick, both, either, bit}
 use Rattle.laws.specs.Loop.{allBelow, anyBelow, firstBelow}
 use Rattle.laws.specs.Row.{eachBelow}
 use Rattle.values.specs.Values.{voidV, numberV, okV, limitV, noDataV, timeoutV, invalidV}
 use Rattle.values.specs.declared.Value.{Value}
-use Rattle.values.specs.declared.Answer.{Answer}
 use Rattle.values.specs.declared.Answer.the-variants.{Taken, Refused}
 use Rattle.config.specs.declared.Config.{Config}
 use Rattle.config.specs.declared.RunnableConf.{RunnableConf}
@@ -25,13 +23,12 @@ use Rattle.state.specs.declared.Operation.{Operation}
 use Rattle.state.specs.declared.Operations.{Operations}
 use Rattle.state.specs.declared.Timer.{Timer}
 use Rattle.state.specs.declared.Timers.{Timers}
-use Rattle.state.specs.declared.Life.{Life}
 use Rattle.state.specs.declared.Owed.{Owed}
 use Rattle.state.specs.declared.Slot.{Slot}
 use Rattle.state.specs.declared.Slots.{Slots}
 use Rattle.state.specs.declared.State.{State}
 use Rattle.state.specs.declared.Stepped.{Stepped}
-use Rattle.state.specs.Parts.{noClient, noOwed, noStack, noSlot, noRunnable, noElement, noOperation, noTimer}
+use Rattle.state.specs.Parts.{noOwed, noStack, noSlot, noRunnable, noElement, noOperation, noTimer}
 use Rattle.state.specs.Tables.{maxSlots, runnableIn, variableIn, areaIn, elementIn, operationIn, timerIn, slotIn, withRunnable, withVariable, withArea, withElement, withOperation, withTimer, withSlot, withRunnables, withVariables, withAreas, withElements, withOperations, withTimers, withSlots}
 use Rattle.state.specs.Queues.{upOne, pushRequest, firstRequest, restRequests, pushValue, firstValue, restValues, pushArea, topArea, popArea}
 use Rattle.rules.specs.declared.Found.{Found}

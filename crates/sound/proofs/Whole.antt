@@ -1,9 +1,8 @@
 -- From tables to the configuration that they stand in, and from two groups of clauses to the whole test.
 -- Assumes nothing.
-use Prim.Native.Nat.{ℕ}
 use mathlib.Core.Bool.{Bool, true, false}
 use mathlib.Core.List.{List, [], _∷_, _++_}
-use mathlib.Core.Path.{_≡_, refl, sym, _∙_, ap}
+use mathlib.Core.Path.{_≡_, refl, ap}
 use Rattle.laws.specs.Choice.{both, allOf}
 use Rattle.config.specs.declared.Config.{Config}
 use Rattle.entries.specs.Faults.{configSound}

@@ -1,7 +1,7 @@
 -- The blank parts of a state: what an unused place holds ("A sound state", its last sentence).
 -- Assumes nothing.
 use Prim.Native.Nat.{ℕ}
-use mathlib.Core.Bool.{Bool, true, false}
+use mathlib.Core.Bool.{false}
 use lib.ListN.{replicate}
 use Rattle.config.specs.Tables.{maxAreaConfs}
 use Rattle.values.specs.Values.{voidV}

@@ -1,11 +1,11 @@
 -- The start state, for any configuration ("The parts, and how many", last paragraph).
 -- Assumes nothing.
 use Prim.Native.Nat.{ℕ}
-use mathlib.Core.Bool.{Bool, true, false}
+use mathlib.Core.Bool.{false}
 use lib.Dec.{eqb}
 use Rattle.laws.specs.Choice.{pick}
 use Rattle.laws.specs.Row.{eachBelow}
-use Rattle.values.specs.Values.{voidV, numberV, neverReceivedV}
+use Rattle.values.specs.Values.{numberV, neverReceivedV}
 use Rattle.config.specs.Tables.{runnableConfIn, variableConfIn, requiredConfIn}
 use Rattle.config.specs.declared.Config.{Config}
 use Rattle.config.specs.declared.RunnableConf.{RunnableConf}

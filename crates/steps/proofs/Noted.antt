@@ -1,15 +1,13 @@
 -- What is noted of the elements says the same as the elements themselves.
 -- Assumes nothing.
-use Prim.Native.Nat.{ℕ, zero, suc, _≤_, _<_}
-use mathlib.Core.Bool.{Bool, true, false, not}
+use Prim.Native.Nat.{ℕ, zero, suc, _<_}
+use mathlib.Core.Bool.{Bool, true}
 use mathlib.Core.List.{List}
-use mathlib.Core.Path.{_≡_, refl, sym, _∙_, ap}
+use mathlib.Core.Path.{_≡_, refl}
 use native.Mathlib.Decide.{decLt}
 use native.Mathlib.Omega.{arith}
-use lib.Dec.{eqb, ltb}
 use lib.ListN.{length, getD, replicate}
-use Rattle.laws.specs.Choice.{pick, both, either}
-use Rattle.laws.specs.Loop.{anyBelow}
+use Rattle.laws.specs.Choice.{pick}
 use Rattle.laws.specs.Row.{eachBelow}
 use Rattle.laws.proofs.Looping.{any-same}
 use Rattle.laws.proofs.Places.{past, each-at, each-length}
@@ -21,7 +19,7 @@ use Rattle.state.specs.declared.Runnable.{Runnable}
 use Rattle.state.specs.declared.Runnables.{Runnables}
 use Rattle.state.specs.Parts.{noRunnable}
 use Rattle.state.specs.Tables.{elementIn}
-use Rattle.rules.specs.Steps.{linked, accepts, woken, feeds, isFed, fedRunnables, isFull, anyFull}
+use Rattle.rules.specs.Steps.{accepts, woken, feeds, isFed, fedRunnables, isFull, anyFull}
 use Rattle.steps.specs.declared.Rooms.{Rooms}
 use Rattle.steps.specs.Rooms.{roomsOf, roomIn, feedsBy, isFedBy, fedRunnablesBy, isFullBy, anyFullBy}
 

@@ -9,8 +9,8 @@ use native.Mathlib.Omega.{arith}
 use lib.Dec.{ltb}
 use lib.ListN.{length, getD, set}
 use lib.Seq.{set-out}
-use borrow.Author.Tests.{lt-ltb, le-ltb}
-use Rattle.laws.specs.Choice.{pick, both, either}
+use borrow.Author.Tests.{lt-ltb, le-ltb, ltb-true}
+use Rattle.laws.specs.Choice.{pick, both}
 use Rattle.laws.specs.Loop.{allBelow}
 use Rattle.laws.specs.Row.{eachBelow}
 use Rattle.laws.proofs.Places.{inside, past, each-length, each-more}
@@ -21,7 +21,6 @@ use Rattle.state.specs.declared.Elements.{Elements}
 use Rattle.state.specs.declared.Slots.{Slots}
 use Rattle.state.specs.Parts.{noRunnable, noElement}
 use Rattle.state.specs.Tables.{maxSlots, runnableIn, elementIn}
-use Rattle.rules.specs.declared.Found.{Found}
 use Rattle.rules.specs.declared.Found.the-variants.{At, Nothing}
 use Rattle.rules.specs.Steps.{runnableLets, lowestEmpty, foundEmpty}
 
@@ -97,13 +96,13 @@ runnable-past rs t i e l = rw (past (rs .at) i 16 noRunnable e l)
 never : (k : ℕ) → Nothing ≡ At k → ⊥
 never k q = let z : _≡_ {A = ℕ} 0 1 = cc in omega arith
 
-pub found-at : (t : Slots) (k : ℕ) → foundEmpty t ≡ At k → (lowestEmpty t ≡ k) × (ltb (lowestEmpty t) maxSlots ≡ true)
+pub found-at : (t : Slots) (k : ℕ) → foundEmpty t ≡ At k → (lowestEmpty t ≡ k) × (ltb (lowestEmpty t) maxSlots ≡ true) × (k < 32)
 unfolding foundEmpty
-found-at t k h = go (ltb (lowestEmpty t) maxSlots) h
+found-at t k h = go (ltb (lowestEmpty t) maxSlots) refl h
   where
-    go : (b : Bool) → pick b (At (lowestEmpty t)) Nothing ≡ At k → (lowestEmpty t ≡ k) × (b ≡ true)
-    go true q = (cc, refl)
-    go false q = absurd (never k q)
+    go : (b : Bool) → ltb (lowestEmpty t) maxSlots ≡ b → pick b (At (lowestEmpty t)) Nothing ≡ At k → (lowestEmpty t ≡ k) × (b ≡ true) × (k < 32)
+    go true e q = let n : lowestEmpty t ≡ k = cc in (n, refl, omega (arith, n, ltb-true (lowestEmpty t) maxSlots e))
+    go false e q = absurd (never k q)
 
 pub found-none : (t : Slots) → foundEmpty t ≡ Nothing → ltb (lowestEmpty t) maxSlots ≡ false
 unfolding foundEmpty

@@ -1,7 +1,7 @@
 -- Which required elements take one more value, noted once before a value is handed over, so that data events and full queues are found without the elements.
 -- Assumes nothing.
 use Prim.Native.Nat.{ℕ}
-use mathlib.Core.Bool.{Bool, true, false, not}
+use mathlib.Core.Bool.{Bool, true, not}
 use lib.Dec.{eqb}
 use lib.ListN.{replicate, getD}
 use Rattle.laws.specs.Choice.{pick, both}

@@ -870,13 +870,16 @@ pub fn spawn(cfg: Config, st: State, r: u8) -> Stepped
     let runnables = st.runnables;
     let x = runnables.get(r);
     if may_spawn(c, x) {
-        let slots = st.slots;
+        let mut slots = st.slots;
         let Found::At(k) = found_empty(slots) else {
             return refuse(12, st);
         };
+        let place = k as usize;
+        let s = instance_of(c, r, x);
+        slots.at[place] = s;
         let mut next = st;
         next.runnables = runnables.with(r, starting(c, x));
-        next.slots = slots.with(k, instance_of(c, r, x));
+        next.slots = slots;
         return take(Value::of(k as u32), next);
     }
     refuse(11, st)

@@ -1,9 +1,9 @@
 -- The eight kinds of value, payloads and bad values ("The parts, and how many"; "The files", last sentence).
 -- Assumes nothing.
 use Prim.Native.Nat.{ℕ}
-use mathlib.Core.Bool.{Bool, true, false}
+use mathlib.Core.Bool.{Bool}
 use lib.Dec.{ltb, eqb}
-use Rattle.laws.specs.Choice.{pick, both, either}
+use Rattle.laws.specs.Choice.{both, either}
 use Rattle.values.specs.declared.Value.{Value}
 use Rattle.values.specs.declared.Answer.{Answer}
 use Rattle.values.specs.declared.Answer.the-variants.{Taken, Refused}

@@ -123,10 +123,6 @@ written-once b xs at r r′ c c′ w w′ = (w .answer ∙ sym (w′ .answer), w
 
 -- ---- a text of pieces
 
-pub build-more : (f : ℕ → List ℕ) (n : ℕ) → build f (suc n) ≡ build f n ++ f n
-unfolding build
-build-more f n = refl
-
 -- pieces that agree make the same text
 pub build-same : (f g : ℕ → List ℕ) (n : ℕ) → ((k : ℕ) → k < n → f k ≡ g k) → build f n ≡ build g n
 unfolding build

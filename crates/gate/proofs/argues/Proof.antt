@@ -1,4 +1,4 @@
-use borrow.Author.Tests.{lt-ltb, le-ltb, eq-eqb, ne-eqb}
+use borrow.Author.Tests.{eq-eqb, ne-eqb}
 use Rattle.rules.specs.Refusals.{argues}
 use Rattle.gate.proofs.argues.Statement.{statement}
 use Rattle.gate.proofs.argues.Tie as tie

@@ -1,4 +1,4 @@
-use borrow.Author.Tests.{lt-ltb, le-ltb, eq-eqb, ne-eqb}
+use borrow.Author.Tests.{eq-eqb, ne-eqb}
 use Rattle.rules.specs.Refusals.{asksSynchronous}
 use Rattle.gate.proofs.asks_synchronous.Statement.{statement}
 use Rattle.gate.proofs.asks_synchronous.Tie as tie

@@ -1,4 +1,3 @@
-use Rattle.laws.proofs.Choosing.{tests}
 use Rattle.gate.proofs.finished_lets.Statement.{statement}
 use Rattle.gate.proofs.finished_lets.Tie as tie
 

@@ -1,4 +1,3 @@
-use Rattle.rules.specs.Refusals.{asksSynchronous}
 use Rattle.gate.proofs.may_ask.Statement.{statement}
 use Rattle.gate.proofs.may_ask.Tie as tie
 

@@ -1,7 +1,6 @@
 use mathlib.Core.Path.{ap}
 use Rattle.config.specs.declared.RunnableConf.{RunnableConf}
 use Rattle.gate.specs.Owned.{ownedRefusal}
-use Rattle.rules.specs.Refusals.{partOwn, lifeLets}
 use Rattle.gate.proofs.owned_refusal.Statement.{statement}
 use Rattle.gate.proofs.owned_refusal.Tie as tie
 

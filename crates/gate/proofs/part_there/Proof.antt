@@ -1,4 +1,4 @@
-use borrow.Author.Tests.{lt-ltb, le-ltb, eq-eqb, ne-eqb}
+use borrow.Author.Tests.{eq-eqb, ne-eqb}
 use Rattle.rules.specs.Refusals.{partThere}
 use Rattle.gate.proofs.part_there.Statement.{statement}
 use Rattle.gate.proofs.part_there.Tie as tie

@@ -1,4 +1,4 @@
-use mathlib.Core.Path.{_≡_, refl, sym}
+use mathlib.Core.Path.{refl, sym}
 use borrow.Author.Needs.{needs}
 use Rattle.laws.proofs.Places.{past}
 use Rattle.rules.specs.Refusals.{queueingOf, queueings}

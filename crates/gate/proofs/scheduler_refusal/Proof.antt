@@ -1,4 +1,4 @@
-use borrow.Author.Tests.{lt-ltb, le-ltb, eq-eqb, ne-eqb}
+use borrow.Author.Tests.{eq-eqb, ne-eqb}
 use Rattle.rules.specs.Refusals.{schedulerRefusal}
 use Rattle.gate.proofs.scheduler_refusal.Statement.{statement}
 use Rattle.gate.proofs.scheduler_refusal.Tie as tie

@@ -1,4 +1,4 @@
-use borrow.Author.Tests.{lt-ltb, le-ltb, eq-eqb, ne-eqb}
+use borrow.Author.Tests.{eq-eqb, ne-eqb}
 use Rattle.gate.proofs.waiting_lets.Statement.{statement}
 use Rattle.gate.proofs.waiting_lets.Tie as tie
 

@@ -1,4 +1,4 @@
-use mathlib.Core.Path.{_≡_, sym, _∙_}
+use mathlib.Core.Path.{sym, _∙_}
 use Rattle.rules.specs.Sound.{soundOf}
 use Rattle.rules.specs.Step.{innerOf, stepOf}
 use Rattle.keep.proofs.Keeps.{once, kept-step}

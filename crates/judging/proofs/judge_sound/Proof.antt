@@ -1,7 +1,7 @@
 -- `judge_sound` meets its contract. What is ahead is judged as the whole was: the allowance left and the steps taken make up the allowance, and the place is within the text.
 -- The measure is the allowance that is left. Assumes nothing.
-use Prim.Native.Nat.{ℕ, _+_, _-_, _≤_}
-use mathlib.Core.List.{List, [], _∷_}
+use Prim.Native.Nat.{_+_, _-_, _≤_}
+use mathlib.Core.List.{[], _∷_}
 use mathlib.Core.Logic.{⊎-elim}
 use mathlib.Core.Path.{_≡_, refl, sym, ap, _∙_}
 use borrow.Author.Needs.{needs}
@@ -13,7 +13,6 @@ use lib.Seq.{drop-drop}
 use Rattle.recording.proofs.Field.{the-type}
 use Rattle.recording.specs.declared.Field.{Field}
 use Rattle.recording.specs.declared.Field.the-variants.{Step as IsStep, End, Refused as NoField}
-use Rattle.recording.specs.Recording.{fieldOf}
 use Rattle.recording.proofs.OneField.{refused-18}
 use Rattle.recording.proofs.Loops.{step-room}
 use Rattle.rules.specs.Step.{innerOf}

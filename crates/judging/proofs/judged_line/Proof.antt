@@ -1,4 +1,4 @@
-use mathlib.Core.Path.{_≡_, sym, _∙_}
+use mathlib.Core.Path.{_∙_}
 use Rattle.judging.specs.Line.{judgedLine}
 use borrow.Author.Needs.{needs}
 use Rattle.judging.proofs.judged_line.Statement.{statement}

@@ -1,10 +1,20 @@
-use Rattle.rules.specs.Step.{innerOf}
+use borrow.Author.Needs.{needs}
+use Rattle.rules.specs.Step.{claimedOf, innerOf}
 use Rattle.machine.proofs.inner.Statement.{statement}
 use Rattle.machine.proofs.inner.Tie as tie
 
 returns : tie.Need-returns
-unfolding innerOf
-returns c = rw (c .claimed .ensures, c .before .possible .ensures)
+unfolding innerOf claimedOf
+returns c = rw (← c .before .before .possible .ensures, c .enum-told .given .1)
+
+returns-2 : tie.Need-returns-2
+unfolding innerOf claimedOf
+returns-2 c = rw (← c .before .before .before .before .before .possible .ensures, c .before .before .before .a .given .1, ← c .before .same .ensures, c .if1 .taken)
+
+returns-3 : tie.Need-returns-3
+unfolding innerOf claimedOf
+returns-3 c = rw (← c .before .before .before .before .before .before .possible .ensures, c .before .before .before .before .a .given .1, ← c .before .before .same .ensures, c .before .if1 .left, c .refuse .ensures)
 
 pub inner-spec : {M : Type 1} → statement M
-inner-spec = tie.close (tie.spec (λ c κs. tt) (λ c κs. tt) returns)
+inner-spec =
+    tie.close (tie.spec (λ c κs. tt) (λ c. search needs) (λ c. search needs) returns (λ c κs. tt) returns-2 (λ c κs. tt) returns-3)

@@ -11,4 +11,5 @@ unfolding stepOf
 returns-2 c = rw (c .refuse .ensures, ← c .before .before .is-sound .ensures, c .before .if1 .left)
 
 pub step-spec : {M : Type 1} → statement M
-step-spec = tie.close (tie.spec (λ c κs. tt) (λ c κs. tt) returns (λ c κs. tt) returns-2)
+step-spec =
+    tie.close (tie.spec (λ c κs. tt) (λ c κs. tt) returns (λ c κs. tt) returns-2)

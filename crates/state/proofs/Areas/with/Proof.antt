@@ -4,7 +4,6 @@ use mathlib.Core.Path.{_≡_, refl, sym, ap}
 use lib.ListN.{length}
 use Rattle.laws.proofs.Places.{past-set, length-mapped}
 use Rattle.state.specs.declared.Area.{Area}
-use Rattle.state.specs.declared.Areas.{Areas}
 use Rattle.state.specs.Tables.{withArea}
 use Rattle.state.proofs.Areas.with.Statement.{statement}
 use Rattle.state.proofs.Areas.with.Tie as tie

@@ -4,7 +4,6 @@ use mathlib.Core.Path.{_≡_, refl, sym, ap}
 use lib.ListN.{length}
 use Rattle.laws.proofs.Places.{past-set, length-mapped}
 use Rattle.state.specs.declared.Element.{Element}
-use Rattle.state.specs.declared.Elements.{Elements}
 use Rattle.state.specs.Tables.{withElement}
 use Rattle.state.proofs.Elements.with.Statement.{statement}
 use Rattle.state.proofs.Elements.with.Tie as tie

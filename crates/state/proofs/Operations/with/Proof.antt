@@ -4,7 +4,6 @@ use mathlib.Core.Path.{_≡_, refl, sym, ap}
 use lib.ListN.{length}
 use Rattle.laws.proofs.Places.{past-set, length-mapped}
 use Rattle.state.specs.declared.Operation.{Operation}
-use Rattle.state.specs.declared.Operations.{Operations}
 use Rattle.state.specs.Tables.{withOperation}
 use Rattle.state.proofs.Operations.with.Statement.{statement}
 use Rattle.state.proofs.Operations.with.Tie as tie

@@ -4,7 +4,6 @@ use mathlib.Core.Path.{_≡_, refl, sym, ap}
 use lib.ListN.{length}
 use Rattle.laws.proofs.Places.{past-set, length-mapped}
 use Rattle.state.specs.declared.Runnable.{Runnable}
-use Rattle.state.specs.declared.Runnables.{Runnables}
 use Rattle.state.specs.Tables.{withRunnable}
 use Rattle.state.proofs.Runnables.with.Statement.{statement}
 use Rattle.state.proofs.Runnables.with.Tie as tie

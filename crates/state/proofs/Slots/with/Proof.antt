@@ -4,7 +4,6 @@ use mathlib.Core.Path.{_≡_, refl, sym, ap}
 use lib.ListN.{length}
 use Rattle.laws.proofs.Places.{past-set, length-mapped}
 use Rattle.state.specs.declared.Slot.{Slot}
-use Rattle.state.specs.declared.Slots.{Slots}
 use Rattle.state.specs.Tables.{withSlot}
 use Rattle.state.proofs.Slots.with.Statement.{statement}
 use Rattle.state.proofs.Slots.with.Tie as tie

@@ -4,7 +4,6 @@ use mathlib.Core.Path.{_≡_, refl, sym, ap}
 use lib.ListN.{length}
 use Rattle.laws.proofs.Places.{past-set, length-mapped}
 use Rattle.state.specs.declared.Timer.{Timer}
-use Rattle.state.specs.declared.Timers.{Timers}
 use Rattle.state.specs.Tables.{withTimer}
 use Rattle.state.proofs.Timers.with.Statement.{statement}
 use Rattle.state.proofs.Timers.with.Tie as tie

@@ -4,7 +4,6 @@ use mathlib.Core.Path.{_≡_, refl, sym, ap}
 use lib.ListN.{length}
 use Rattle.laws.proofs.Places.{past-set, length-mapped}
 use Rattle.state.specs.declared.Variable.{Variable}
-use Rattle.state.specs.declared.Variables.{Variables}
 use Rattle.state.specs.Tables.{withVariable}
 use Rattle.state.proofs.Variables.with.Statement.{statement}
 use Rattle.state.proofs.Variables.with.Tie as tie

@@ -1,0 +1,2 @@
+-- How the code of one step goes: its refusal first, then what it does.
+pub mod Going
