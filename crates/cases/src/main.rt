@@ -65,7 +65,7 @@ fn every_case(config: &mut [u8], recording: &mut [u8]) {
 }
 
 fn main() {
-    let mut config = [0u8; 4097];
-    let mut recording = [0u8; 65537];
+    let mut config = [0u8; judging::CONFIG_ROOM];
+    let mut recording = [0u8; judging::RECORDING_ROOM];
     every_case(&mut config, &mut recording);
 }

@@ -1,7 +1,7 @@
 -- From the facts of a reached state and its history to what the promises say of them.
 -- Areas: a count of one is one holder, which holds it once, and no other (`holder`); a count of none is none (`no-holder`). Queued values: `values-told`.
 -- Results: an operation Done with a Number holds what its last ending gave (`number-from`), that ending counts (`last-counts`) and so it is the only one of its
--- call (`done-final`); a result answered by a Number was of such an operation (`result-told`). Timeouts, and spawns of servers: `timed`, `took-oldest`.
+-- call (`done-final`); a result answered by a Number was of such an operation (`result-told`). Timeouts, and spawns of servers: `timed`, `serves-one`, `took-oldest`.
 -- Assumes nothing.
 use Prim.Native.Nat.{ℕ, _+_, _≤_, _<_}
 use mathlib.Core.Bool.{Bool, true, false, not}
@@ -12,24 +12,24 @@ use native.Mathlib.Omega.{arith}
 use lib.Dec.{ltb, leb, eqb}
 use lib.ListN.{getD}
 use lib.Seq.{getD-set-same}
-use borrow.Author.Tests.{leb-true, eqb-true, eq-eqb, lt-ltb, le-ltb}
+use borrow.Author.Tests.{leb-true, eqb-true, eq-eqb, ne-eqb, ltb-true, lt-ltb, le-ltb}
 use Rattle.laws.specs.Choice.{pick, both, bit}
 use Rattle.laws.specs.Loop.{sumBelow}
-use Rattle.laws.proofs.Choosing.{both-left, both-right, all-told}
+use Rattle.laws.proofs.Choosing.{both-left, both-right, all-told, clash}
 use Rattle.laws.proofs.Looping.{all-at, sum-term, sum-two, sum-find, count-most}
 use Rattle.values.specs.declared.Value.{Value}
 use Rattle.values.specs.declared.Step.{Step}
 use Rattle.values.specs.declared.Answer.the-variants.{Taken}
 use Rattle.values.specs.Values.{numberV, noDataV, isVoid}
 use Rattle.config.specs.declared.Config.{Config}
-use Rattle.config.specs.Tables.{requiredConfIn, operationConfIn}
+use Rattle.config.specs.Tables.{runnableConfIn, requiredConfIn, operationConfIn}
 use Rattle.entries.specs.Faults.{isServer}
 use Rattle.state.specs.declared.State.{State}
 use Rattle.state.specs.declared.Stepped.{Stepped}
-use Rattle.state.specs.Tables.{areaIn, elementIn, operationIn, slotIn, withSlot, withSlots}
+use Rattle.state.specs.Tables.{runnableIn, areaIn, elementIn, operationIn, slotIn, withSlot, withSlots}
 use Rattle.rules.specs.Sound.{isStored, valuesSound, elementSound, elementsSound, timesIn, holders, isNoSlot, slotSound, slotsSound}
 use Rattle.rules.specs.Refusals.{instanceRefusal}
-use Rattle.rules.specs.Steps.{refused, took, runningOn, pollOf, collectOf, resultOf}
+use Rattle.rules.specs.Steps.{refused, took, runningOn, pollOf, collectOf, resultOf, isDue}
 use Rattle.rules.specs.Step.{instanceActOf, instanceStepOf, possibleOf}
 use Rattle.keep.specs.Facts.{Sound, CanTimeout}
 use Rattle.history.specs.History.{noRequest, How, byTimeout, byInstance, Ending, History, takenBy, queuedAt, observe, endsOf, lastOn, Proper}
@@ -171,6 +171,20 @@ spawn-inside cfg st s st′ q (ends c z e) = absurd (omega (arith, c, q))
 spawn-inside cfg st s st′ q (serves c k y z e) = omega (arith, ap (λ (v : Value). v .number) k, z .slot)
 spawn-inside cfg st s st′ q (spawns c k y z e) = omega (arith, ap (λ (v : Value). v .number) k, z .slot)
 spawn-inside cfg st s st′ q (timesOut c z e) = absurd (omega (arith, c, q))
+
+-- a server that is spawned has a request
+pub serves-one : (cfg : Config) (st : State) (s : Step) (st′ : State) → s .code ≡ 15 → isServer cfg (s .what) ≡ true → Deed cfg st s st′ → 0 < runnableIn (st .runnables) (s .what) .requests .queued
+unfolding isServer isDue
+serves-one cfg st s st′ q y (passes a z) = absurd (z .spawn q)
+serves-one cfg st s st′ q y (starts c k z e) = absurd (omega (arith, c, q))
+serves-one cfg st s st′ q y (returns c k z a e) = absurd (omega (arith, c, q))
+serves-one cfg st s st′ q y (lates c k z e) = absurd (omega (arith, c, q))
+serves-one cfg st s st′ q y (ends c z e) = absurd (omega (arith, c, q))
+serves-one cfg st s st′ q y (serves c k x z e) =
+    let n = ltb-true 0 (runnableConfIn (cfg .runnables) (s .what) .capacity) y in
+    ltb-true 0 _ (rw (ne-eqb (runnableConfIn (cfg .runnables) (s .what) .capacity) 0 (λ w. omega (arith, w, n))) at (z .due))
+serves-one cfg st s st′ q y (spawns c k x z e) = absurd (clash (isServer cfg (s .what)) y x)
+serves-one cfg st s st′ q y (timesOut c z e) = absurd (omega (arith, c, q))
 
 pub took-oldest : (cfg : Config) (st : State) (s : Step) (st′ : State) (h : History) → s .code ≡ 15 → isServer cfg (s .what) ≡ true → Deed cfg st s st′ → Tied st h
     → takenBy (observe cfg h s) (s .claim .number) ≡ getD (queuedAt h (s .what)) 0 noRequest

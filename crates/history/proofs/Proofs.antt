@@ -7,7 +7,7 @@ use mathlib.Core.List.{[], _∷_, _++_}
 use mathlib.Core.Path.{_≡_, refl, sym, _∙_, ap}
 use native.Mathlib.Nat.{add-zero}
 use native.Mathlib.Omega.{arith}
-use lib.ListN.{getD}
+use lib.ListN.{length, getD, length-drop}
 use lib.Seq.{getD-drop}
 use borrow.Author.Tests.{lt-ltb}
 use Rattle.laws.specs.Choice.{bit}
@@ -18,14 +18,19 @@ use Rattle.state.specs.Start.{startOf}
 use Rattle.state.specs.Tables.{operationIn}
 use Rattle.keep.proofs.Configured.{runnables-most, server-there}
 use Rattle.history.specs.History.{noRequest, History, historyOf, takenBy, allQueued, allSpawns}
-use Rattle.history.specs.Promises.{TakenHasOne, FreeHasNone, RequestsFit, ValuesFit, EndsOnce, EndsProperly, TimeoutAtZero, NumberIsFinal, DoneIsFinal, OpenIsUnended, LatestStarted, QueuesFollowed, FirstInFirstOut, SpawnTakesNext}
+use Rattle.history.specs.Promises.{StaysSound, TakenHasOne, FreeHasNone, RequestsFit, ValuesFit, EndsOnce, EndsProperly, TimeoutAtZero, NumberIsFinal, DoneIsFinal, OpenIsUnended, LatestStarted, QueuesFollowed, FirstInFirstOut, SpawnTakesNext}
 use Rattle.history.proofs.Tied.{Tied}
 use Rattle.history.proofs.Runs.{halves, first, history-one}
 use Rattle.history.proofs.Ties.{requests-told}
 use Rattle.history.proofs.Accepts.{accepted, deed}
 use Rattle.history.proofs.Named.{started-at, proper-at}
-use Rattle.history.proofs.Reached.{sound-at, tied-at, named-at, fifo-at, ends-grow}
-use Rattle.history.proofs.Finals.{holder, no-holder, values-told, done-final, result-told, timed, took-oldest}
+use Rattle.history.proofs.Reached.{sound-along, sound-at, tied-at, named-at, fifo-at, ends-grow}
+use Rattle.history.proofs.Finals.{holder, no-holder, values-told, done-final, result-told, timed, serves-one, took-oldest}
+
+-- ---- states
+
+pub stays-sound : StaysSound
+stays-sound = sound-along
 
 -- ---- areas and queues
 
@@ -53,7 +58,9 @@ pub timeout-at-zero : TimeoutAtZero
 timeout-at-zero cfg before after s st c e q =
     let m = halves cfg (startOf cfg) st before (s ∷ after) e in
     let z = timed cfg (m .mid) s _ q (deed cfg (m .mid) s (first cfg (m .mid) st s after (m .after))) in
-    (m .mid, m .before, z .calling, z .zero)
+    let t = tied-at cfg before (m .mid) (m .before) in
+    let b = t .calls .begun (s .what) (z .calling) in
+    (m .mid, m .before, z .calling, z .zero, named-at cfg before (m .mid) (m .before) .latest (s .what) b, omega (arith, rw (z .calling) at (t .calls .state (s .what) b)))
 
 pub number-is-final : NumberIsFinal
 number-is-final cfg before after s n st c e q k =
@@ -98,7 +105,11 @@ spawn-takes-next cfg before s st c e q b =
     let y : isServer cfg (s .what) ≡ true = lt-ltb 0 _ b in
     let t = tied-at cfg before (m .mid) (m .before) in
     let f = fifo-at cfg before (m .mid) (s .what) y (omega (arith, server-there cfg c (s .what) y, runnables-most cfg c)) (m .before) in
-    ap (λ (h : History). takenBy h (s .claim .number)) (history-one cfg before s)
-    ∙ took-oldest cfg (m .mid) s _ (historyOf cfg before) q y (deed cfg (m .mid) s (first cfg (m .mid) st s [] (m .after))) t
-    ∙ ap (λ l. getD l 0 noRequest) (f .queue)
-    ∙ getD-drop (allSpawns (s .what) before) (allQueued cfg (s .what) 0 before) 0 noRequest ∙ ap (λ k. getD (allQueued cfg (s .what) 0 before) k noRequest) (add-zero _)
+    let d = deed cfg (m .mid) s (first cfg (m .mid) st s [] (m .after)) in
+    (
+      omega (arith, serves-one cfg (m .mid) s _ q y d, t .queues .each (s .what) .size, ap length (f .queue), length-drop (allSpawns (s .what) before) (allQueued cfg (s .what) 0 before)),
+      ap (λ (h : History). takenBy h (s .claim .number)) (history-one cfg before s)
+      ∙ took-oldest cfg (m .mid) s _ (historyOf cfg before) q y d t
+      ∙ ap (λ l. getD l 0 noRequest) (f .queue)
+      ∙ getD-drop (allSpawns (s .what) before) (allQueued cfg (s .what) 0 before) 0 noRequest ∙ ap (λ k. getD (allQueued cfg (s .what) 0 before) k noRequest) (add-zero _),
+    )

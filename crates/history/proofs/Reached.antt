@@ -32,8 +32,11 @@ use Rattle.history.proofs.Fifo.{Fifo, fifo-start, fifo-deed}
 
 -- ---- by induction over the recording
 
+pub sound-along : (cfg : Config) (rs : List Step) (st : State) → configSound cfg ≡ true → Run cfg rs st → soundOf cfg st ≡ true
+sound-along cfg rs st c e = along cfg (λ before m. soundOf cfg m ≡ true) (λ before s m r p a. kept-step cfg m s p) (start-sound cfg c) rs st e
+
 pub sound-at : (cfg : Config) (rs : List Step) (st : State) → configSound cfg ≡ true → Run cfg rs st → Sound cfg st
-sound-at cfg rs st c e = told cfg st (along cfg (λ before m. soundOf cfg m ≡ true) (λ before s m r p a. kept-step cfg m s p) (start-sound cfg c) rs st e)
+sound-at cfg rs st c e = told cfg st (sound-along cfg rs st c e)
 
 pub tied-at : (cfg : Config) (rs : List Step) (st : State) → Run cfg rs st → Tied st (historyOf cfg rs)
 unfolding historyOf historyFrom

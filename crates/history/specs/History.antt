@@ -1,4 +1,4 @@
--- What a recording tells of its calls, read off its steps and their answers alone: no state of the machine, no number of an operation.
+-- What a recording tells of its calls, read off its steps and their answers under its configuration: no state of the machine, no number of an operation.
 -- A call is named by the place of its step in the recording, counted from 1; 0 is no call. The answer of an accepted step is the one that it claims.
 -- Assumes nothing.
 use Prim.Native.Nat.{ℕ, zero, suc, _+_}
@@ -105,7 +105,7 @@ takesOldest h i r = record {
   endings = h .endings;
 }
 
--- an accepted step: a call answered Ok starts one, a hand back answered 1 and a timeout end one, a spawn of a server takes a request; all others pass ("How tight the contracts are", demand 3)
+-- an accepted step: a call answered Ok starts one, a hand back answered 1 and a timeout end one, a spawn of a server takes a request, an end and any other spawn leave a slot with none; all others pass ("How tight the contracts are", demand 3)
 unfoldable pub observe : Config → History → Step → History
 observe cfg h s =
     pick (eqb (s .code) 11) (pick (sameValue (s .claim) okV) (begins cfg h (s .what)) (passed h))

@@ -18,11 +18,11 @@ use Rattle.entries.specs.Faults.{configSound}
 use Rattle.state.specs.declared.State.{State}
 use Rattle.state.specs.Tables.{maxSlots, runnableIn, areaIn, elementIn, operationIn, slotIn}
 use Rattle.state.specs.Start.{startOf}
-use Rattle.rules.specs.Sound.{timesIn}
+use Rattle.rules.specs.Sound.{timesIn, soundOf}
 use Rattle.rules.specs.Step.{stepOf}
 use Rattle.history.specs.History.{noRequest, byInstance, Ending, historyOf, queuedAt, takenBy, latestOn, endsOf, lastOn, Proper, Started, allQueued, allSpawns}
 
--- an answer says that the step was taken, with this value: by the number and the value that stand for it ("Numbers of refusal")
+-- an answer says that the step was taken, with this value: by the number and the value that stand for it; no refusal has the number 0 (`never-zero` in crate keep) ("Numbers of refusal")
 abbrev pub Answers : Answer → Value → Type 0
 Answers a v = (refusalIn a ≡ 0) × (valueIn a ≡ v)
 
@@ -34,6 +34,10 @@ Accepted cfg st (s ∷ rs) st′ = Answers (stepOf cfg st s .answer) (s .claim) 
 -- the steps are accepted one after another, from the start state to st ("Judging")
 abbrev pub Run : Config → List Step → State → Type 0
 Run cfg rs st = Accepted cfg (startOf cfg) rs st
+
+-- every state that accepted steps reach is sound: no step was refused because an earlier one had spoilt the state ("A sound state")
+abbrev pub StaysSound : Type 0
+StaysSound = (cfg : Config) (rs : List Step) (st : State) → configSound cfg ≡ true → Run cfg rs st → soundOf cfg st ≡ true
 
 -- a taken area has exactly one holder: an instance whose stack has it, once, and no other stack has it ("A sound state", areas)
 abbrev pub TakenHasOne : Type 0
@@ -72,11 +76,12 @@ EndsProperly =
     (cfg : Config) (rs : List Step) (st : State) → configSound cfg ≡ true → Run cfg rs st
     → (e : Ending) → List·Memᴰ e (historyOf cfg rs .endings) → Started rs (e .call) (e .on) × Proper (e .call) (e .how)
 
--- a timeout is taken at count zero of an open call ("How tight the contracts are", demand 3)
+-- a timeout is taken at count zero of an open operation, whose latest call was started and has not ended ("How tight the contracts are", demand 3)
 abbrev pub TimeoutAtZero : Type 0
 TimeoutAtZero =
     (cfg : Config) (before after : List Step) (s : Step) (st : State) → configSound cfg ≡ true → Run cfg (before ++ (s ∷ after)) st → s .code ≡ 16
     → (m : State) × Run cfg before m × (operationIn (m .operations) (s .what) .calling ≡ true) × (operationIn (m .operations) (s .what) .count ≡ 0)
+        × Started before (latestOn (historyOf cfg before) (s .what)) (s .what) × (endsOf (latestOn (historyOf cfg before) (s .what)) (historyOf cfg before .endings) ≡ 0)
 
 -- a result answers a Number only if the latest call ended on that operation was ended by an instance spawned for it that handed back that number, and that call ends only this once in the whole recording: before any timeout of it ("How tight the contracts are", demand 3)
 abbrev pub NumberIsFinal : Type 0
@@ -112,14 +117,15 @@ QueuesFollowed =
     (cfg : Config) (rs : List Step) (st : State) → configSound cfg ≡ true → Run cfg rs st
     → (r : ℕ) → r < maxRunnableConfs → length (queuedAt (historyOf cfg rs) r) ≡ runnableIn (st .runnables) r .requests .queued
 
--- the n-th spawn of a server takes the n-th request queued there: what waits is all that was queued, less one for each spawn ("How tight the contracts are", demand 3)
+-- what waits at a server is all that was ever queued there, less the oldest, one for each spawn ("How tight the contracts are", demand 3)
 abbrev pub FirstInFirstOut : Type 0
 FirstInFirstOut =
     (cfg : Config) (rs : List Step) (st : State) → configSound cfg ≡ true → Run cfg rs st
     → (r : ℕ) → r < cfg .runnables .n → 0 < runnableConfIn (cfg .runnables) r .capacity → queuedAt (historyOf cfg rs) r ≡ drop (allSpawns r rs) (allQueued cfg r 0 rs)
 
--- and so a spawn takes the request whose number in that order is the number of spawns before it ("How tight the contracts are", demand 3)
+-- and so a spawn finds a request there, and the n-th one takes the n-th that was queued ("How tight the contracts are", demand 3)
 abbrev pub SpawnTakesNext : Type 0
 SpawnTakesNext =
     (cfg : Config) (before : List Step) (s : Step) (st : State) → configSound cfg ≡ true → Run cfg (before ++ (s ∷ [])) st → s .code ≡ 15 → 0 < runnableConfIn (cfg .runnables) (s .what) .capacity
-    → takenBy (historyOf cfg (before ++ (s ∷ []))) (s .claim .number) ≡ getD (allQueued cfg (s .what) 0 before) (allSpawns (s .what) before) noRequest
+    → (allSpawns (s .what) before < length (allQueued cfg (s .what) 0 before))
+        × (takenBy (historyOf cfg (before ++ (s ∷ []))) (s .claim .number) ≡ getD (allQueued cfg (s .what) 0 before) (allSpawns (s .what) before) noRequest)

@@ -40,6 +40,11 @@ pub const MAX_RECORDING: usize = 65536;
 
 pub const ALLOWED: u32 = 4000;
 
+// Room for a file and for one byte more, so that a longer one is seen to be too long.
+pub const CONFIG_ROOM: usize = MAX_CONFIG + 1;
+
+pub const RECORDING_ROOM: usize = MAX_RECORDING + 1;
+
 // Judges a recording from a first state, with an allowance of steps.
 pub fn judge(cfg: Config, st: State, s: &[u8], allowance: u32) -> Judged
     ensures { λ r. ⌜ r ≡ judgeOf cfg st (now (s .entry)) allowance ⌝ }

@@ -65,7 +65,7 @@ taken-claims cfg st s v h = go (soundOf cfg st) refl
 
 -- ---- the steps of a text
 
-steps-step : (t : List ℕ) (s : Step) (z : ℕ) → fieldOf t ≡ IsStep s z → stepsIn t ≡ s ∷ stepsIn (drop z t)
+pub steps-step : (t : List ℕ) (s : Step) (z : ℕ) → fieldOf t ≡ IsStep s z → stepsIn t ≡ s ∷ stepsIn (drop z t)
 steps-step t s z e = ap (λ (w : Whole). w .steps) (whole-step t s z e)
 
 steps-end : (t : List ℕ) → fieldOf t ≡ End → stepsIn t ≡ []

@@ -1,7 +1,7 @@
 -- From the bytes to the runs that the promises speak of: the start state of a configuration that was read is sound, so judging it is judging its steps
 -- (`from-start`), and what a line names is what the verdict counts.
 -- Assumes nothing.
-use Prim.Native.Nat.{ℕ}
+use Prim.Native.Nat.{ℕ, _<_}
 use mathlib.Core.Bool.{Bool, true, false}
 use mathlib.Core.List.{List}
 use mathlib.Core.Path.{_≡_, refl, sym, ap, _∙_, subst}
@@ -25,12 +25,13 @@ use Rattle.judging.specs.declared.Verdict.{Verdict}
 use Rattle.judging.specs.declared.Verdict.the-variants.{Accepted, Refused, Unfinished}
 use Rattle.judging.specs.declared.Judged.{Judged}
 use Rattle.judging.specs.declared.Line.{Line}
-use Rattle.judging.specs.declared.Line.the-variants.{Accepted as AcceptedLine, Unfinished as UnfinishedLine, Configuration, TooLong}
-use Rattle.judging.specs.Judging.{judgeFrom, judgeOf}
+use Rattle.judging.specs.declared.Line.the-variants.{Accepted as AcceptedLine, Refused as RefusedLine, Unfinished as UnfinishedLine, Configuration, TooLong}
+use Rattle.judging.specs.Judging.{refusalIn, placeIn, judgeFrom, judgeOf}
 use Rattle.judging.specs.Line.{maxConfig, maxRecording, allowed, verdictLine, judgedLine, readLine, lineOf}
 use Rattle.history.specs.Promises.{Run}
-use Rattle.promises.specs.Claims.{AcceptedIsRun, FirstRun, CountedIsRun, AcceptedIsWhole, UnfinishedIsRun}
+use Rattle.promises.specs.Claims.{AcceptedIsRun, FirstRun, CountedIsRun, AcceptedIsWhole, UnfinishedIsRun, Stops, RefusedIsStopped, RefusedIsRun}
 use Rattle.promises.proofs.Counted.{counted, accepted-whole, unfinished-more}
+use Rattle.promises.proofs.Stopped.{refuses, StopsFrom, stopped-at}
 
 -- from the start state of a sound configuration, no refusal at place 0
 from-start : (cfg : Config) (t : List ℕ) (a : ℕ) → configSound cfg ≡ true → judgeOf cfg (startOf cfg) t a ≡ judgeFrom (stepOf cfg) a t 0 (startOf cfg)
@@ -128,3 +129,50 @@ accepted-is-whole cfg t a h v =
     let e = from-start cfg t a h in
     let w = accepted-whole cfg a t 0 (startOf cfg) (sym (ap (λ (j : Judged). j .verdict) e) ∙ v) in
     (w .whole, ap (λ (j : Judged). j .count) e ∙ w .count ∙ omega arith, subst (λ (x : State). Run cfg (stepsIn t) x) (sym (ap (λ (j : Judged). j .state) e)) (w .taken))
+
+-- ---- refused
+
+-- what stops a refused one, by its verdict
+stopped-by : (cfg : Config) (t : List ℕ) (a : ℕ) → configSound cfg ≡ true → refuses (judgeOf cfg (startOf cfg) t a .verdict) ≡ true
+    → Stops cfg t (judgeOf cfg (startOf cfg) t a .count) (judgeOf cfg (startOf cfg) t a .state) (placeIn (judgeOf cfg (startOf cfg) t a .verdict)) (refusalIn (judgeOf cfg (startOf cfg) t a .verdict))
+stopped-by cfg t a h g = subst Stopped (sym e) (moved (f .stops))
+  where
+    Stopped : Judged → Type 0
+    Stopped x = Stops cfg t (x .count) (x .state) (placeIn (x .verdict)) (refusalIn (x .verdict))
+
+    e : judgeOf cfg (startOf cfg) t a ≡ judgeFrom (stepOf cfg) a t 0 (startOf cfg)
+    e = from-start cfg t a h
+
+    j : Judged
+    j = judgeFrom (stepOf cfg) a t 0 (startOf cfg)
+
+    f : StopsFrom cfg t 0 j
+    f = stopped-at cfg a t 0 (startOf cfg) (sym (ap (λ (x : Judged). refuses (x .verdict)) e) ∙ g)
+
+    moved : Stops cfg t (f .steps) (j .state) (f .place) (refusalIn (j .verdict)) → Stopped j
+    moved z =
+        let n : f .steps ≡ j .count = omega (arith, f .count) in
+        let p : f .place ≡ placeIn (j .verdict) = omega (arith, f .at) in
+        subst (λ (m : ℕ). Stops cfg t m (j .state) (placeIn (j .verdict)) (refusalIn (j .verdict))) n (subst (λ (q : ℕ). Stops cfg t (f .steps) (j .state) q (refusalIn (j .verdict))) p z)
+
+pub refused-is-stopped : RefusedIsStopped
+refused-is-stopped cfg t a h g = stopped-by cfg t a h (go (judgeOf cfg (startOf cfg) t a .verdict) g)
+  where
+    go : (v : Verdict) → 0 < refusalIn v → refuses v ≡ true
+    go Accepted q = absurd (omega (arith, q))
+    go (Refused p k) q = refl
+    go Unfinished q = absurd (omega (arith, q))
+
+refused-told : (v : Verdict) (m p k : ℕ) → verdictLine v m ≡ RefusedLine p k → (placeIn v ≡ p) × (refusalIn v ≡ k) × (refuses v ≡ true)
+refused-told Accepted m p k h = absurd (let z : _≡_ {A = ℕ} 0 1 = cc in omega arith)
+refused-told (Refused q n) m p k h = (cc, cc, refl)
+refused-told Unfinished m p k h = absurd (let z : _≡_ {A = ℕ} 0 1 = cc in omega arith)
+
+pub refused-is-run : RefusedIsRun
+refused-is-run c t p k h =
+    let r = read-line c t (RefusedLine p k) (λ e. let z : _≡_ {A = ℕ} 0 1 = cc in omega arith) (λ q m e. let z : _≡_ {A = ℕ} 0 1 = cc in omega arith) h in
+    let cfg = r .config in
+    let j = judgeOf cfg (startOf cfg) t allowed in
+    let v = refused-told (j .verdict) (j .count) p k (r .line) in
+    let s = stopped-by cfg t allowed (r .sound) (v .2) in
+    (cfg, r .read, r .sound, j .count, j .state, counted-is-run cfg t allowed (r .sound), subst (λ (q : ℕ). Stops cfg t (j .count) (j .state) q k) (v .0) (subst (λ (m : ℕ). Stops cfg t (j .count) (j .state) (placeIn (j .verdict)) m) (v .1) s))

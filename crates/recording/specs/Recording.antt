@@ -22,6 +22,12 @@ refusalIn (IsStep s n) = 0
 refusalIn End = 0
 refusalIn (Refused r p) = r
 
+-- how many places behind its field a refusal stands: 1 for bytes behind the end ("Judging")
+abbrev pub pastIn : Field → ℕ
+pastIn (IsStep s n) = 0
+pastIn End = 0
+pastIn (Refused r p) = p
+
 -- a step's two values are good ("The files", last sentence)
 unfoldable pub valuesGood : Step → Bool
 valuesGood s = both (isGood (s .argument)) (isGood (s .claim))
