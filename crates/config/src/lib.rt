@@ -40,7 +40,7 @@ impl RunnableConfs {
     }
 
     // One more, at the first unused place; nothing changes where there is none.
-    pub fn with(self, x: RunnableConf) -> RunnableConfs
+    pub fn add(self, x: RunnableConf) -> RunnableConfs
         ensures { λ r. ⌜ r ≡ addRunnableConf self x ⌝ }
     {
         let n = self.n;
@@ -101,7 +101,7 @@ impl VariableConfs {
     }
 
     // One more, at the first unused place; nothing changes where there is none.
-    pub fn with(self, x: VariableConf) -> VariableConfs
+    pub fn add(self, x: VariableConf) -> VariableConfs
         ensures { λ r. ⌜ r ≡ addVariableConf self x ⌝ }
     {
         let n = self.n;
@@ -158,7 +158,7 @@ impl AreaConfs {
     }
 
     // One more, at the first unused place; nothing changes where there is none.
-    pub fn with(self, x: AreaConf) -> AreaConfs
+    pub fn add(self, x: AreaConf) -> AreaConfs
         ensures { λ r. ⌜ r ≡ addAreaConf self x ⌝ }
     {
         let n = self.n;
@@ -212,7 +212,7 @@ impl RequiredConfs {
     }
 
     // One more, at the first unused place; nothing changes where there is none.
-    pub fn with(self, x: RequiredConf) -> RequiredConfs
+    pub fn add(self, x: RequiredConf) -> RequiredConfs
         ensures { λ r. ⌜ r ≡ addRequiredConf self x ⌝ }
     {
         let n = self.n;
@@ -269,7 +269,7 @@ impl ProvidedConfs {
     }
 
     // One more, at the first unused place; nothing changes where there is none.
-    pub fn with(self, x: ProvidedConf) -> ProvidedConfs
+    pub fn add(self, x: ProvidedConf) -> ProvidedConfs
         ensures { λ r. ⌜ r ≡ addProvidedConf self x ⌝ }
     {
         let n = self.n;
@@ -326,7 +326,7 @@ impl Links {
     }
 
     // One more, at the first unused place; nothing changes where there is none.
-    pub fn with(self, x: Link) -> Links
+    pub fn add(self, x: Link) -> Links
         ensures { λ r. ⌜ r ≡ addLink self x ⌝ }
     {
         let n = self.n;
@@ -385,7 +385,7 @@ impl OperationConfs {
     }
 
     // One more, at the first unused place; nothing changes where there is none.
-    pub fn with(self, x: OperationConf) -> OperationConfs
+    pub fn add(self, x: OperationConf) -> OperationConfs
         ensures { λ r. ⌜ r ≡ addOperationConf self x ⌝ }
     {
         let n = self.n;
@@ -444,7 +444,7 @@ impl TimerConfs {
     }
 
     // One more, at the first unused place; nothing changes where there is none.
-    pub fn with(self, x: TimerConf) -> TimerConfs
+    pub fn add(self, x: TimerConf) -> TimerConfs
         ensures { λ r. ⌜ r ≡ addTimerConf self x ⌝ }
     {
         let n = self.n;
@@ -501,7 +501,7 @@ impl DataEvents {
     }
 
     // One more, at the first unused place; nothing changes where there is none.
-    pub fn with(self, x: DataEvent) -> DataEvents
+    pub fn add(self, x: DataEvent) -> DataEvents
         ensures { λ r. ⌜ r ≡ addDataEvent self x ⌝ }
     {
         let n = self.n;
@@ -558,7 +558,7 @@ impl ReturnEvents {
     }
 
     // One more, at the first unused place; nothing changes where there is none.
-    pub fn with(self, x: ReturnEvent) -> ReturnEvents
+    pub fn add(self, x: ReturnEvent) -> ReturnEvents
         ensures { λ r. ⌜ r ≡ addReturnEvent self x ⌝ }
     {
         let n = self.n;

@@ -354,7 +354,7 @@ fn place_runnable(cfg: Config, e: Entry) -> Config
     ensures { λ r. ⌜ r ≡ withRunnableConfs cfg (addRunnableConf (cfg .runnables) (runnablePart e)) ⌝ }
 {
     let t = cfg.runnables;
-    let grown = t.with(runnable_part(e));
+    let grown = t.add(runnable_part(e));
     let mut next = cfg;
     next.runnables = grown;
     next
@@ -364,7 +364,7 @@ fn place_variable(cfg: Config, e: Entry) -> Config
     ensures { λ r. ⌜ r ≡ withVariableConfs cfg (addVariableConf (cfg .variables) (variablePart e)) ⌝ }
 {
     let t = cfg.variables;
-    let grown = t.with(variable_part(e));
+    let grown = t.add(variable_part(e));
     let mut next = cfg;
     next.variables = grown;
     next
@@ -374,7 +374,7 @@ fn place_area(cfg: Config, e: Entry) -> Config
     ensures { λ r. ⌜ r ≡ withAreaConfs cfg (addAreaConf (cfg .areas) (areaPart e)) ⌝ }
 {
     let t = cfg.areas;
-    let grown = t.with(area_part(e));
+    let grown = t.add(area_part(e));
     let mut next = cfg;
     next.areas = grown;
     next
@@ -384,7 +384,7 @@ fn place_required(cfg: Config, e: Entry) -> Config
     ensures { λ r. ⌜ r ≡ withRequiredConfs cfg (addRequiredConf (cfg .required) (requiredPart e)) ⌝ }
 {
     let t = cfg.required;
-    let grown = t.with(required_part(e));
+    let grown = t.add(required_part(e));
     let mut next = cfg;
     next.required = grown;
     next
@@ -394,7 +394,7 @@ fn place_provided(cfg: Config, e: Entry) -> Config
     ensures { λ r. ⌜ r ≡ withProvidedConfs cfg (addProvidedConf (cfg .provided) (providedPart e)) ⌝ }
 {
     let t = cfg.provided;
-    let grown = t.with(provided_part(e));
+    let grown = t.add(provided_part(e));
     let mut next = cfg;
     next.provided = grown;
     next
@@ -404,7 +404,7 @@ fn place_link(cfg: Config, e: Entry) -> Config
     ensures { λ r. ⌜ r ≡ withLinks cfg (addLink (cfg .links) (linkPart e)) ⌝ }
 {
     let t = cfg.links;
-    let grown = t.with(link_part(e));
+    let grown = t.add(link_part(e));
     let mut next = cfg;
     next.links = grown;
     next
@@ -414,7 +414,7 @@ fn place_operation(cfg: Config, e: Entry) -> Config
     ensures { λ r. ⌜ r ≡ withOperationConfs cfg (addOperationConf (cfg .operations) (operationPart e)) ⌝ }
 {
     let t = cfg.operations;
-    let grown = t.with(operation_part(e));
+    let grown = t.add(operation_part(e));
     let mut next = cfg;
     next.operations = grown;
     next
@@ -424,7 +424,7 @@ fn place_timer(cfg: Config, e: Entry) -> Config
     ensures { λ r. ⌜ r ≡ withTimerConfs cfg (addTimerConf (cfg .timers) (timerPart e)) ⌝ }
 {
     let t = cfg.timers;
-    let grown = t.with(timer_part(e));
+    let grown = t.add(timer_part(e));
     let mut next = cfg;
     next.timers = grown;
     next
@@ -434,7 +434,7 @@ fn place_data_event(cfg: Config, e: Entry) -> Config
     ensures { λ r. ⌜ r ≡ withDataEvents cfg (addDataEvent (cfg .devents) (dataEventPart e)) ⌝ }
 {
     let t = cfg.devents;
-    let grown = t.with(data_event_part(e));
+    let grown = t.add(data_event_part(e));
     let mut next = cfg;
     next.devents = grown;
     next
@@ -444,7 +444,7 @@ fn place_return_event(cfg: Config, e: Entry) -> Config
     ensures { λ r. ⌜ r ≡ withReturnEvents cfg (addReturnEvent (cfg .revents) (returnEventPart e)) ⌝ }
 {
     let t = cfg.revents;
-    let grown = t.with(return_event_part(e));
+    let grown = t.add(return_event_part(e));
     let mut next = cfg;
     next.revents = grown;
     next

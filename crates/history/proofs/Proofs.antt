@@ -105,11 +105,10 @@ spawn-takes-next cfg before s st c e q b =
     let y : isServer cfg (s .what) ≡ true = lt-ltb 0 _ b in
     let t = tied-at cfg before (m .mid) (m .before) in
     let f = fifo-at cfg before (m .mid) (s .what) y (omega (arith, server-there cfg c (s .what) y, runnables-most cfg c)) (m .before) in
-    let d = deed cfg (m .mid) s (first cfg (m .mid) st s [] (m .after)) in
-    (
+    let d = deed cfg (m .mid) s (first cfg (m .mid) st s [] (m .after)) in (
       omega (arith, serves-one cfg (m .mid) s _ q y d, t .queues .each (s .what) .size, ap length (f .queue), length-drop (allSpawns (s .what) before) (allQueued cfg (s .what) 0 before)),
       ap (λ (h : History). takenBy h (s .claim .number)) (history-one cfg before s)
-      ∙ took-oldest cfg (m .mid) s _ (historyOf cfg before) q y d t
-      ∙ ap (λ l. getD l 0 noRequest) (f .queue)
-      ∙ getD-drop (allSpawns (s .what) before) (allQueued cfg (s .what) 0 before) 0 noRequest ∙ ap (λ k. getD (allQueued cfg (s .what) 0 before) k noRequest) (add-zero _),
+          ∙ took-oldest cfg (m .mid) s _ (historyOf cfg before) q y d t
+          ∙ ap (λ l. getD l 0 noRequest) (f .queue)
+          ∙ getD-drop (allSpawns (s .what) before) (allQueued cfg (s .what) 0 before) 0 noRequest ∙ ap (λ k. getD (allQueued cfg (s .what) 0 before) k noRequest) (add-zero _),
     )

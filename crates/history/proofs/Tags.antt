@@ -106,8 +106,8 @@ unfolding runnableIn withRunnable
 runnable-both P rs ws r y w b c p h = set-both (λ j. P) (rs .at) ws r y noRunnable w [] b c p (λ j n. h j)
 
 module _ (os : Operations) (latest : List ℕ) (rs : Runnables) (ws : List (List Request)) (r : ℕ) (y : Runnable) (h : Queues os latest rs ws) (b : r < length (rs .at)) (b16 : r < 16) where
-  abbrev follows : Runnable → List Request → Type 0
-  follows x w = Beside (Tag os latest) noClient noRequest (x .requests .queued) (x .requests .at) w
+  abbrev Follows : Runnable → List Request → Type 0
+  Follows x w = Beside (Tag os latest) noClient noRequest (x .requests .queued) (x .requests .at) w
 
   pub queues-push : (c : Client) (q : Request) → runnableIn rs r .requests .queued < 16 → length (runnableIn rs r .requests .at) ≡ 16
       → y .requests ≡ pushRequest (runnableIn rs r .requests) c → Tag os latest c q
@@ -115,7 +115,7 @@ module _ (os : Operations) (latest : List ℕ) (rs : Runnables) (ws : List (List
   unfolding pushRequest
   queues-push c q n l e t = record {
     size = length-set ws r (getD ws r [] ++ (q ∷ [])) ∙ h .size;
-    each = runnable-both follows rs ws r y (getD ws r [] ++ (q ∷ [])) b (omega (arith, h .size))
+    each = runnable-both Follows rs ws r y (getD ws r [] ++ (q ∷ [])) b (omega (arith, h .size))
         (rw (e, up) (beside-push (Tag os latest) noClient noRequest _ _ (getD ws r []) c q (omega (arith, n, l)) t (h .each r)))
         (h .each);
   }
@@ -128,7 +128,7 @@ module _ (os : Operations) (latest : List ℕ) (rs : Runnables) (ws : List (List
   unfolding restRequests
   queues-pop l n e = record {
     size = length-set ws r (drop 1 (getD ws r [])) ∙ h .size;
-    each = runnable-both follows rs ws r y (drop 1 (getD ws r [])) b (omega (arith, h .size))
+    each = runnable-both Follows rs ws r y (drop 1 (getD ws r [])) b (omega (arith, h .size))
         (rw e (beside-pop (Tag os latest) noClient noRequest _ _ (getD ws r []) (omega (arith, n, l)) (h .each r)))
         (h .each);
   }

@@ -81,7 +81,7 @@ abbrev pub TimeoutAtZero : Type 0
 TimeoutAtZero =
     (cfg : Config) (before after : List Step) (s : Step) (st : State) → configSound cfg ≡ true → Run cfg (before ++ (s ∷ after)) st → s .code ≡ 16
     → (m : State) × Run cfg before m × (operationIn (m .operations) (s .what) .calling ≡ true) × (operationIn (m .operations) (s .what) .count ≡ 0)
-        × Started before (latestOn (historyOf cfg before) (s .what)) (s .what) × (endsOf (latestOn (historyOf cfg before) (s .what)) (historyOf cfg before .endings) ≡ 0)
+    × Started before (latestOn (historyOf cfg before) (s .what)) (s .what) × (endsOf (latestOn (historyOf cfg before) (s .what)) (historyOf cfg before .endings) ≡ 0)
 
 -- a result answers a Number only if the latest call ended on that operation was ended by an instance spawned for it that handed back that number, and that call ends only this once in the whole recording: before any timeout of it ("How tight the contracts are", demand 3)
 abbrev pub NumberIsFinal : Type 0
@@ -128,4 +128,4 @@ abbrev pub SpawnTakesNext : Type 0
 SpawnTakesNext =
     (cfg : Config) (before : List Step) (s : Step) (st : State) → configSound cfg ≡ true → Run cfg (before ++ (s ∷ [])) st → s .code ≡ 15 → 0 < runnableConfIn (cfg .runnables) (s .what) .capacity
     → (allSpawns (s .what) before < length (allQueued cfg (s .what) 0 before))
-        × (takenBy (historyOf cfg (before ++ (s ∷ []))) (s .claim .number) ≡ getD (allQueued cfg (s .what) 0 before) (allSpawns (s .what) before) noRequest)
+    × (takenBy (historyOf cfg (before ++ (s ∷ []))) (s .claim .number) ≡ getD (allQueued cfg (s .what) 0 before) (allSpawns (s .what) before) noRequest)

@@ -33,7 +33,7 @@ use Rattle.keep.proofs.Slots.{enter-keeps-slots, exit-keeps-slots, call
 use Rattle.keep.proofs.Counts.{enter-keeps-counts, exit-keeps-counts, feed-keeps-counts, call-keeps-counts, collect-keeps-counts, late-keeps-counts, answer-keeps-counts, end-keeps-counts, spawn-keeps-counts, timeout-keeps-counts, tick-keeps-counts, wait-keeps-counts}
 use Rattle.keep.proofs.Areas.{enter-keeps-areas, exit-keeps-areas, call-keeps-areas, collect-keeps-areas, hand-back-keeps-areas, end-keeps-areas, spawn-keeps-areas}
 use Rattle.keep.proofs.Clients.{enter-keeps-clients, exit-keeps-clients, feed-keeps-clients, call-keeps-clients, collect-keeps-clients, late-keeps-clients, answer-keeps-clients, timeout-keeps-clients, end-keeps-clients, spawn-keeps-clients, tick-keeps-clients, wait-keeps-clients}
-use Rattle.keep.proofs.Says.{Acting, readsVariable, writesVariable, enters, exits, reads, writes, asks, invalidates, receives, sends, calls, collects, handsBack, ends, Scheduling, spawns, timesOut, ticks, waits, acting, scheduling, Let, LetRun, let-told, run-told, says-write-variable, says-enter, says-exit, says-read, says-write, says-invalidate, says-receive, says-send, says-call, says-collect, says-hand-back, says-end, says-spawn, says-timeout, says-tick, says-wait}
+use Rattle.keep.proofs.Says.{Acting, readsVariable, writesVariable, enters, exits, reads, writes, updates, invalidates, receives, sends, calls, results, handsBack, ends, Scheduling, spawns, timesOut, ticks, waits, acting, scheduling, Let, LetRun, let-told, run-told, says-write-variable, says-enter, says-exit, says-read, says-write, says-invalidate, says-receive, says-send, says-call, says-collect, says-hand-back, says-end, says-spawn, says-timeout, says-tick, says-wait}
 
 -- ---- the state after each step that is taken
 
@@ -110,7 +110,7 @@ module _ (cfg : Config) (st : State) (s : Sound cfg st) where
   act-keeps code exits i k v z = pick-has Keeps (onTop (slotIn (st .slots) i) k) _ _ (λ e. exit-keeps i k (says-exit cfg st i k v z e)) (λ e. s)
   act-keeps code reads i k v z = read-keeps i k (says-read cfg st i k v z)
   act-keeps code writes i k v z = feed-keeps i k v (says-write cfg st i k v z)
-  act-keeps code asks i k v z = s
+  act-keeps code updates i k v z = s
   act-keeps code invalidates i k v z = invalidate-keeps i k (says-invalidate cfg st i k v z)
   act-keeps code receives i k v z = pick-has Keeps (eqb (elementIn (st .elements) k .queue .queued) 0) _ _ (λ e. s) (λ e. receive-keeps i k (says-receive cfg st i k v z e))
   act-keeps code sends i k v z = feed-keeps i k v (says-send cfg st i k v z)
@@ -119,7 +119,7 @@ module _ (cfg : Config) (st : State) (s : Sound cfg st) where
       (λ a. pick-has Keeps (eqb (operationIn (st .operations) k .number) 65535) _ _ (λ e. s)
       (λ b. pick-has Keeps (requestsFull cfg (st .runnables) (operationConfIn (cfg .operations) k .server)) _ _ (λ e. s)
       (λ c. call-keeps i k v (says-call cfg st i k v z a b c))))
-  act-keeps code collects i k v z =
+  act-keeps code results i k v z =
       pick-has Keeps (operationConfIn (cfg .operations) k .asynchronous) _ _
       (λ a. pick-has Keeps (operationIn (st .operations) k .calling) _ _ (λ e. s) (λ e. s))
       (λ a. pick-has Keeps (operationIn (st .operations) k .calling) _ _ (λ e. s) (λ e. collect-keeps i k (says-collect cfg st i k v z a e)))

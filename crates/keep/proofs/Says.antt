@@ -31,12 +31,12 @@ pub data Acting : ℕ → Type 0 where
   exits : Acting 4
   reads : Acting 5
   writes : Acting 6
-  asks : Acting 7
+  updates : Acting 7
   invalidates : Acting 8
   receives : Acting 9
   sends : Acting 10
   calls : Acting 11
-  collects : Acting 12
+  results : Acting 12
   handsBack : Acting 13
   ends : Acting 14
 
@@ -55,12 +55,12 @@ acting (suc (suc (suc zero))) l m = enters
 acting (suc (suc (suc (suc zero)))) l m = exits
 acting (suc (suc (suc (suc (suc zero))))) l m = reads
 acting (suc (suc (suc (suc (suc (suc zero)))))) l m = writes
-acting (suc (suc (suc (suc (suc (suc (suc zero))))))) l m = asks
+acting (suc (suc (suc (suc (suc (suc (suc zero))))))) l m = updates
 acting (suc (suc (suc (suc (suc (suc (suc (suc zero)))))))) l m = invalidates
 acting (suc (suc (suc (suc (suc (suc (suc (suc (suc zero))))))))) l m = receives
 acting (suc (suc (suc (suc (suc (suc (suc (suc (suc (suc zero)))))))))) l m = sends
 acting (suc (suc (suc (suc (suc (suc (suc (suc (suc (suc (suc zero))))))))))) l m = calls
-acting (suc (suc (suc (suc (suc (suc (suc (suc (suc (suc (suc (suc zero)))))))))))) l m = collects
+acting (suc (suc (suc (suc (suc (suc (suc (suc (suc (suc (suc (suc zero)))))))))))) l m = results
 acting (suc (suc (suc (suc (suc (suc (suc (suc (suc (suc (suc (suc (suc zero))))))))))))) l m = handsBack
 acting (suc (suc (suc (suc (suc (suc (suc (suc (suc (suc (suc (suc (suc (suc zero)))))))))))))) l m = ends
 acting (suc (suc (suc (suc (suc (suc (suc (suc (suc (suc (suc (suc (suc (suc (suc n))))))))))))))) l m = absurd (omega arith)

@@ -137,19 +137,19 @@ module _ (cfg : Config) where
       go (NoField k p) e rest = none-counted t n st (Refused (n + 1 + p) k) _ (stopped (stepOf cfg) t n st (suc a) e)
 
   -- an accepted text is a whole recording, and all its steps are counted
-  pub record Whole-counted (t : List ℕ) (n : ℕ) (st : State) (j : Judged) : Type 0 where
+  pub record WholeCounted (t : List ℕ) (n : ℕ) (st : State) (j : Judged) : Type 0 where
     pub whole : isSound t ≡ true
     pub count : j .count ≡ n + length (stepsIn t)
     pub taken : AllAccepted cfg st (stepsIn t) (j .state)
 
-  end-whole : (t : List ℕ) (n : ℕ) (st : State) (j : Judged) → fieldOf t ≡ End → j ≡ judged Accepted n st → Whole-counted t n st j
+  end-whole : (t : List ℕ) (n : ℕ) (st : State) (j : Judged) → fieldOf t ≡ End → j ≡ judged Accepted n st → WholeCounted t n st j
   end-whole t n st j e w = record {
     whole = sound-end t e;
     count = omega (arith, ap (λ (j : Judged). j .count) w, ap length (steps-end t e));
     taken = none-accepted cfg st (stepsIn t) (j .state) (steps-end t e) (ap (λ (j : Judged). j .state) w);
   }
 
-  step-whole : (t : List ℕ) (n : ℕ) (st : State) (s : Step) (z : ℕ) (v : Value) (j j′ : Judged) → fieldOf t ≡ IsStep s z → stepOf cfg st s .answer ≡ Taken v → Whole-counted (drop z t) (n + 1) (stepOf cfg st s .state) j′ → j ≡ j′ → Whole-counted t n st j
+  step-whole : (t : List ℕ) (n : ℕ) (st : State) (s : Step) (z : ℕ) (v : Value) (j j′ : Judged) → fieldOf t ≡ IsStep s z → stepOf cfg st s .answer ≡ Taken v → WholeCounted (drop z t) (n + 1) (stepOf cfg st s .state) j′ → j ≡ j′ → WholeCounted t n st j
   step-whole t n st s z v j j′ e q c w = record {
     whole = sound-step t s z e ∙ c .whole;
     count = omega (arith, ap (λ (j : Judged). j .count) w, c .count, ap length (steps-step t s z e));
@@ -165,10 +165,10 @@ module _ (cfg : Config) where
   left-over : (v : Verdict) → v ≡ Accepted → v ≡ Unfinished → ⊥
   left-over v e q = let z : _≡_ {A = ℕ} 0 1 = cc in omega arith
 
-  pub accepted-whole : (a : ℕ) (t : List ℕ) (n : ℕ) (st : State) → judgeFrom (stepOf cfg) a t n st .verdict ≡ Accepted → Whole-counted t n st (judgeFrom (stepOf cfg) a t n st)
+  pub accepted-whole : (a : ℕ) (t : List ℕ) (n : ℕ) (st : State) → judgeFrom (stepOf cfg) a t n st .verdict ≡ Accepted → WholeCounted t n st (judgeFrom (stepOf cfg) a t n st)
   accepted-whole zero t n st h = go (fieldOf t) refl
     where
-      go : (x : Field) → fieldOf t ≡ x → Whole-counted t n st (judgeFrom (stepOf cfg) 0 t n st)
+      go : (x : Field) → fieldOf t ≡ x → WholeCounted t n st (judgeFrom (stepOf cfg) 0 t n st)
       go (IsStep s z) e = absurd (left-over _ h (ap (λ (j : Judged). j .verdict) (starved (stepOf cfg) t n st e)))
       go End e = end-whole t n st _ e (ended (stepOf cfg) t n st 0 e)
       go (NoField k p) e = absurd (other _ h (ap (λ (j : Judged). j .verdict) (stopped (stepOf cfg) t n st 0 e)))
@@ -176,18 +176,18 @@ module _ (cfg : Config) where
     where
       Rest : Type 0
       Rest = (z : ℕ) (s : Step) → judgeFrom (stepOf cfg) a (drop z t) (n + 1) (stepOf cfg st s .state) .verdict ≡ Accepted
-          → Whole-counted (drop z t) (n + 1) (stepOf cfg st s .state) (judgeFrom (stepOf cfg) a (drop z t) (n + 1) (stepOf cfg st s .state))
+          → WholeCounted (drop z t) (n + 1) (stepOf cfg st s .state) (judgeFrom (stepOf cfg) a (drop z t) (n + 1) (stepOf cfg st s .state))
 
       one : suc a - 1 ≡ a
       one = omega arith
 
-      by : (s : Step) (z : ℕ) (x : Answer) → fieldOf t ≡ IsStep s z → stepOf cfg st s .answer ≡ x → Rest → Whole-counted t n st (judgeFrom (stepOf cfg) (suc a) t n st)
+      by : (s : Step) (z : ℕ) (x : Answer) → fieldOf t ≡ IsStep s z → stepOf cfg st s .answer ≡ x → Rest → WholeCounted t n st (judgeFrom (stepOf cfg) (suc a) t n st)
       by s z (Taken v) e q rest =
           let w : judgeFrom (stepOf cfg) (suc a) t n st ≡ judgeFrom (stepOf cfg) a (drop z t) (n + 1) (stepOf cfg st s .state) = went (stepOf cfg) t n st (suc a) (λ c. omega (arith, c)) e refl q ∙ rw one in
           step-whole t n st s z v _ _ e q (rest z s (sym (ap (λ (j : Judged). j .verdict) w) ∙ h)) w
       by s z (Barred k) e q rest = absurd (other _ h (ap (λ (j : Judged). j .verdict) (barred (stepOf cfg) t n st (suc a) (λ c. omega (arith, c)) e refl q)))
 
-      go : (x : Field) → fieldOf t ≡ x → Rest → Whole-counted t n st (judgeFrom (stepOf cfg) (suc a) t n st)
+      go : (x : Field) → fieldOf t ≡ x → Rest → WholeCounted t n st (judgeFrom (stepOf cfg) (suc a) t n st)
       go (IsStep s z) e rest = by s z (stepOf cfg st s .answer) e refl rest
       go End e rest = end-whole t n st _ e (ended (stepOf cfg) t n st (suc a) e)
       go (NoField k p) e rest = absurd (other _ h (ap (λ (j : Judged). j .verdict) (stopped (stepOf cfg) t n st (suc a) e)))

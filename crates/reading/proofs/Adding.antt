@@ -163,9 +163,9 @@ module _ (cfg : Config) (e : Entry) where
         others = λ k i n. rw (ne-eqb k 0x17 n);
       })
 
-  dataEvent-adds : cfg .devents .n < 32 → length (cfg .devents .at) ≡ 32 → Adds cfg (placed cfg 0x18 e) 0x18 (backOf 0x18 e)
+  data-event-adds : cfg .devents .n < 32 → length (cfg .devents .at) ≡ 32 → Adds cfg (placed cfg 0x18 e) 0x18 (backOf 0x18 e)
   unfolding placed countOf placesOf entryOf backOf dataEventIn addDataEvent
-  dataEvent-adds h l =
+  data-event-adds h l =
       rw (lt-ltb (cfg .devents .n) 32 h)
       (record {
         own = refl;
@@ -176,9 +176,9 @@ module _ (cfg : Config) (e : Entry) where
         others = λ k i n. rw (ne-eqb k 0x18 n);
       })
 
-  returnEvent-adds : cfg .revents .n < 16 → length (cfg .revents .at) ≡ 16 → Adds cfg (placed cfg 0x19 e) 0x19 (backOf 0x19 e)
+  return-event-adds : cfg .revents .n < 16 → length (cfg .revents .at) ≡ 16 → Adds cfg (placed cfg 0x19 e) 0x19 (backOf 0x19 e)
   unfolding placed countOf placesOf entryOf backOf returnEventIn addReturnEvent
-  returnEvent-adds h l =
+  return-event-adds h l =
       rw (lt-ltb (cfg .revents .n) 16 h)
       (record {
         own = refl;
@@ -194,7 +194,7 @@ module _ (cfg : Config) (e : Entry) where
   unfolding countOf maxOf placesOf
   adds =
       each-kind (λ tag. countOf cfg tag < maxOf tag → placesOf cfg tag ≡ maxOf tag → Adds cfg (placed cfg tag e) tag (backOf tag e))
-      runnable-adds variable-adds area-adds required-adds provided-adds link-adds operation-adds timer-adds dataEvent-adds returnEvent-adds
+      runnable-adds variable-adds area-adds required-adds provided-adds link-adds operation-adds timer-adds data-event-adds return-event-adds
 
 -- ---- the entry of a part that was read is the entry that the bytes say
 

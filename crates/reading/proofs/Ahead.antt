@@ -13,7 +13,7 @@ use Rattle.laws.proofs.Choosing.{pick-on, pick-off}
 use Rattle.config.specs.declared.Config.{Config}
 use Rattle.config.specs.Tables.{noConfig}
 use Rattle.entries.specs.Entries.{placed}
-use Rattle.wire.specs.Bytes.{be16}
+use Rattle.wire.specs.Bytes.{lengthOf}
 use Rattle.reading.specs.Reading.{sizeOf, inOrder, headOf, entryIn, bodyFault, wholeOf, refusedAt, onHead, readFrom, configOf}
 use Rattle.reading.specs.declared.Reading.{Reading}
 use Rattle.reading.specs.declared.Head.{Head}
@@ -32,7 +32,7 @@ module _ (tag size : ℕ) where
 pub record Framed (t : List ℕ) (last tag size : ℕ) : Type 0 where
   pub room : 3 + size ≤ length t
   pub first : getD t 0 0 ≡ tag
-  pub said : be16 (getD t 1 0) (getD t 2 0) ≡ size
+  pub said : lengthOf (getD t 1 0) (getD t 2 0) ≡ size
   pub kind : sizeOf tag ≡ size
   pub order : inOrder last tag ≡ true
   pub more : eqb tag 0x7f ≡ false
@@ -41,7 +41,7 @@ pub field-frame : (t : List ℕ) (last : ℕ) {tag size : ℕ} → headOf t last
 unfolding headOf
 field-frame t last {tag} {size} e =
     let p₀ = pick-off (ltb (length t) 3) _ _ _ e (bad-no-field tag size) in
-    let p₁ = pick-on (eqb (be16 (getD t 1 0) (getD t 2 0)) (sizeOf (getD t 0 0))) _ _ _ (p₀ .1) (bad-no-field tag size) in
+    let p₁ = pick-on (eqb (lengthOf (getD t 1 0) (getD t 2 0)) (sizeOf (getD t 0 0))) _ _ _ (p₀ .1) (bad-no-field tag size) in
     let p₂ = pick-on (leb (sizeOf (getD t 0 0)) (length t - 3)) _ _ _ (p₁ .1) (bad-no-field tag size) in
     let p₃ = pick-on (inOrder last (getD t 0 0)) _ _ _ (p₂ .1) (bad-no-field tag size) in
     let p₄ = pick-off (eqb (getD t 0 0) 0x7f) _ _ _ (p₃ .1) (end-no-field tag size) in
@@ -53,7 +53,7 @@ field-frame t last {tag} {size} e =
     record {
       room = omega arith;
       first = a;
-      said = eqb-true (be16 (getD t 1 0) (getD t 2 0)) (sizeOf (getD t 0 0)) (p₁ .0) ∙ b;
+      said = eqb-true (lengthOf (getD t 1 0) (getD t 2 0)) (sizeOf (getD t 0 0)) (p₁ .0) ∙ b;
       kind = ap sizeOf (sym a) ∙ b;
       order = ap (inOrder last) (sym a) ∙ p₃ .0;
       more = ap (λ (k : ℕ). eqb k 0x7f) (sym a) ∙ p₄ .0;

@@ -9,7 +9,7 @@ use lib.ListN.{length, getD, drop}
 use Rattle.laws.specs.Choice.{pick, both}
 use Rattle.config.specs.declared.Config.{Config}
 use Rattle.config.specs.Tables.{noConfig}
-use Rattle.wire.specs.Bytes.{be16, be32}
+use Rattle.wire.specs.Bytes.{lengthOf, numberOf}
 use Rattle.entries.specs.declared.Entry.{Entry}
 use Rattle.entries.specs.Entries.{countOf, placed}
 use Rattle.entries.specs.Faults.{entryFault}
@@ -48,7 +48,7 @@ sizeOf tag =
 
 -- the number of the four bytes from place i on ("The files")
 abbrev pub numberAt : List ℕ → ℕ → ℕ
-numberAt t i = be32 (getD t i 0) (getD t (i + 1) 0) (getD t (i + 2) 0) (getD t (i + 3) 0)
+numberAt t i = numberOf (getD t i 0) (getD t (i + 1) 0) (getD t (i + 2) 0) (getD t (i + 3) 0)
 
 -- component, flags, start interval, request capacity ("The files", tag 10)
 abbrev pub runnableIn : List ℕ → Entry
@@ -103,7 +103,7 @@ headWith tag said size left ordered =
 unfoldable pub headOf : List ℕ → ℕ → Head
 headOf t last =
     pick (ltb (length t) 3) (Bad 21)
-    (headWith (getD t 0 0) (be16 (getD t 1 0) (getD t 2 0)) (sizeOf (getD t 0 0)) (length t - 3) (inOrder last (getD t 0 0)))
+    (headWith (getD t 0 0) (lengthOf (getD t 1 0) (getD t 2 0)) (sizeOf (getD t 0 0)) (length t - 3) (inOrder last (getD t 0 0)))
 
 -- the first fault of a field's body: an edition other than 1, or a fault of the part's entry; 0 for none ("Numbers of refusal", 23 to 26)
 unfoldable pub bodyFault : Config → ℕ → List ℕ → ℕ

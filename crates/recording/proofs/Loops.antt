@@ -16,8 +16,8 @@ use Rattle.wire.specs.Bytes.{putAt, wroteBytes, Written}
 use Rattle.wire.specs.declared.Wrote.{Wrote}
 use Rattle.wire.specs.declared.Wrote.the-variants.{To, Refused as NotWritten}
 use Rattle.wire.proofs.Laws.{grown, drop-put}
-use Rattle.recording.specs.Recording.{valuesGood, fieldOf, bytesOf, endBytes, stepTo, stepWritten, stepBack}
-use Rattle.recording.specs.Whole.{Whole, isEnd, isSound, againTo, againWritten}
+use Rattle.recording.specs.Recording.{valuesGood, fieldOf, bytesOf, endBytes, stepTo, stepWritten, writeAndReadOf}
+use Rattle.recording.specs.Whole.{Whole, isEnd, isSound, rewriteTo, rewriteWritten}
 use Rattle.recording.specs.declared.Field.the-variants.{Step as IsStep, End, Refused}
 use Rattle.recording.proofs.OneField.{step-told, step-reads, step-bytes, end-bytes, Bytes}
 use Rattle.recording.proofs.Texts.{whole-step, whole-end, whole-refused, bytes-drop}
@@ -110,10 +110,10 @@ module _ (s b₀ b b′ : List ℕ) (at : ℕ) (k : Copying s b₀ b at) (room :
 
 -- ---- a recording written again: too long, and whole
 
-pub again-short : (s b : List ℕ) → isSound s ≡ true → length b < length s → (NotWritten 27 ≡ againTo s b) × (b ≡ againWritten s b)
+pub again-short : (s b : List ℕ) → isSound s ≡ true → length b < length s → (NotWritten 27 ≡ rewriteTo s b) × (b ≡ rewriteWritten s b)
 again-short s b g l = let t = lt-leb (0 + length s) (length b) (omega arith) in (rw (g, t), rw (g, t))
 
-pub again-whole : (s b : List ℕ) → isSound s ≡ true → length s ≤ length b → (To (length s) ≡ againTo s b) × (s ++ drop (length s) b ≡ againWritten s b)
+pub again-whole : (s b : List ℕ) → isSound s ≡ true → length s ≤ length b → (To (length s) ≡ rewriteTo s b) × (s ++ drop (length s) b ≡ rewriteWritten s b)
 again-whole s b g l =
     let t = le-leb (0 + length s) (length b) (omega arith) in
     let z : length s ≡ 0 + length s = omega arith in
@@ -131,7 +131,7 @@ refused-as true false m n s e = let q : n ≡ 27 = cc in ap (λ (k : ℕ). Refus
 refused-as false y m n s e = let q : n ≡ 18 = cc in ap (λ (k : ℕ). Refused k 0) q
 
 module _ (b b′ : List ℕ) (at : ℕ) (s : Step) (r : Wrote) (to : r ≡ stepTo b at s) (bytes : b′ ≡ stepWritten b at s) where
-  pub back-read : (n : ℕ) → s .argument .number < 2 ^ 32 → s .claim .number < 2 ^ 32 → r ≡ To n → fieldOf (drop at b′) ≡ stepBack b at s
+  pub back-read : (n : ℕ) → s .argument .number < 2 ^ 32 → s .claim .number < 2 ^ 32 → r ≡ To n → fieldOf (drop at b′) ≡ writeAndReadOf b at s
   back-read n ha hc e =
       let p = pick-on (valuesGood s) _ _ (To n) (sym to ∙ e) not-to in
       let q = pick-on (leb (at + 16) (length b)) _ _ (To n) (p .1) not-to in
@@ -143,5 +143,5 @@ module _ (b b′ : List ℕ) (at : ℕ) (s : Step) (r : Wrote) (to : r ≡ stepT
       ∙ step-reads s (drop (at + 16) b) (record { good = good; argument = ha; claim = hc })
       ∙ sym (ap₂ (λ (x y : Bool). pick x (pick y (IsStep s 16) (Refused 27 0)) (Refused 18 0)) good room)
 
-  pub back-refused : (n : ℕ) → r ≡ NotWritten n → Refused n 0 ≡ stepBack b at s
+  pub back-refused : (n : ℕ) → r ≡ NotWritten n → Refused n 0 ≡ writeAndReadOf b at s
   back-refused n e = refused-as (valuesGood s) (leb (at + 16) (length b)) (at + 16) n s (sym to ∙ e)

@@ -11,7 +11,7 @@ use borrow.Author.Tests.{eqb-true, ltb-false, le-ltb}
 use Rattle.laws.specs.Choice.{pick}
 use Rattle.laws.proofs.Choosing.{pick-on, pick-off, pick-has}
 use Rattle.values.specs.declared.Step.{Step}
-use Rattle.wire.specs.Bytes.{be16, be32}
+use Rattle.wire.specs.Bytes.{lengthOf, numberOf}
 use Rattle.wire.proofs.Laws.{be32-bytes, bytes32-be, be32-fits, read, drop-read}
 use Rattle.recording.specs.Recording.{valuesGood, tested, stepAt, stepIn, endIn, fieldOf, bytesOf, endBytes, Recorded}
 use Rattle.recording.specs.declared.Field.{Field}
@@ -52,7 +52,7 @@ pub record StepField (t : List ℕ) (s : Step) (n : ℕ) : Type 0 where
   pub step : stepAt t ≡ s
   pub good : valuesGood s ≡ true
   pub tag : getD t 0 0 ≡ 0x40
-  pub body : be16 (getD t 1 0) (getD t 2 0) ≡ 13
+  pub body : lengthOf (getD t 1 0) (getD t 2 0) ≡ 13
 
 no-step : {A : Type 0} {r p n : ℕ} {s : Step} → Refused r p ≡ IsStep s n → A
 no-step e = let z : _≡_ {A = ℕ} 0 1 = cc in absurd (omega arith)
@@ -68,8 +68,8 @@ pub step-told : (t : List ℕ) (s : Step) (n : ℕ) → fieldOf t ≡ IsStep s n
 unfolding fieldOf stepIn endIn tested
 step-told t s n e =
     let p₀ = pick-off (ltb (length t) 3) _ _ (IsStep s n) e no-step in
-    let p₁ = pick-on (eqb (getD t 0 0) 0x40) _ _ (IsStep s n) (p₀ .1) (end-no-step (eqb (getD t 0 0) 0x7f) (eqb (be16 (getD t 1 0) (getD t 2 0)) 0) (eqb (length t) 3)) in
-    let p₂ = pick-on (eqb (be16 (getD t 1 0) (getD t 2 0)) 13) _ _ (IsStep s n) (p₁ .1) no-step in
+    let p₁ = pick-on (eqb (getD t 0 0) 0x40) _ _ (IsStep s n) (p₀ .1) (end-no-step (eqb (getD t 0 0) 0x7f) (eqb (lengthOf (getD t 1 0) (getD t 2 0)) 0) (eqb (length t) 3)) in
+    let p₂ = pick-on (eqb (lengthOf (getD t 1 0) (getD t 2 0)) 13) _ _ (IsStep s n) (p₁ .1) no-step in
     let p₃ = pick-off (ltb (length t) 16) _ _ (IsStep s n) (p₂ .1) no-step in
     let p₄ = pick-on (valuesGood (stepAt t)) _ _ (IsStep s n) (p₃ .1) no-step in
     let same : stepAt t ≡ s = let q = p₄ .1 in cc in
@@ -79,7 +79,7 @@ step-told t s n e =
       step = same;
       good = ap valuesGood (sym same) ∙ p₄ .0;
       tag = eqb-true (getD t 0 0) 0x40 (p₁ .0);
-      body = eqb-true (be16 (getD t 1 0) (getD t 2 0)) 13 (p₂ .0);
+      body = eqb-true (lengthOf (getD t 1 0) (getD t 2 0)) 13 (p₂ .0);
     }
 
 -- every byte of a text is below 256
@@ -90,8 +90,8 @@ Bytes t = (i : ℕ) → getD t i 0 < 256
 pub step-recorded : (t : List ℕ) (s : Step) (n : ℕ) → Bytes t → fieldOf t ≡ IsStep s n → Recorded s
 step-recorded t s n h e =
     let f = step-told t s n e in
-    let a : s .argument .number ≡ be32 (getD t 7 0) (getD t 8 0) (getD t 9 0) (getD t 10 0) = ap (λ (x : Step). x .argument .number) (sym (f .step)) in
-    let c : s .claim .number ≡ be32 (getD t 12 0) (getD t 13 0) (getD t 14 0) (getD t 15 0) = ap (λ (x : Step). x .claim .number) (sym (f .step)) in
+    let a : s .argument .number ≡ numberOf (getD t 7 0) (getD t 8 0) (getD t 9 0) (getD t 10 0) = ap (λ (x : Step). x .argument .number) (sym (f .step)) in
+    let c : s .claim .number ≡ numberOf (getD t 12 0) (getD t 13 0) (getD t 14 0) (getD t 15 0) = ap (λ (x : Step). x .claim .number) (sym (f .step)) in
     record {
       good = f .good;
       argument = rw a (be32-fits _ _ _ _ (h 7) (h 8) (h 9) (h 10));
@@ -131,13 +131,13 @@ pub end-bytes : (t : List ℕ) → fieldOf t ≡ End → t ≡ endBytes
 unfolding fieldOf stepIn endIn tested
 end-bytes t e =
     let p₀ = pick-off (ltb (length t) 3) _ _ End e no-end in
-    let p₁ = pick-off (eqb (getD t 0 0) 0x40) _ _ End (p₀ .1) (step-no-end (eqb (be16 (getD t 1 0) (getD t 2 0)) 13) (ltb (length t) 16) (valuesGood (stepAt t)) (stepAt t)) in
+    let p₁ = pick-off (eqb (getD t 0 0) 0x40) _ _ End (p₀ .1) (step-no-end (eqb (lengthOf (getD t 1 0) (getD t 2 0)) 13) (ltb (length t) 16) (valuesGood (stepAt t)) (stepAt t)) in
     let p₂ = pick-on (eqb (getD t 0 0) 0x7f) _ _ End (p₁ .1) no-end in
-    let p₃ = pick-on (eqb (be16 (getD t 1 0) (getD t 2 0)) 0) _ _ End (p₂ .1) no-end in
+    let p₃ = pick-on (eqb (lengthOf (getD t 1 0) (getD t 2 0)) 0) _ _ End (p₂ .1) no-end in
     let p₄ = pick-on (eqb (length t) 3) _ _ End (p₃ .1) no-end in
     let l : length t ≡ 3 = eqb-true (length t) 3 (p₄ .0) in
     let tag : getD t 0 0 ≡ 0x7f = eqb-true (getD t 0 0) 0x7f (p₂ .0) in
-    let z : be16 (getD t 1 0) (getD t 2 0) ≡ 0 = eqb-true (be16 (getD t 1 0) (getD t 2 0)) 0 (p₃ .0) in
+    let z : lengthOf (getD t 1 0) (getD t 2 0) ≡ 0 = eqb-true (lengthOf (getD t 1 0) (getD t 2 0)) 0 (p₃ .0) in
     let high : getD t 1 0 ≡ 0 = omega arith in
     let low : getD t 2 0 ≡ 0 = omega arith in
     let d : drop 3 t ≡ [] = drop-of-length-le t {i = 3} (omega arith) in
@@ -162,9 +162,9 @@ numbered t =
     let end : Numbered (endIn t) = pick-has Numbered (eqb (length t) 3) End (Refused 18 1) (λ e. tt) (λ e. (refl, omega arith)) in
     pick-has Numbered (ltb (length t) 3) (Refused 18 0) _ (λ e. here)
     (λ e. pick-has Numbered (eqb (getD t 0 0) 0x40) _ _
-    (λ d. pick-has Numbered (eqb (be16 (getD t 1 0) (getD t 2 0)) 13) (stepIn t) (Refused 18 0) (λ q. step) (λ q. here))
+    (λ d. pick-has Numbered (eqb (lengthOf (getD t 1 0) (getD t 2 0)) 13) (stepIn t) (Refused 18 0) (λ q. step) (λ q. here))
     (λ d. pick-has Numbered (eqb (getD t 0 0) 0x7f) _ (Refused 18 0)
-    (λ q. pick-has Numbered (eqb (be16 (getD t 1 0) (getD t 2 0)) 0) (endIn t) (Refused 18 0) (λ z. end) (λ z. here))
+    (λ q. pick-has Numbered (eqb (lengthOf (getD t 1 0) (getD t 2 0)) 0) (endIn t) (Refused 18 0) (λ z. end) (λ z. here))
     (λ q. here)))
 
 pub refused-18 : (t : List ℕ) (r p : ℕ) → fieldOf t ≡ Refused r p → (r ≡ 18) × (p ≤ 1)

@@ -10,7 +10,7 @@ use Rattle.laws.specs.Choice.{pick, both}
 use Rattle.values.specs.declared.Value.{Value}
 use Rattle.values.specs.declared.Step.{Step}
 use Rattle.values.specs.Values.{isGood}
-use Rattle.wire.specs.Bytes.{be16, be32, bytes32, wroteTo, wroteBytes}
+use Rattle.wire.specs.Bytes.{lengthOf, numberOf, bytes32, wroteTo, wroteBytes}
 use Rattle.wire.specs.declared.Wrote.{Wrote}
 use Rattle.wire.specs.declared.Wrote.the-variants.{Refused as NotWritten}
 use Rattle.recording.specs.declared.Field.{Field}
@@ -38,7 +38,7 @@ tested s = pick (valuesGood s) (IsStep s 16) (Refused 18 0)
 
 -- the value whose five bytes stand at a place: its kind, then its number ("The files", last sentence)
 abbrev pub valueAt : List ℕ → ℕ → Value
-valueAt t i = record { kind = getD t i 0; number = be32 (getD t (i + 1) 0) (getD t (i + 2) 0) (getD t (i + 3) 0) (getD t (i + 4) 0) }
+valueAt t i = record { kind = getD t i 0; number = numberOf (getD t (i + 1) 0) (getD t (i + 2) 0) (getD t (i + 3) 0) (getD t (i + 4) 0) }
 
 -- the step whose sixteen bytes stand first: code, who, what, argument, claim ("The files", recording)
 abbrev pub stepAt : List ℕ → Step
@@ -56,8 +56,8 @@ endIn t = pick (eqb (length t) 3) End (Refused 18 1)
 unfoldable pub fieldOf : List ℕ → Field
 fieldOf t =
     pick (ltb (length t) 3) (Refused 18 0)
-    (pick (eqb (getD t 0 0) 0x40) (pick (eqb (be16 (getD t 1 0) (getD t 2 0)) 13) (stepIn t) (Refused 18 0))
-    (pick (eqb (getD t 0 0) 0x7f) (pick (eqb (be16 (getD t 1 0) (getD t 2 0)) 0) (endIn t) (Refused 18 0))
+    (pick (eqb (getD t 0 0) 0x40) (pick (eqb (lengthOf (getD t 1 0) (getD t 2 0)) 13) (stepIn t) (Refused 18 0))
+    (pick (eqb (getD t 0 0) 0x7f) (pick (eqb (lengthOf (getD t 1 0) (getD t 2 0)) 0) (endIn t) (Refused 18 0))
     (Refused 18 0)))
 
 -- the five bytes of a value ("The files", last sentence)
@@ -81,8 +81,8 @@ abbrev pub stepWritten : List ℕ → ℕ → Step → List ℕ
 stepWritten b at s = pick (valuesGood s) (wroteBytes b at (bytesOf s)) b
 
 -- a step written and read back ("The files")
-abbrev pub stepBack : List ℕ → ℕ → Step → Field
-stepBack b at s = pick (valuesGood s) (pick (leb (at + 16) (length b)) (IsStep s 16) (Refused 27 0)) (Refused 18 0)
+abbrev pub writeAndReadOf : List ℕ → ℕ → Step → Field
+writeAndReadOf b at s = pick (valuesGood s) (pick (leb (at + 16) (length b)) (IsStep s 16) (Refused 27 0)) (Refused 18 0)
 
 -- a step that a recording can hold; it bounds argument and claim: good values whose numbers have 32 bits ("The files", last sentence)
 pub record Recorded (s : Step) : Type 0 where

@@ -58,9 +58,9 @@ EachRecorded [] = Unit {0}
 EachRecorded (s ∷ ss) = Recorded s × EachRecorded ss
 
 -- a recording read and written again: 18 for a text that is none, then 27 ("Numbers of refusal", 18 and writing)
-abbrev pub againTo : List ℕ → List ℕ → Wrote
-againTo s b = pick (isSound s) (wroteTo b 0 (length s)) (NotWritten 18)
+abbrev pub rewriteTo : List ℕ → List ℕ → Wrote
+rewriteTo s b = pick (isSound s) (wroteTo b 0 (length s)) (NotWritten 18)
 
 -- the buffer afterwards: the same text ("Numbers of refusal", writing)
-abbrev pub againWritten : List ℕ → List ℕ → List ℕ
-againWritten s b = pick (isSound s) (wroteBytes b 0 s) b
+abbrev pub rewriteWritten : List ℕ → List ℕ → List ℕ
+rewriteWritten s b = pick (isSound s) (wroteBytes b 0 s) b

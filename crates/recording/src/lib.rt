@@ -5,8 +5,8 @@ use wire::Wrote;
 ghost use mathlib.Core.Path.{_≡_};
 ghost use lib.ListN.{drop};
 ghost use Rattle.wire.specs.Bytes.{Written};
-ghost use Rattle.recording.specs.Recording.{valuesGood, tested, stepIn, endIn, fieldOf, endBytes, stepTo, stepWritten, stepBack};
-ghost use Rattle.recording.specs.Whole.{isSound, againTo, againWritten};
+ghost use Rattle.recording.specs.Recording.{valuesGood, tested, stepIn, endIn, fieldOf, endBytes, stepTo, stepWritten, writeAndReadOf};
+ghost use Rattle.recording.specs.Whole.{isSound, rewriteTo, rewriteWritten};
 
 // What stands next in a recording: a step and the size of its field, the end, or a refusal and how many places past the field asked for it stands.
 pub enum Field {
@@ -167,8 +167,8 @@ pub fn is_sound(s: &[u8]) -> bool
 
 // A recording read field by field and written again: 18 where it is none, then 27 where it does not fit.
 pub fn rewrite(s: &[u8], buf: &mut [u8]) -> Wrote
-    ensures { λ r. ⌜ r ≡ againTo (now (s .entry)) (now (buf .entry)) ⌝ }
-    ensures { λ r. ⌜ now (buf .exit) ≡ againWritten (now (s .entry)) (now (buf .entry)) ⌝ }
+    ensures { λ r. ⌜ r ≡ rewriteTo (now (s .entry)) (now (buf .entry)) ⌝ }
+    ensures { λ r. ⌜ now (buf .exit) ≡ rewriteWritten (now (s .entry)) (now (buf .entry)) ⌝ }
 {
     if is_sound(s) {
         if buf.len() < s.len() {
@@ -196,7 +196,7 @@ pub fn rewrite(s: &[u8], buf: &mut [u8]) -> Wrote
 
 // A step written and read back.
 pub fn write_and_read(buf: &mut [u8], at: usize, s: Step) -> Field
-    ensures { λ r. ⌜ r ≡ stepBack (now (buf .entry)) at s ⌝ }
+    ensures { λ r. ⌜ r ≡ writeAndReadOf (now (buf .entry)) at s ⌝ }
     ensures { λ r. ⌜ now (buf .exit) ≡ stepWritten (now (buf .entry)) at s ⌝ }
 {
     match write_step(buf, at, s) {

@@ -17,10 +17,10 @@ use Rattle.wire.specs.declared.Wrote.{Wrote}
 use Rattle.reading.specs.declared.Reading.{Reading}
 use Rattle.reading.specs.Reading.{configOf}
 use Rattle.writing.specs.Writing.{configTo, configWritten}
-use Rattle.trip.specs.Trip.{againTo as configAgainTo, againWritten as configAgain, backOf}
+use Rattle.trip.specs.Trip.{rewriteTo as rewriteConfigTo, rewriteWritten as rewriteConfigWritten, writeAndReadOf as writeAndReadConfigOf}
 use Rattle.recording.specs.declared.Field.{Field}
-use Rattle.recording.specs.Recording.{fieldOf, stepTo, stepWritten, stepBack}
-use Rattle.recording.specs.Whole.{isSound, againTo, againWritten}
+use Rattle.recording.specs.Recording.{fieldOf, stepTo, stepWritten, writeAndReadOf}
+use Rattle.recording.specs.Whole.{isSound, rewriteTo, rewriteWritten}
 use Rattle.rules.specs.Sound.{soundOf}
 use Rattle.rules.specs.Step.{possibleOf, innerOf, stepOf}
 use Rattle.judging.specs.declared.Judged.{Judged}
@@ -49,11 +49,11 @@ pub write-config-unique : (b : List ℕ) (cfg : Config) (r r′ : Wrote) (x x′
 write-config-unique b cfg r r′ x x′ p q = (same (p .0) (q .0), same (p .1) (q .1))
 
 -- trip::rewrite_config: the answer, and each byte of the buffer afterwards
-pub rewrite-config-unique : (s b : List ℕ) (r r′ : Wrote) (x x′ : List ℕ) → (r ≡ configAgainTo (configOf s .outcome) s b) × (x ≡ configAgain (configOf s .outcome) s b) → (r′ ≡ configAgainTo (configOf s .outcome) s b) × (x′ ≡ configAgain (configOf s .outcome) s b) → (r ≡ r′) × (x ≡ x′)
+pub rewrite-config-unique : (s b : List ℕ) (r r′ : Wrote) (x x′ : List ℕ) → (r ≡ rewriteConfigTo (configOf s .outcome) s b) × (x ≡ rewriteConfigWritten (configOf s .outcome) s b) → (r′ ≡ rewriteConfigTo (configOf s .outcome) s b) × (x′ ≡ rewriteConfigWritten (configOf s .outcome) s b) → (r ≡ r′) × (x ≡ x′)
 rewrite-config-unique s b r r′ x x′ p q = (same (p .0) (q .0), same (p .1) (q .1))
 
 -- trip::write_and_read: the answer, and each byte of the buffer afterwards
-pub config-back-unique : (b : List ℕ) (cfg : Config) (r r′ : Reading) (x x′ : List ℕ) → (r ≡ backOf (configTo b cfg) cfg) × (x ≡ configWritten b cfg) → (r′ ≡ backOf (configTo b cfg) cfg) × (x′ ≡ configWritten b cfg) → (r ≡ r′) × (x ≡ x′)
+pub config-back-unique : (b : List ℕ) (cfg : Config) (r r′ : Reading) (x x′ : List ℕ) → (r ≡ writeAndReadConfigOf (configTo b cfg) cfg) × (x ≡ configWritten b cfg) → (r′ ≡ writeAndReadConfigOf (configTo b cfg) cfg) × (x′ ≡ configWritten b cfg) → (r ≡ r′) × (x ≡ x′)
 config-back-unique b cfg r r′ x x′ p q = (same (p .0) (q .0), same (p .1) (q .1))
 
 -- recording::read_field
@@ -69,11 +69,11 @@ pub recording-sound-unique : (s : List ℕ) (r r′ : Bool) → r ≡ isSound s 
 recording-sound-unique s r r′ p q = same p q
 
 -- recording::rewrite: the answer, and each byte of the buffer afterwards
-pub rewrite-unique : (s b : List ℕ) (r r′ : Wrote) (x x′ : List ℕ) → (r ≡ againTo s b) × (x ≡ againWritten s b) → (r′ ≡ againTo s b) × (x′ ≡ againWritten s b) → (r ≡ r′) × (x ≡ x′)
+pub rewrite-unique : (s b : List ℕ) (r r′ : Wrote) (x x′ : List ℕ) → (r ≡ rewriteTo s b) × (x ≡ rewriteWritten s b) → (r′ ≡ rewriteTo s b) × (x′ ≡ rewriteWritten s b) → (r ≡ r′) × (x ≡ x′)
 rewrite-unique s b r r′ x x′ p q = (same (p .0) (q .0), same (p .1) (q .1))
 
 -- recording::write_and_read: the answer, and each byte of the buffer afterwards
-pub step-back-unique : (b : List ℕ) (at : ℕ) (s : Step) (r r′ : Field) (x x′ : List ℕ) → (r ≡ stepBack b at s) × (x ≡ stepWritten b at s) → (r′ ≡ stepBack b at s) × (x′ ≡ stepWritten b at s) → (r ≡ r′) × (x ≡ x′)
+pub step-back-unique : (b : List ℕ) (at : ℕ) (s : Step) (r r′ : Field) (x x′ : List ℕ) → (r ≡ writeAndReadOf b at s) × (x ≡ stepWritten b at s) → (r′ ≡ writeAndReadOf b at s) × (x′ ≡ stepWritten b at s) → (r ≡ r′) × (x ≡ x′)
 step-back-unique b at s r r′ x x′ p q = (same (p .0) (q .0), same (p .1) (q .1))
 
 -- sound::is_sound

@@ -15,7 +15,7 @@ use Rattle.laws.specs.Choice.{pick, both}
 use Rattle.laws.proofs.Choosing.{both-left, both-right, pick-on, pick-off, pick-has, clash}
 use Rattle.config.specs.declared.Config.{Config}
 use Rattle.config.specs.Tables.{noConfig}
-use Rattle.wire.specs.Bytes.{be16, wroteTo, wroteBytes, build}
+use Rattle.wire.specs.Bytes.{lengthOf, wroteTo, wroteBytes, build}
 use Rattle.wire.specs.declared.Wrote.{Wrote}
 use Rattle.wire.specs.declared.Wrote.the-variants.{Refused as NotWritten}
 use Rattle.wire.proofs.Laws.{build-same, read, drop-read}
@@ -33,7 +33,7 @@ use Rattle.reading.proofs.Adding.{each-kind, Adds, adds, back-read}
 use Rattle.reading.proofs.Told.{fault-told, kind-tag, config-told, blank-sound}
 use Rattle.writing.specs.Writing.{entryBytes, kindBytes, blockOf, partsBytes, editionBytes, endBytes, textOf, configTo, configWritten}
 use Rattle.reading.proofs.Sound.{read-sound}
-use Rattle.trip.specs.Trip.{againTo, againWritten}
+use Rattle.trip.specs.Trip.{rewriteTo, rewriteWritten}
 use Rattle.trip.proofs.Growing.{no-part, parts-grow}
 use Rattle.trip.proofs.EachEntry.{Bytes, entry-front}
 
@@ -104,7 +104,7 @@ module _ (t : List ℕ) (h : Bytes t) (cfg : Config) (last tag size : ℕ) (fr :
       edition-one : (b : ℕ) → pick {A = ℕ} (eqb b 1) 0 24 ≡ 0 → b ≡ 1
       edition-one b g = eqb-true b 1 (pick-on (eqb b 1) 0 24 0 g (λ y. omega (arith, y)) .0)
 
-      edition-front : getD t 3 0 ≡ 1 → getD t 0 0 ≡ 0x01 → be16 (getD t 1 0) (getD t 2 0) ≡ 1 → 4 ≤ length t → t ≡ editionBytes ++ drop 4 t
+      edition-front : getD t 3 0 ≡ 1 → getD t 0 0 ≡ 0x01 → lengthOf (getD t 1 0) (getD t 2 0) ≡ 1 → 4 ≤ length t → t ≡ editionBytes ++ drop 4 t
       edition-front one first said room =
           let high : getD t 1 0 ≡ 0 = omega (arith, h 1, h 2) in
           let low : getD t 2 0 ≡ 1 = omega (arith, h 1, h 2) in
@@ -151,7 +151,7 @@ module _ (t : List ℕ) (h : Bytes t) (cfg : Config) (last tag size : ℕ) (fr :
 record Ended (t : List ℕ) (last : ℕ) : Type 0 where
   room : 3 ≤ length t
   tag : getD t 0 0 ≡ 0x7f
-  said : be16 (getD t 1 0) (getD t 2 0) ≡ 0
+  said : lengthOf (getD t 1 0) (getD t 2 0) ≡ 0
   later : last ≡ 0 → ⊥
 
 no-end : {A : Type 0} {number : ℕ} → Bad number ≡ End → A
@@ -161,7 +161,7 @@ end-frame : (t : List ℕ) (last : ℕ) → headOf t last ≡ End → Ended t la
 unfolding headOf sizeOf
 end-frame t last e =
     let p₀ = pick-off (ltb (length t) 3) _ _ End e no-end in
-    let p₁ = pick-on (eqb (be16 (getD t 1 0) (getD t 2 0)) (sizeOf (getD t 0 0))) _ _ End (p₀ .1) no-end in
+    let p₁ = pick-on (eqb (lengthOf (getD t 1 0) (getD t 2 0)) (sizeOf (getD t 0 0))) _ _ End (p₀ .1) no-end in
     let p₂ = pick-on (leb (sizeOf (getD t 0 0)) (length t - 3)) _ _ End (p₁ .1) no-end in
     let p₃ = pick-on (inOrder last (getD t 0 0)) _ _ End (p₂ .1) no-end in
     let p₄ = pick-on (eqb (getD t 0 0) 0x7f) _ _ End (p₃ .1) field-no-end in
@@ -227,7 +227,7 @@ text-again s h q = again-from (suc (length s)) s noConfig 0 1 h tidy-starts q
 
 module _ (s b : List ℕ) (x : Reading) (q : x ≡ configOf s) where
   pub again-whole : Bytes s → x .outcome ≡ Whole → (r : Wrote) (b′ : List ℕ) → r ≡ configTo b (x .config) → b′ ≡ configWritten b (x .config)
-      → (r ≡ againTo (configOf s .outcome) s b) × (b′ ≡ againWritten (configOf s .outcome) s b)
+      → (r ≡ rewriteTo (configOf s .outcome) s b) × (b′ ≡ rewriteWritten (configOf s .outcome) s b)
   again-whole h w r b′ e f =
       let o : configOf s .outcome ≡ Whole = ap (λ (y : Reading). y .outcome) (sym q) ∙ w in
       let sound = read-sound s o in
@@ -235,14 +235,14 @@ module _ (s b : List ℕ) (x : Reading) (q : x ≡ configOf s) where
         e ∙ ap (λ (y : Reading). configTo b (y .config)) q
             ∙ ap (λ (y : Bool). pick y (wroteTo b 0 (length (textOf (configOf s .config)))) (NotWritten 1)) sound
             ∙ ap (λ (y : List ℕ). wroteTo b 0 (length y)) text
-            ∙ ap (λ (y : Outcome). againTo y s b) (sym o),
+            ∙ ap (λ (y : Outcome). rewriteTo y s b) (sym o),
         f ∙ ap (λ (y : Reading). configWritten b (y .config)) q
             ∙ ap (λ (y : Bool). pick y (wroteBytes b 0 (textOf (configOf s .config))) b) sound
             ∙ ap (λ (y : List ℕ). wroteBytes b 0 y) text
-            ∙ ap (λ (y : Outcome). againWritten y s b) (sym o),
+            ∙ ap (λ (y : Outcome). rewriteWritten y s b) (sym o),
       )
 
-  pub again-refused : (n p : ℕ) → x .outcome ≡ Refused n p → (NotWritten n ≡ againTo (configOf s .outcome) s b) × (b ≡ againWritten (configOf s .outcome) s b)
+  pub again-refused : (n p : ℕ) → x .outcome ≡ Refused n p → (NotWritten n ≡ rewriteTo (configOf s .outcome) s b) × (b ≡ rewriteWritten (configOf s .outcome) s b)
   again-refused n p w =
       let o : Refused n p ≡ configOf s .outcome = sym w ∙ ap (λ (y : Reading). y .outcome) q in
-      (ap (λ (y : Outcome). againTo y s b) o, ap (λ (y : Outcome). againWritten y s b) o)
+      (ap (λ (y : Outcome). rewriteTo y s b) o, ap (λ (y : Outcome). rewriteWritten y s b) o)

@@ -31,7 +31,7 @@ use Rattle.reading.proofs.Adding.{Adds, adds, back-read}
 use Rattle.reading.proofs.Kept.{fault-kept}
 use Rattle.reading.proofs.Told.{fault-told, config-told}
 use Rattle.writing.specs.Writing.{entryBytes, partBytes, kindBytes, blockOf, partsBytes, editionBytes, endBytes, textOf, configTo, configWritten}
-use Rattle.trip.specs.Trip.{backOf as readBack}
+use Rattle.trip.specs.Trip.{writeAndReadOf as readBack}
 use Rattle.trip.proofs.EachEntry.{entry-back, part-shaped, part-fits, frame-head, entry-leads}
 use Rattle.trip.proofs.Standing.{no-kind-count, no-kind-entry, Stands, stands-start, stands-grow, stands-next, stands-all}
 

@@ -12,7 +12,7 @@ use Rattle.laws.specs.Choice.{pick, both}
 use Rattle.laws.proofs.Choosing.{both-left, both-right}
 use Rattle.config.specs.declared.Config.{Config}
 use Rattle.config.specs.Tables.{noVariableConf, variableConfIn}
-use Rattle.wire.specs.Bytes.{be16}
+use Rattle.wire.specs.Bytes.{lengthOf}
 use Rattle.wire.proofs.Laws.{be32-bytes, bytes32-be, read, drop-read}
 use Rattle.entries.specs.declared.Entry.{Entry}
 use Rattle.entries.specs.Entries.{entryOf}
@@ -107,7 +107,7 @@ pub frame-head : (t : List ℕ) (last tag size : ℕ) → Framed t last tag size
 unfolding headOf
 frame-head t last tag size f =
     let l : ltb (length t) 3 ≡ false = le-ltb (length t) 3 (omega (arith, f .room)) in
-    let s : eqb (be16 (getD t 1 0) (getD t 2 0)) (sizeOf tag) ≡ true = eq-eqb (be16 (getD t 1 0) (getD t 2 0)) (sizeOf tag) (f .said ∙ sym (f .kind)) in
+    let s : eqb (lengthOf (getD t 1 0) (getD t 2 0)) (sizeOf tag) ≡ true = eq-eqb (lengthOf (getD t 1 0) (getD t 2 0)) (sizeOf tag) (f .said ∙ sym (f .kind)) in
     let r : leb (sizeOf tag) (length t - 3) ≡ true = le-leb (sizeOf tag) (length t - 3) (omega (arith, f .room, f .kind)) in
     rw (l, f .first, s, r, f .order, f .more) (ap (Field tag) (f .kind))
 
@@ -135,53 +135,53 @@ entry-leads =
 
 module _ (t : List ℕ) (h : Bytes t) where
   -- the length that a frame says stands in its low byte
-  low-byte : (size : ℕ) → size < 256 → be16 (getD t 1 0) (getD t 2 0) ≡ size → (getD t 1 0 ≡ 0) × (getD t 2 0 ≡ size)
+  low-byte : (size : ℕ) → size < 256 → lengthOf (getD t 1 0) (getD t 2 0) ≡ size → (getD t 1 0 ≡ 0) × (getD t 2 0 ≡ size)
   low-byte size l e = omega (arith, h 1, h 2)
 
-  runnable-front : getD t 0 0 ≡ 0x10 → be16 (getD t 1 0) (getD t 2 0) ≡ 7 → 10 ≤ length t → t ≡ runnableBytes (runnableIn t) ++ drop 10 t
+  runnable-front : getD t 0 0 ≡ 0x10 → lengthOf (getD t 1 0) (getD t 2 0) ≡ 7 → 10 ≤ length t → t ≡ runnableBytes (runnableIn t) ++ drop 10 t
   runnable-front tag said room =
       let l = low-byte 7 (omega arith) said in
       let q = bytes32-be (runnableIn t .number) (getD t 5 0) (getD t 6 0) (getD t 7 0) (getD t 8 0) refl (h 5) (h 6) (h 7) (h 8) in
       let r : read t 0 10 ≡ runnableBytes (runnableIn t) = cc in
       drop-read 10 t 0 room ∙ ap (λ (x : List ℕ). x ++ drop 10 t) r
 
-  variable-front : getD t 0 0 ≡ 0x11 → be16 (getD t 1 0) (getD t 2 0) ≡ 6 → 9 ≤ length t → t ≡ variableBytes (variableIn t) ++ drop 9 t
+  variable-front : getD t 0 0 ≡ 0x11 → lengthOf (getD t 1 0) (getD t 2 0) ≡ 6 → 9 ≤ length t → t ≡ variableBytes (variableIn t) ++ drop 9 t
   variable-front tag said room =
       let l = low-byte 6 (omega arith) said in
       let q = bytes32-be (variableIn t .number) (getD t 5 0) (getD t 6 0) (getD t 7 0) (getD t 8 0) refl (h 5) (h 6) (h 7) (h 8) in
       let r : read t 0 9 ≡ variableBytes (variableIn t) = cc in
       drop-read 9 t 0 room ∙ ap (λ (x : List ℕ). x ++ drop 9 t) r
 
-  area-front : getD t 0 0 ≡ 0x12 → be16 (getD t 1 0) (getD t 2 0) ≡ 1 → 4 ≤ length t → t ≡ areaBytes (areaIn t) ++ drop 4 t
+  area-front : getD t 0 0 ≡ 0x12 → lengthOf (getD t 1 0) (getD t 2 0) ≡ 1 → 4 ≤ length t → t ≡ areaBytes (areaIn t) ++ drop 4 t
   area-front tag said room =
       let l = low-byte 1 (omega arith) said in
       let r : read t 0 4 ≡ areaBytes (areaIn t) = cc in
       drop-read 4 t 0 room ∙ ap (λ (x : List ℕ). x ++ drop 4 t) r
 
-  operation-front : getD t 0 0 ≡ 0x16 → be16 (getD t 1 0) (getD t 2 0) ≡ 7 → 10 ≤ length t → t ≡ operationBytes (operationIn t) ++ drop 10 t
+  operation-front : getD t 0 0 ≡ 0x16 → lengthOf (getD t 1 0) (getD t 2 0) ≡ 7 → 10 ≤ length t → t ≡ operationBytes (operationIn t) ++ drop 10 t
   operation-front tag said room =
       let l = low-byte 7 (omega arith) said in
       let q = bytes32-be (operationIn t .number) (getD t 6 0) (getD t 7 0) (getD t 8 0) (getD t 9 0) refl (h 6) (h 7) (h 8) (h 9) in
       let r : read t 0 10 ≡ operationBytes (operationIn t) = cc in
       drop-read 10 t 0 room ∙ ap (λ (x : List ℕ). x ++ drop 10 t) r
 
-  timer-front : getD t 0 0 ≡ 0x17 → be16 (getD t 1 0) (getD t 2 0) ≡ 5 → 8 ≤ length t → t ≡ timerBytes (timerIn t) ++ drop 8 t
+  timer-front : getD t 0 0 ≡ 0x17 → lengthOf (getD t 1 0) (getD t 2 0) ≡ 5 → 8 ≤ length t → t ≡ timerBytes (timerIn t) ++ drop 8 t
   timer-front tag said room =
       let l = low-byte 5 (omega arith) said in
       let q = bytes32-be (timerIn t .number) (getD t 4 0) (getD t 5 0) (getD t 6 0) (getD t 7 0) refl (h 4) (h 5) (h 6) (h 7) in
       let r : read t 0 8 ≡ timerBytes (timerIn t) = cc in
       drop-read 8 t 0 room ∙ ap (λ (x : List ℕ). x ++ drop 8 t) r
 
-  pair-front : (tag : ℕ) → getD t 0 0 ≡ tag → be16 (getD t 1 0) (getD t 2 0) ≡ 2 → 5 ≤ length t → t ≡ pairBytes tag (pairIn t) ++ drop 5 t
+  pair-front : (tag : ℕ) → getD t 0 0 ≡ tag → lengthOf (getD t 1 0) (getD t 2 0) ≡ 2 → 5 ≤ length t → t ≡ pairBytes tag (pairIn t) ++ drop 5 t
   pair-front tag first said room =
       let l = low-byte 2 (omega arith) said in
       let r : read t 0 5 ≡ pairBytes tag (pairIn t) = cc in
       drop-read 5 t 0 room ∙ ap (λ (x : List ℕ). x ++ drop 5 t) r
 
   -- a field that was read is the field of its entry
-  pub entry-front : (tag : ℕ) → 0x10 ≤ tag → tag ≤ 0x19 → getD t 0 0 ≡ tag → be16 (getD t 1 0) (getD t 2 0) ≡ sizeOf tag → 3 + sizeOf tag ≤ length t
+  pub entry-front : (tag : ℕ) → 0x10 ≤ tag → tag ≤ 0x19 → getD t 0 0 ≡ tag → lengthOf (getD t 1 0) (getD t 2 0) ≡ sizeOf tag → 3 + sizeOf tag ≤ length t
       → t ≡ entryBytes tag (entryIn tag t) ++ drop (3 + sizeOf tag) t
   unfolding entryIn entryBytes sizeOf
   entry-front =
-      each-kind (λ tag. getD t 0 0 ≡ tag → be16 (getD t 1 0) (getD t 2 0) ≡ sizeOf tag → 3 + sizeOf tag ≤ length t → t ≡ entryBytes tag (entryIn tag t) ++ drop (3 + sizeOf tag) t)
+      each-kind (λ tag. getD t 0 0 ≡ tag → lengthOf (getD t 1 0) (getD t 2 0) ≡ sizeOf tag → 3 + sizeOf tag ≤ length t → t ≡ entryBytes tag (entryIn tag t) ++ drop (3 + sizeOf tag) t)
       runnable-front variable-front area-front (pair-front 0x13) (pair-front 0x14) (pair-front 0x15) operation-front timer-front (pair-front 0x18) (pair-front 0x19)

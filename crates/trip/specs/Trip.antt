@@ -13,16 +13,16 @@ use Rattle.reading.specs.declared.Reading.{Reading}
 use Rattle.reading.specs.Reading.{wholeOf, refusedAt}
 
 -- a text s, read and written again: the number that reading it gives, then 27 ("Numbers of refusal", writing)
-abbrev pub againTo : Outcome → List ℕ → List ℕ → Wrote
-againTo Whole s b = wroteTo b 0 (length s)
-againTo (Refused number place) s b = NotWritten number
+abbrev pub rewriteTo : Outcome → List ℕ → List ℕ → Wrote
+rewriteTo Whole s b = wroteTo b 0 (length s)
+rewriteTo (Refused number place) s b = NotWritten number
 
 -- the buffer afterwards: the same text ("The files")
-abbrev pub againWritten : Outcome → List ℕ → List ℕ → List ℕ
-againWritten Whole s b = wroteBytes b 0 s
-againWritten (Refused number place) s b = b
+abbrev pub rewriteWritten : Outcome → List ℕ → List ℕ → List ℕ
+rewriteWritten Whole s b = wroteBytes b 0 s
+rewriteWritten (Refused number place) s b = b
 
 -- a configuration written and read back, by the answer to writing it: the same configuration, or the writer's number and no place ("The files")
-abbrev pub backOf : Wrote → Config → Reading
-backOf (To size) cfg = wholeOf cfg
-backOf (NotWritten number) cfg = refusedAt number 0
+abbrev pub writeAndReadOf : Wrote → Config → Reading
+writeAndReadOf (To size) cfg = wholeOf cfg
+writeAndReadOf (NotWritten number) cfg = refusedAt number 0

@@ -6,12 +6,12 @@ use wire::Wrote;
 ghost use mathlib.Core.Path.{_≡_};
 ghost use Rattle.reading.specs.Reading.{configOf};
 ghost use Rattle.writing.specs.Writing.{configTo, configWritten};
-ghost use Rattle.trip.specs.Trip.{againTo, againWritten, backOf};
+ghost use Rattle.trip.specs.Trip.{rewriteTo, rewriteWritten, writeAndReadOf};
 
 // A text read, and what was read written into a lent buffer: a refused text keeps its number, then 27 where the text does not fit.
 pub fn rewrite_config(s: &[u8], buf: &mut [u8]) -> Wrote
-    ensures { λ r. ⌜ r ≡ againTo (configOf (now (s .entry)) .outcome) (now (s .entry)) (now (buf .entry)) ⌝ }
-    ensures { λ r. ⌜ now (buf .exit) ≡ againWritten (configOf (now (s .entry)) .outcome) (now (s .entry)) (now (buf .entry)) ⌝ }
+    ensures { λ r. ⌜ r ≡ rewriteTo (configOf (now (s .entry)) .outcome) (now (s .entry)) (now (buf .entry)) ⌝ }
+    ensures { λ r. ⌜ now (buf .exit) ≡ rewriteWritten (configOf (now (s .entry)) .outcome) (now (s .entry)) (now (buf .entry)) ⌝ }
 {
     let read = reading::read_config(s);
     let outcome = read.outcome;
@@ -23,7 +23,7 @@ pub fn rewrite_config(s: &[u8], buf: &mut [u8]) -> Wrote
 
 // A configuration written into a lent buffer and read back from there; a refused one has no place.
 pub fn write_and_read(buf: &mut [u8], cfg: Config) -> Reading
-    ensures { λ r. ⌜ r ≡ backOf (configTo (now (buf .entry)) cfg) cfg ⌝ }
+    ensures { λ r. ⌜ r ≡ writeAndReadOf (configTo (now (buf .entry)) cfg) cfg ⌝ }
     ensures { λ r. ⌜ now (buf .exit) ≡ configWritten (now (buf .entry)) cfg ⌝ }
 {
     match writing::write_config(buf, cfg) {

@@ -11,23 +11,23 @@ use borrow.Author.Tests.{le-leb, lt-leb, leb-true, leb-false}
 use lib.Dec.{leb}
 use Rattle.laws.specs.Choice.{pick}
 use Rattle.laws.proofs.Choosing.{pick-on, pick-off}
-use Rattle.wire.specs.Bytes.{refusalIn, lengthIn, be32, putAt, Written, build}
+use Rattle.wire.specs.Bytes.{refusalIn, lengthIn, numberOf, putAt, Written, build}
 use Rattle.wire.specs.declared.Wrote.{Wrote}
 use Rattle.wire.specs.declared.Wrote.the-variants.{To, Refused}
 
 -- ---- a number and its bytes
 
 -- the bytes of a number are its own
-pub be32-bytes : (n : ℕ) → n < 2 ^ 32 → be32 (n / 256 / 256 / 256 % 256) (n / 256 / 256 % 256) (n / 256 % 256) (n % 256) ≡ n
+pub be32-bytes : (n : ℕ) → n < 2 ^ 32 → numberOf (n / 256 / 256 / 256 % 256) (n / 256 / 256 % 256) (n / 256 % 256) (n % 256) ≡ n
 be32-bytes n h = omega arith
 
 -- and the number of four bytes has these four
-pub bytes32-be : (n a b c d : ℕ) → n ≡ be32 a b c d → a < 256 → b < 256 → c < 256 → d < 256
+pub bytes32-be : (n a b c d : ℕ) → n ≡ numberOf a b c d → a < 256 → b < 256 → c < 256 → d < 256
     → (n / 256 / 256 / 256 % 256 ≡ a) × (n / 256 / 256 % 256 ≡ b) × (n / 256 % 256 ≡ c) × (n % 256 ≡ d)
 bytes32-be n a b c d e ha hb hc hd = omega arith
 
 -- four bytes make a number of 32 bits
-pub be32-fits : (a b c d : ℕ) → a < 256 → b < 256 → c < 256 → d < 256 → be32 a b c d < 2 ^ 32
+pub be32-fits : (a b c d : ℕ) → a < 256 → b < 256 → c < 256 → d < 256 → numberOf a b c d < 2 ^ 32
 be32-fits a b c d ha hb hc hd = omega arith
 
 -- ---- the front of a text

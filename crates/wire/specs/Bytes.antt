@@ -20,12 +20,12 @@ lengthIn (To n) = n
 lengthIn (Refused r) = 0
 
 -- the number of two bytes ("The files")
-abbrev pub be16 : ℕ → ℕ → ℕ
-be16 a b = a * 256 + b
+abbrev pub lengthOf : ℕ → ℕ → ℕ
+lengthOf a b = a * 256 + b
 
 -- the number of four bytes ("The files")
-abbrev pub be32 : ℕ → ℕ → ℕ → ℕ → ℕ
-be32 a b c d = a * 16777216 + b * 65536 + c * 256 + d
+abbrev pub numberOf : ℕ → ℕ → ℕ → ℕ → ℕ
+numberOf a b c d = a * 16777216 + b * 65536 + c * 256 + d
 
 -- the four bytes of a number ("The files")
 abbrev pub bytes32 : ℕ → List ℕ

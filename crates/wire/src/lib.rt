@@ -2,7 +2,7 @@
 ghost use mathlib.Core.Path.{_≡_};
 ghost use Prim.Native.Nat.{_+_, _≤_};
 ghost use lib.ListN.{length};
-ghost use Rattle.wire.specs.Bytes.{be16, be32, putAt, Written};
+ghost use Rattle.wire.specs.Bytes.{lengthOf, numberOf, putAt, Written};
 
 // How far the text reaches now, or the number under which writing it was refused.
 pub enum Wrote {
@@ -12,14 +12,14 @@ pub enum Wrote {
 
 // The number of four bytes.
 pub fn number(a: u8, b: u8, c: u8, d: u8) -> u32
-    ensures { λ r. ⌜ r ≡ be32 a b c d ⌝ }
+    ensures { λ r. ⌜ r ≡ numberOf a b c d ⌝ }
 {
     (a as u32) * 16777216 + (b as u32) * 65536 + (c as u32) * 256 + (d as u32)
 }
 
 // The number of the two bytes of a length.
 pub fn length_of(a: u8, b: u8) -> usize
-    ensures { λ r. ⌜ r ≡ be16 a b ⌝ }
+    ensures { λ r. ⌜ r ≡ lengthOf a b ⌝ }
 {
     (a as usize) * 256 + (b as usize)
 }

@@ -47,13 +47,13 @@ given-requires : tie.Need-given-requires Inv-loop μ-loop
 given-requires c κs = tt
 
 returns : tie.Need-returns Inv-loop μ-loop
-returns c = c .given .ensures ∙ sym (c .before .before .before .before .before .before .loop .inv .2 ∙ stopped _ _ _ _ _ (sym (c .before .before .before .before .before .read-field .ensures) ∙ c .before .before .f2 .given .1))
+returns c = c .judged .ensures ∙ sym (c .before .before .before .before .before .before .loop .inv .2 ∙ stopped _ _ _ _ _ (sym (c .before .before .before .before .before .read-field .ensures) ∙ c .before .before .f2 .given .1))
 
 given-requires-2 : tie.Need-given-requires-2 Inv-loop μ-loop
 given-requires-2 c κs = tt
 
 returns-2 : tie.Need-returns-2 Inv-loop μ-loop
-returns-2 c = c .given2 .ensures ∙ sym (c .before .before .before .before .loop .inv .2 ∙ ended _ _ _ _ _ (sym (c .before .before .before .read-field .ensures) ∙ neither _ (c .before .before .match .keys2) (c .before .match2 .keys2)))
+returns-2 c = c .judged2 .ensures ∙ sym (c .before .before .before .before .loop .inv .2 ∙ ended _ _ _ _ _ (sym (c .before .before .before .read-field .ensures) ∙ neither _ (c .before .before .match .keys2) (c .before .match2 .keys2)))
 
 given-requires-3 : tie.Need-given-requires-3 Inv-loop μ-loop
 given-requires-3 c κs = tt
@@ -61,7 +61,7 @@ given-requires-3 c κs = tt
 returns-3 : tie.Need-returns-3 Inv-loop μ-loop
 returns-3 c =
     let e = sym (c .before .before .before .before .before .read-field .ensures) ∙ c .before .before .before .f .given .1 in
-    c .given3 .ensures ∙ sym (c .before .before .before .before .before .before .loop .inv .2 ∙ rw (c .before .if1 .taken) (starved _ _ _ _ e))
+    c .judged3 .ensures ∙ sym (c .before .before .before .before .before .before .loop .inv .2 ∙ rw (c .before .if1 .taken) (starved _ _ _ _ e))
 
 inner-requires : tie.Need-inner-requires Inv-loop μ-loop
 inner-requires c κs = tt
@@ -75,7 +75,7 @@ given-requires-4 c κs = tt
 returns-4 : tie.Need-returns-4 Inv-loop μ-loop
 returns-4 c =
     let e = sym (c .before .before .before .before .before .before .before .before .before .read-field .ensures) ∙ c .before .before .before .before .before .before .before .f .given .1 in
-    c .given4 .ensures ∙ sym (c .before .before .before .before .before .before .before .before .before .before .loop .inv .2 ∙ barred _ _ _ _ _ (c .before .before .before .before .before .if1 .left) e (c .before .before .before .before .inner .ensures) (c .before .before .a .given .1))
+    c .judged4 .ensures ∙ sym (c .before .before .before .before .before .before .before .before .before .before .loop .inv .2 ∙ barred _ _ _ _ _ (c .before .before .before .before .before .if1 .left) e (c .before .before .before .before .inner .ensures) (c .before .before .a .given .1))
 
 add-count : tie.Need-add-count Inv-loop μ-loop
 add-count c = omega arith

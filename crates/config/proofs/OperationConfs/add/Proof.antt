@@ -1,8 +1,8 @@
 use borrow.Author.Needs.{needs}
 use borrow.Author.Tests.{lt-ltb, le-ltb}
 use Rattle.config.specs.Tables.{addOperationConf}
-use Rattle.config.proofs.OperationConfs.with.Statement.{statement}
-use Rattle.config.proofs.OperationConfs.with.Tie as tie
+use Rattle.config.proofs.OperationConfs.add.Statement.{statement}
+use Rattle.config.proofs.OperationConfs.add.Tie as tie
 
 returns : tie.Need-returns
 unfolding addOperationConf
@@ -12,5 +12,5 @@ returns-2 : tie.Need-returns-2
 unfolding addOperationConf
 returns-2 c = rw (le-ltb _ _ (c .if1 .left))
 
-pub with-spec : {M : Type 1} → statement M
-with-spec = tie.close (tie.spec (λ c. search needs) (λ c. search needs) (λ c. search needs) (λ c. search needs) returns returns-2)
+pub add-spec : {M : Type 1} → statement M
+add-spec = tie.close (tie.spec (λ c. search needs) (λ c. search needs) (λ c. search needs) (λ c. search needs) returns returns-2)
