@@ -88,7 +88,7 @@ module _ {M : Type 1} (𝓤 : URA M) (H : Heap 𝓤) (A : Atoms 𝓤) (W : Given
         use1 W (later (some (λ (r : Result). raw (fact 𝓤 ((w ≡ pairVal (said r) (val (left r))) × Known r))))) (told w) $ await ! tt $ pick ! (λ r. heard ! ((w ≡ pairVal (said r) (val (left r))) × Known r) (λ k.
         land ! (from ! (stop !)) (init ! 7 refl (subst (Fits (pairTy name answer state)) (sym (k .0)) (both-fit r (k .1)))) $
         rewrite ! 7 (λ (u : Val). ‵ (fat fullShare (pairTy name answer state) l₄ 0 u)) (k .0) refl $
-        -- the state that came back goes where the reference points, and the answer into _0
+        -- behind the reference stands the state after the step; the answer is what is returned
         assigns ! (of-opd ! (load ! (from ! (fld ! refl (stop !))) (look-in ! 7 (sub ! 1 refl (whole !))))) (from ! (hop ! (look ! 11 refl) (stop !))) (store-raw ! 0 refl (fits (left r) (left-is r (k .1)))) $
         assigns ! (of-opd ! (load ! (from ! (fld ! refl (stop !))) (look-in ! 7 (sub ! 0 refl (whole !))))) (from ! (stop !)) (init ! 15 refl (said-fits r (k .1))) $
         -- the borrow is closed at the new state

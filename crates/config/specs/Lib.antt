@@ -1,2 +1,2 @@
--- Document 01, "The parts, and how many" and "The files": the tables of a configuration, and its parts as entries of a file.
+-- The tables of a configuration ("The parts, and how many").
 pub mod Tables

@@ -43,7 +43,7 @@ client = 0x10 ∷ 0x00 ∷ 0x07 ∷ 0x00 ∷ 0x02 ∷ 0x00 ∷ 0x00 ∷ 0x00 ∷
 server : List ℕ
 server = 0x10 ∷ 0x00 ∷ 0x07 ∷ 0x01 ∷ 0x00 ∷ 0x00 ∷ 0x00 ∷ 0x00 ∷ 0x00 ∷ 0x02 ∷ []
 
--- an asynchronous operation of component 0 on runnable 1, timesOut 50
+-- an asynchronous operation of component 0 on runnable 1, with a timeout of 50
 operation : List ℕ
 operation = 0x16 ∷ 0x00 ∷ 0x07 ∷ 0x00 ∷ 0x01 ∷ 0x01 ∷ 0x00 ∷ 0x00 ∷ 0x00 ∷ 0x32 ∷ []
 
@@ -87,7 +87,7 @@ waitFifty = 0x40 ∷ 0x00 ∷ 0x0d ∷ 0x12 ∷ 0x00 ∷ 0x00 ∷ 0x01 ∷ 0x00 
 waitLonger : List ℕ
 waitLonger = 0x40 ∷ 0x00 ∷ 0x0d ∷ 0x12 ∷ 0x00 ∷ 0x00 ∷ 0x01 ∷ 0x00 ∷ 0x00 ∷ 0x00 ∷ 0x33 ∷ 0x00 ∷ 0x00 ∷ 0x00 ∷ 0x00 ∷ 0x00 ∷ []
 
--- timesOut 0
+-- the timeout of operation 0
 timesOut : List ℕ
 timesOut = 0x40 ∷ 0x00 ∷ 0x0d ∷ 0x10 ∷ 0x00 ∷ 0x00 ∷ 0x00 ∷ 0x00 ∷ 0x00 ∷ 0x00 ∷ 0x00 ∷ 0x00 ∷ 0x00 ∷ 0x00 ∷ 0x00 ∷ 0x00 ∷ []
 
@@ -178,7 +178,7 @@ pub record Row : Type 0 where
 late : Row
 late = record { config = lateConfig; recording = file (spawnClient ∷ callSeven ∷ spawnServer ∷ waitFifty ∷ timesOut ∷ backLate ∷ askTimeout ∷ []); line = Accepted 7 }
 
--- (b) its false claim: the late plan taken for final
+-- (b) the same recording with a lie in it: the client says that it got the plan
 falseClaim : Row
 falseClaim = record { config = lateConfig; recording = file (spawnClient ∷ callSeven ∷ spawnServer ∷ waitFifty ∷ timesOut ∷ backLate ∷ askNine ∷ []); line = Refused 7 17 }
 
@@ -186,7 +186,7 @@ falseClaim = record { config = lateConfig; recording = file (spawnClient ∷ cal
 waitTooLong : Row
 waitTooLong = record { config = lateConfig; recording = file (spawnClient ∷ callSeven ∷ spawnServer ∷ waitLonger ∷ []); line = Refused 4 13 }
 
--- (d) handed back before the timesOut: the answer is 1, and the result 9
+-- (d) the plan in time, before its timeout: the hand back answers 1, and the client gets 9
 inTime : Row
 inTime = record { config = lateConfig; recording = file (spawnClient ∷ callSeven ∷ spawnServer ∷ backInTime ∷ askNine ∷ []); line = Accepted 5 }
 

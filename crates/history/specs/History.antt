@@ -1,5 +1,5 @@
--- What a recording tells of its calls, read off its steps and their answers under its configuration: no state of the machine, no number of an operation.
--- A call is named by the place of its step in the recording, counted from 1; 0 is no call. The answer of an accepted step is the one that it claims.
+-- The calls of a recording, as its steps and their answers show them under its configuration. No state of the machine is used here, and no number of an operation.
+-- The name of a call is where its step stands in the recording, from 1 on, and 0 names none; an accepted step has the answer that it claims.
 -- Assumes nothing.
 use Prim.Native.Nat.{ℕ, zero, suc, _+_}
 use mathlib.Core.List.{List, [], _∷_, _++_}
@@ -25,7 +25,7 @@ pub record Request : Type 0 where
 abbrev pub noRequest : Request
 noRequest = record { at = 0; on = 0 }
 
--- how a call ended: by its timeout, or by an instance, spawned for the call named, that handed back the value ("How tight the contracts are", demand 3)
+-- what ended a call: time, or an instance that had been spawned for the call named here and gave this value back ("How tight the contracts are", demand 3)
 pub data How : Type 0 where
   byTimeout : How
   byInstance : ℕ → Value → How
@@ -38,15 +38,15 @@ pub record Ending : Type 0 where
 
 -- what is known after some steps of a recording ("How tight the contracts are", demand 3)
 pub record History : Type 0 where
-  -- the steps so far
+  -- how many steps there were
   pub place : ℕ
-  -- of each runnable: the requests that wait, oldest first
+  -- for every runnable what waits there, the oldest in front
   pub queued : List (List Request)
-  -- of each slot: the request that its spawn took
+  -- for every slot the request that its instance serves
   pub taken : List Request
-  -- of each operation: its latest started call
+  -- for every operation the call that was started last
   pub latest : List ℕ
-  -- the calls that ended, the last one first
+  -- every ending, the newest in front
   pub endings : List Ending
 
 -- the history before any step ("How tight the contracts are", demand 3)
@@ -136,7 +136,7 @@ unfoldable pub lastOn : ℕ → List Ending → Option Ending
 lastOn o [] = none
 lastOn o (e ∷ es) = pick (eqb (e .on) o) (some e) (lastOn o es)
 
--- an ending is by a timeout, or by an instance that was spawned for this very call ("How tight the contracts are", demand 3)
+-- time may end any call, an instance only the one that it was spawned for ("How tight the contracts are", demand 3)
 abbrev pub Proper : ℕ → How → Type 0
 Proper k byTimeout = Unit {0}
 Proper k (byInstance j v) = j ≡ k

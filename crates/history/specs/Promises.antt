@@ -83,7 +83,7 @@ TimeoutAtZero =
     → (m : State) × Run cfg before m × (operationIn (m .operations) (s .what) .calling ≡ true) × (operationIn (m .operations) (s .what) .count ≡ 0)
     × Started before (latestOn (historyOf cfg before) (s .what)) (s .what) × (endsOf (latestOn (historyOf cfg before) (s .what)) (historyOf cfg before .endings) ≡ 0)
 
--- a result answers a Number only if the latest call ended on that operation was ended by an instance spawned for it that handed back that number, and that call ends only this once in the whole recording: before any timeout of it ("How tight the contracts are", demand 3)
+-- who gets a Number as a result gets what an instance handed back that was spawned for the latest call that ended there; and nowhere in the whole recording, before or after, does that call end again, by a timeout or otherwise ("How tight the contracts are", demand 3)
 abbrev pub NumberIsFinal : Type 0
 NumberIsFinal =
     (cfg : Config) (before after : List Step) (s : Step) (n : ℕ) (st : State) → configSound cfg ≡ true → Run cfg (before ++ (s ∷ after)) st → s .code ≡ 12 → s .claim ≡ numberV n

@@ -68,11 +68,8 @@ fn judge_sound(cfg: Config, st: State, s: &[u8], allowance: u32) -> Judged
         let Field::Step(x, size) = f else {
             match f {
                 Field::Refused(k, past) => {
-                    return judged(
-                        Verdict::Refused(count + 1 + past as usize, k),
-                        count,
-                        reached,
-                    );
+                    let place = count + 1 + past as usize;
+                    return judged(Verdict::Refused(place, k), count, reached);
                 }
                 _ => {
                     return judged(Verdict::Accepted, count, reached);

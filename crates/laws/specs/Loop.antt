@@ -1,4 +1,4 @@
--- What a loop that counts from 0 comes to. Each is said by what stands below n, so that a loop's invariant is the definition at its counter.
+-- Loops that count upwards from 0, as sums, tests and searches over the numbers below n. A loop's invariant is then its own definition, taken at the counter.
 -- Assumes nothing.
 use Prim.Native.Nat.{ℕ, zero, suc, _+_}
 use mathlib.Core.Bool.{Bool, true, false}

@@ -13,7 +13,7 @@ unfoldable pub eachBelow : {A : Type 0} → (ℕ → A → A) → A → ℕ → 
 eachBelow f d zero l = l
 eachBelow f d (suc n) l = set (eachBelow f d n l) n (f n (getD (eachBelow f d n l) n d))
 
--- a queue whose oldest entry is taken: each other one place down, and a blank last
+-- what is left of a row when its first entry goes: the others move up, and the last place is blank
 unfoldable pub shifted : {A : Type 0} → A → List A → List A
 shifted d l = drop 1 l ++ (d ∷ [])
 

@@ -56,7 +56,7 @@ pub fn possible(cfg: Config, st: State, s: Step) -> Stepped
     steps::refuse(n, st)
 }
 
-// The step without the test of soundness, for a state that is known to be sound. 17: the step is possible, but its answer is not the claimed one.
+// The step without the test of soundness, for a state that is known to be sound. 17: it could be taken, and would answer something else than it claims.
 pub fn inner(cfg: Config, st: State, s: Step) -> Stepped
     ensures { λ r. ⌜ r ≡ innerOf cfg st s ⌝ }
 {

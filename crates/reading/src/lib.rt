@@ -218,6 +218,7 @@ fn refused_at(number: u8, place: usize) -> Reading
     }
 }
 
+// The configuration that the bytes s say, or the first fault and its place.
 pub fn read_config(s: &[u8]) -> Reading
     ensures { λ r. ⌜ r ≡ configOf (now (s .entry)) ⌝ }
 {

@@ -48,7 +48,7 @@ module _ (s : List ℕ) (at : ℕ) (r : Reading s at) where
   pub reading-refused : (k p : ℕ) → fieldOf (drop at s) ≡ Refused k p → false ≡ isSound s
   reading-refused k p e = sym (r .sound ∙ ap (λ (w : Whole). isEnd (w .last)) (whole-refused (drop at s) k p e))
 
--- ---- copying: at bytes of s stand in the buffer, and behind them what was there
+-- ---- copying: the buffer begins with the first bytes of s, as many as at says, and has kept the rest of its own
 
 pub record Copying (s b₀ b : List ℕ) (at : ℕ) : Type 0 where
   pub inside : at ≤ length s

@@ -84,7 +84,7 @@ stepWritten b at s = pick (valuesGood s) (wroteBytes b at (bytesOf s)) b
 abbrev pub writeAndReadOf : List ℕ → ℕ → Step → Field
 writeAndReadOf b at s = pick (valuesGood s) (pick (leb (at + 16) (length b)) (IsStep s 16) (Refused 27 0)) (Refused 18 0)
 
--- a step that a recording can hold; it bounds argument and claim: good values whose numbers have 32 bits ("The files", last sentence)
+-- what writing asks of a step: argument and claim are good values whose numbers have 32 bits (code, who and what are bytes by their types) ("The files", last sentence)
 pub record Recorded (s : Step) : Type 0 where
   pub good : valuesGood s ≡ true
   pub argument : s .argument .number < 2 ^ 32

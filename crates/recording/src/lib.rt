@@ -1,4 +1,4 @@
-// The fields of a recording, read and written.
+// Recordings: their fields and whole texts, read and written, and both round trips.
 use values::Step;
 use values::Value;
 use wire::Wrote;

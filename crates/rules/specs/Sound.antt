@@ -1,4 +1,4 @@
--- When a state is sound, as a test that computes ("A sound state"). Each sentence is a named clause over the tables that it reads.
+-- When a state is sound, as a test that computes ("A sound state"). Each clause is named, and goes over the tables that it reads; what is said of all stored values, or of all parts named, stands in the clauses of the tables that hold them.
 -- A state that code holds has tables of the right lengths; as a definition ranges over any lists, the lengths are tested too.
 -- Assumes nothing.
 use Prim.Native.Nat.{ℕ, _+_}

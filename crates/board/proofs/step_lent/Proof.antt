@@ -1,5 +1,5 @@
 -- `board::step_lent` meets its contract: what is known of each type, of what `step` asks and tells, and of the exit, put into the walk of Lent.antt.
--- No field of the state is looked at: its machine value is what the struct's laws say of it. All that the proof knows of `step` is that it meets its contract.
+-- The state stays closed: of its value in memory only the laws of its struct are used, and of `step` only its contract.
 -- Assumes nothing.
 use mathlib.Core.Path.{_≡_, refl, ap, subst}
 use Prim.Native.Nat.{ℕ}

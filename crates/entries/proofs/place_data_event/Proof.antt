@@ -2,7 +2,7 @@ use Rattle.entries.proofs.place_data_event.Statement.{statement}
 use Rattle.entries.proofs.place_data_event.Tie as tie
 
 returns : tie.Need-returns
-returns c = rw (c .with .ensures, c .before .data-event-part .ensures)
+returns c = rw (c .add .ensures, c .before .data-event-part .ensures)
 
 pub place-data-event-spec : {M : Type 1} → statement M
 place-data-event-spec =

@@ -2,7 +2,7 @@ use Rattle.entries.proofs.place_link.Statement.{statement}
 use Rattle.entries.proofs.place_link.Tie as tie
 
 returns : tie.Need-returns
-returns c = rw (c .with .ensures, c .before .link-part .ensures)
+returns c = rw (c .add .ensures, c .before .link-part .ensures)
 
 pub place-link-spec : {M : Type 1} → statement M
 place-link-spec =

@@ -2,7 +2,7 @@ use Rattle.entries.proofs.place_required.Statement.{statement}
 use Rattle.entries.proofs.place_required.Tie as tie
 
 returns : tie.Need-returns
-returns c = rw (c .with .ensures, c .before .required-part .ensures)
+returns c = rw (c .add .ensures, c .before .required-part .ensures)
 
 pub place-required-spec : {M : Type 1} → statement M
 place-required-spec =

@@ -2,7 +2,7 @@ use Rattle.entries.proofs.place_return_event.Statement.{statement}
 use Rattle.entries.proofs.place_return_event.Tie as tie
 
 returns : tie.Need-returns
-returns c = rw (c .with .ensures, c .before .return-event-part .ensures)
+returns c = rw (c .add .ensures, c .before .return-event-part .ensures)
 
 pub place-return-event-spec : {M : Type 1} → statement M
 place-return-event-spec =

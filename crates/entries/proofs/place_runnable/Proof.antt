@@ -2,7 +2,7 @@ use Rattle.entries.proofs.place_runnable.Statement.{statement}
 use Rattle.entries.proofs.place_runnable.Tie as tie
 
 returns : tie.Need-returns
-returns c = rw (c .with .ensures, c .before .runnable-part .ensures)
+returns c = rw (c .add .ensures, c .before .runnable-part .ensures)
 
 pub place-runnable-spec : {M : Type 1} → statement M
 place-runnable-spec =

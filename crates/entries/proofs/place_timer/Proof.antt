@@ -2,7 +2,7 @@ use Rattle.entries.proofs.place_timer.Statement.{statement}
 use Rattle.entries.proofs.place_timer.Tie as tie
 
 returns : tie.Need-returns
-returns c = rw (c .with .ensures, c .before .timer-part .ensures)
+returns c = rw (c .add .ensures, c .before .timer-part .ensures)
 
 pub place-timer-spec : {M : Type 1} → statement M
 place-timer-spec =

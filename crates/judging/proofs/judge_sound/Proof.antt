@@ -43,20 +43,20 @@ add-t17 c = omega arith
 add-t19 : tie.Need-add-t19 Inv-loop μ-loop
 add-t19 c = omega (arith, refused-18 _ _ _ (sym (c .before .before .before .before .read-field .ensures) ∙ c .before .f2 .given .1) .1)
 
-given-requires : tie.Need-given-requires Inv-loop μ-loop
-given-requires c κs = tt
+judged-requires : tie.Need-judged-requires Inv-loop μ-loop
+judged-requires c κs = tt
 
 returns : tie.Need-returns Inv-loop μ-loop
 returns c = c .judged .ensures ∙ sym (c .before .before .before .before .before .before .loop .inv .2 ∙ stopped _ _ _ _ _ (sym (c .before .before .before .before .before .read-field .ensures) ∙ c .before .before .f2 .given .1))
 
-given-requires-2 : tie.Need-given-requires-2 Inv-loop μ-loop
-given-requires-2 c κs = tt
+judged-requires-2 : tie.Need-judged-requires-2 Inv-loop μ-loop
+judged-requires-2 c κs = tt
 
 returns-2 : tie.Need-returns-2 Inv-loop μ-loop
 returns-2 c = c .judged2 .ensures ∙ sym (c .before .before .before .before .loop .inv .2 ∙ ended _ _ _ _ _ (sym (c .before .before .before .read-field .ensures) ∙ neither _ (c .before .before .match .keys2) (c .before .match2 .keys2)))
 
-given-requires-3 : tie.Need-given-requires-3 Inv-loop μ-loop
-given-requires-3 c κs = tt
+judged-requires-3 : tie.Need-judged-requires-3 Inv-loop μ-loop
+judged-requires-3 c κs = tt
 
 returns-3 : tie.Need-returns-3 Inv-loop μ-loop
 returns-3 c =
@@ -69,8 +69,8 @@ inner-requires c κs = tt
 add-t24 : tie.Need-add-t24 Inv-loop μ-loop
 add-t24 c = omega arith
 
-given-requires-4 : tie.Need-given-requires-4 Inv-loop μ-loop
-given-requires-4 c κs = tt
+judged-requires-4 : tie.Need-judged-requires-4 Inv-loop μ-loop
+judged-requires-4 c κs = tt
 
 returns-4 : tie.Need-returns-4 Inv-loop μ-loop
 returns-4 c =
@@ -96,4 +96,4 @@ loop-again c =
 
 pub judge-sound-spec : {M : Type 1} → statement M
 judge-sound-spec =
-    tie.close (tie.spec Inv-loop μ-loop (λ c. search needs) read-field-requires (λ c. search needs) (λ c. search needs) add-t17 (λ c. search needs) add-t19 given-requires returns given-requires-2 returns-2 given-requires-3 returns-3 inner-requires (λ c. search needs) add-t24 given-requires-4 returns-4 (λ c. search needs) (λ c. search needs) add-count add-at loop-less loop-again)
+    tie.close (tie.spec Inv-loop μ-loop (λ c. search needs) read-field-requires (λ c. search needs) (λ c. search needs) add-t17 (λ c. search needs) add-t19 judged-requires returns judged-requires-2 returns-2 judged-requires-3 returns-3 inner-requires (λ c. search needs) add-t24 judged-requires-4 returns-4 (λ c. search needs) (λ c. search needs) add-count add-at loop-less loop-again)
