@@ -1,2 +1,2 @@
--- The tables of a configuration ("The parts, and how many").
+-- Document 01, "The parts, and how many": the tables of a configuration.
 pub mod Tables

@@ -52,7 +52,7 @@ pub fn judge(cfg: Config, st: State, s: &[u8], allowance: u32) -> Judged
     if sound::is_sound(cfg, st) {
         return judge_sound(cfg, st, s, allowance);
     }
-    judged(Verdict::Refused(0, 1), 0, st)
+    given(Verdict::Refused(0, 1), 0, st)
 }
 
 // The same from a state that is known to be sound: each field is taken apart before its step is tried, and no step tests the state again.
@@ -69,21 +69,21 @@ fn judge_sound(cfg: Config, st: State, s: &[u8], allowance: u32) -> Judged
             match f {
                 Field::Refused(k, past) => {
                     let place = count + 1 + past as usize;
-                    return judged(Verdict::Refused(place, k), count, reached);
+                    return given(Verdict::Refused(place, k), count, reached);
                 }
                 _ => {
-                    return judged(Verdict::Accepted, count, reached);
+                    return given(Verdict::Accepted, count, reached);
                 }
             }
         };
         if left == 0 {
-            return judged(Verdict::Unfinished, count, reached);
+            return given(Verdict::Unfinished, count, reached);
         }
         let r = machine::inner(cfg, reached, x);
         let a = r.answer;
         match a {
             Answer::Refused(k) => {
-                return judged(Verdict::Refused(count + 1, k), count, reached);
+                return given(Verdict::Refused(count + 1, k), count, reached);
             }
             Answer::Taken(_) => {
                 reached = r.state;
@@ -95,7 +95,7 @@ fn judge_sound(cfg: Config, st: State, s: &[u8], allowance: u32) -> Judged
     }
 }
 
-fn judged(verdict: Verdict, count: usize, st: State) -> Judged
+fn given(verdict: Verdict, count: usize, st: State) -> Judged
     ensures { λ r. ⌜ r ≡ judged verdict count st ⌝ }
 {
     Judged {

@@ -17,7 +17,7 @@ returns c =
 
 returns-2 : tie.Need-returns-2
 unfolding judgeOf
-returns-2 c = rw (c .judged .ensures, ← c .before .before .is-sound .ensures, c .before .if1 .left)
+returns-2 c = rw (c .given .ensures, ← c .before .before .is-sound .ensures, c .before .if1 .left)
 
 pub judge-spec : {M : Type 1} → statement M
 judge-spec =
