@@ -25,7 +25,7 @@ use Rattle.rules.specs.Sound.{soundOf}
 use Rattle.rules.specs.Refusals.{instanceRefusal, schedulerRefusal}
 use Rattle.rules.specs.Steps.{refused, took, requestsFull, called, callOf, closed, answers, handBackOf, timeoutOf, endOf, maySpawn, lowestEmpty, spawned, spawnOf}
 use Rattle.rules.specs.Step.{instanceActOf, schedulerActOf, instanceStepOf, schedulerStepOf, possibleOf, onAnswer, claimedOf, innerOf, stepOf}
-use Rattle.keep.proofs.Says.{Acting, readsVariable, writesVariable, enters, exits, reads, writes, asks, invalidates, receives, sends, calls, collects, handsBack, Scheduling, ticks, waits, acting, scheduling, Let, LetRun, let-told, run-told, says-call, says-hand-back, says-end, says-spawn, says-timeout}
+use Rattle.keep.proofs.Says.{Acting, readsVariable, writesVariable, enters, exits, reads, writes, updates, invalidates, receives, sends, calls, results, handsBack, Scheduling, ticks, waits, acting, scheduling, Let, LetRun, let-told, run-told, says-call, says-hand-back, says-end, says-spawn, says-timeout}
 use Rattle.keep.proofs.Says as says
 use Rattle.history.proofs.Passes as pass
 use Rattle.history.proofs.Deeds.{Quiet, Deed, emptied, finished, passes, starts, returns, lates, ends, serves, spawns, timesOut}
@@ -170,12 +170,12 @@ module _ (cfg : Config) (st : State) (s : Step) where
   deed-acting exits c z h = passes (pass.exit-alike st (s .who) (s .what)) (quiet s 4 c refl)
   deed-acting reads c z h = passes (pass.read-alike st (s .what)) (quiet s 5 c refl)
   deed-acting writes c z h = passes (pass.write-alike cfg st (s .what) (s .argument)) (quiet s 6 c refl)
-  deed-acting asks c z h = passes (pass.updated-alike st (s .what)) (quiet s 7 c refl)
+  deed-acting updates c z h = passes (pass.updated-alike st (s .what)) (quiet s 7 c refl)
   deed-acting invalidates c z h = passes (pass.invalidate-alike cfg st (s .what)) (quiet s 8 c refl)
   deed-acting receives c z h = passes (pass.receive-alike st (s .what)) (quiet s 9 c refl)
   deed-acting sends c z h = passes (pass.send-alike cfg st (s .what) (s .argument)) (quiet s 10 c refl)
   deed-acting calls c z h = deed-call c z h
-  deed-acting collects c z h = passes (pass.result-alike cfg st (s .who) (s .what)) (quiet s 12 c refl)
+  deed-acting results c z h = passes (pass.result-alike cfg st (s .who) (s .what)) (quiet s 12 c refl)
   deed-acting handsBack c z h = deed-back c z h
   deed-acting says.ends c z h = deed-end c z h
 
