@@ -1,7 +1,7 @@
 -- Judging the bytes is judging the list of the steps read from them: the steps that a verdict counts are accepted, one after the other, and lead to its state;
 -- an accepted text is a whole recording, and all of its steps are counted.
 -- Assumes nothing.
-use Prim.Native.Nat.{ℕ, zero, suc, _+_, _-_, _≤_, _<_}
+use Prim.Native.Nat.{ℕ, suc, _+_, _≤_, _<_}
 use mathlib.Core.Bool.{Bool, true, false}
 use mathlib.Core.List.{List, [], _∷_}
 use mathlib.Core.Path.{_≡_, refl, sym, ap, _∙_}
@@ -22,8 +22,7 @@ use Rattle.state.specs.declared.Stepped.{Stepped}
 use Rattle.rules.specs.Sound.{soundOf}
 use Rattle.rules.specs.Steps.{refused}
 use Rattle.rules.specs.Step.{claimedOf, possibleOf, innerOf, stepOf}
-use Rattle.recording.specs.declared.Field.{Field}
-use Rattle.recording.specs.declared.Field.the-variants.{Step as IsStep, End, Refused as NoField}
+use Rattle.recording.specs.declared.Field.the-variants.{Step as IsStep, End}
 use Rattle.recording.specs.Recording.{fieldOf}
 use Rattle.recording.specs.Whole.{Whole, stepsIn, isEnd, isSound}
 use Rattle.recording.proofs.Texts.{whole-step, whole-end}
@@ -31,7 +30,7 @@ use Rattle.judging.specs.declared.Verdict.{Verdict}
 use Rattle.judging.specs.declared.Verdict.the-variants.{Accepted, Refused, Unfinished}
 use Rattle.judging.specs.declared.Judged.{Judged}
 use Rattle.judging.specs.Judging.{judged, judgeFrom}
-use Rattle.judging.proofs.Laws.{ended, stopped, starved, barred, went}
+use Rattle.judging.proofs.Laws.{judged-each, unfinished-accepted, unfinished-refused, accepted-refused}
 use Rattle.history.specs.Promises.{Accepted as AllAccepted}
 use Rattle.history.proofs.Runs.{of-taken}
 
@@ -78,13 +77,13 @@ sound-end : (t : List ℕ) → fieldOf t ≡ End → isSound t ≡ true
 sound-end t e = ap (λ (w : Whole). isEnd (w .last)) (whole-end t e)
 
 -- one more accepted step in front
-one-accepted : (cfg : Config) (st : State) (s : Step) (v : Value) (rs l : List Step) (x y : State) → stepOf cfg st s .answer ≡ Taken v → AllAccepted cfg (stepOf cfg st s .state) rs y → l ≡ s ∷ rs → x ≡ y → AllAccepted cfg st l x
+one-accepted : (cfg : Config) (st : State) (s : Step) (v : Value) (rs l : List Step) (x : State) → stepOf cfg st s .answer ≡ Taken v → AllAccepted cfg (stepOf cfg st s .state) rs x → l ≡ s ∷ rs → AllAccepted cfg st l x
 unfolding AllAccepted
-one-accepted cfg st s v rs l x y q h e w = rw (e, w) (of-taken _ _ (taken-claims cfg st s v q), h)
+one-accepted cfg st s v rs l x q h e = rw e (of-taken _ _ (taken-claims cfg st s v q), h)
 
-none-accepted : (cfg : Config) (st : State) (l : List Step) (x : State) → l ≡ [] → x ≡ st → AllAccepted cfg st l x
+none-accepted : (cfg : Config) (st : State) (l : List Step) → l ≡ [] → AllAccepted cfg st l st
 unfolding AllAccepted
-none-accepted cfg st l x e w = rw e (sym w)
+none-accepted cfg st l e = rw e refl
 
 -- ---- what a verdict counts
 
@@ -96,45 +95,32 @@ module _ (cfg : Config) where
     pub there : steps ≤ length (stepsIn t)
     pub taken : AllAccepted cfg st (take steps (stepsIn t)) (j .state)
 
-  none-counted : (t : List ℕ) (n : ℕ) (st : State) (v : Verdict) (j : Judged) → j ≡ judged v n st → Counts t n st j
-  none-counted t n st v j e = record {
+  none-counted : (t : List ℕ) (n : ℕ) (st : State) (v : Verdict) → Counts t n st (judged v n st)
+  none-counted t n st v = record {
     steps = 0;
-    count = ap (λ (j : Judged). j .count) e ∙ omega arith;
+    count = omega arith;
     there = omega arith;
-    taken = none-accepted cfg st [] (j .state) refl (ap (λ (j : Judged). j .state) e);
+    taken = none-accepted cfg st [] refl;
   }
 
-  one-counted : (t : List ℕ) (n : ℕ) (st : State) (s : Step) (z : ℕ) (v : Value) (j j′ : Judged) → fieldOf t ≡ IsStep s z → stepOf cfg st s .answer ≡ Taken v → Counts (drop z t) (n + 1) (stepOf cfg st s .state) j′ → j ≡ j′ → Counts t n st j
-  one-counted t n st s z v j j′ e q c w = record {
+  one-counted : (t : List ℕ) (n : ℕ) (st : State) (s : Step) (z : ℕ) (v : Value) (j : Judged) → fieldOf t ≡ IsStep s z → stepOf cfg st s .answer ≡ Taken v → Counts (drop z t) (n + 1) (stepOf cfg st s .state) j → Counts t n st j
+  one-counted t n st s z v j e q c = record {
     steps = suc (c .steps);
-    count = ap (λ (j : Judged). j .count) w ∙ c .count ∙ omega arith;
+    count = omega (arith, c .count);
     there = omega (arith, c .there, ap length (steps-step t s z e));
-    taken = one-accepted cfg st s v (take (c .steps) (stepsIn (drop z t))) (take (suc (c .steps)) (stepsIn t)) (j .state) (j′ .state) q (c .taken) (ap (take (suc (c .steps))) (steps-step t s z e)) (ap (λ (j : Judged). j .state) w);
+    taken = one-accepted cfg st s v (take (c .steps) (stepsIn (drop z t))) (take (suc (c .steps)) (stepsIn t)) (j .state) q (c .taken) (ap (take (suc (c .steps))) (steps-step t s z e));
   }
 
   pub counted : (a : ℕ) (t : List ℕ) (n : ℕ) (st : State) → Counts t n st (judgeFrom (stepOf cfg) a t n st)
-  counted zero t n st = go (fieldOf t) refl
-    where
-      go : (x : Field) → fieldOf t ≡ x → Counts t n st (judgeFrom (stepOf cfg) 0 t n st)
-      go (IsStep s z) e = none-counted t n st Unfinished _ (starved (stepOf cfg) t n st e)
-      go End e = none-counted t n st Accepted _ (ended (stepOf cfg) t n st 0 e)
-      go (NoField k p) e = none-counted t n st (Refused (n + 1 + p) k) _ (stopped (stepOf cfg) t n st 0 e)
-  counted (suc a) t n st = go (fieldOf t) refl (λ z s. counted a (drop z t) (n + 1) (stepOf cfg st s .state))
-    where
-      Rest : Type 0
-      Rest = (z : ℕ) (s : Step) → Counts (drop z t) (n + 1) (stepOf cfg st s .state) (judgeFrom (stepOf cfg) a (drop z t) (n + 1) (stepOf cfg st s .state))
-
-      one : suc a - 1 ≡ a
-      one = omega arith
-
-      by : (s : Step) (z : ℕ) (x : Answer) → fieldOf t ≡ IsStep s z → stepOf cfg st s .answer ≡ x → Rest → Counts t n st (judgeFrom (stepOf cfg) (suc a) t n st)
-      by s z (Taken v) e q rest = one-counted t n st s z v _ _ e q (rest z s) (went (stepOf cfg) t n st (suc a) (λ c. omega (arith, c)) e refl q ∙ rw one)
-      by s z (Barred k) e q rest = none-counted t n st (Refused (n + 1) k) _ (barred (stepOf cfg) t n st (suc a) (λ c. omega (arith, c)) e refl q)
-
-      go : (x : Field) → fieldOf t ≡ x → Rest → Counts t n st (judgeFrom (stepOf cfg) (suc a) t n st)
-      go (IsStep s z) e rest = by s z (stepOf cfg st s .answer) e refl rest
-      go End e rest = none-counted t n st Accepted _ (ended (stepOf cfg) t n st (suc a) e)
-      go (NoField k p) e rest = none-counted t n st (Refused (n + 1 + p) k) _ (stopped (stepOf cfg) t n st (suc a) e)
+  counted =
+      judged-each (stepOf cfg) (λ a t n st j. Counts t n st j)
+      (record {
+        starved = λ t n st s z e. none-counted t n st Unfinished;
+        ended = λ a t n st e. none-counted t n st Accepted;
+        stopped = λ a t n st k p e. none-counted t n st (Refused (n + 1 + p) k);
+        barred = λ a t n st s z k e q. none-counted t n st (Refused (n + 1) k);
+        went = λ a. one-counted;
+      })
 
   -- an accepted text is a whole recording, and all its steps are counted
   pub record WholeCounted (t : List ℕ) (n : ℕ) (st : State) (j : Judged) : Type 0 where
@@ -142,81 +128,39 @@ module _ (cfg : Config) where
     pub count : j .count ≡ n + length (stepsIn t)
     pub taken : AllAccepted cfg st (stepsIn t) (j .state)
 
-  end-whole : (t : List ℕ) (n : ℕ) (st : State) (j : Judged) → fieldOf t ≡ End → j ≡ judged Accepted n st → WholeCounted t n st j
-  end-whole t n st j e w = record {
+  end-whole : (t : List ℕ) (n : ℕ) (st : State) → fieldOf t ≡ End → WholeCounted t n st (judged Accepted n st)
+  end-whole t n st e = record {
     whole = sound-end t e;
-    count = omega (arith, ap (λ (j : Judged). j .count) w, ap length (steps-end t e));
-    taken = none-accepted cfg st (stepsIn t) (j .state) (steps-end t e) (ap (λ (j : Judged). j .state) w);
+    count = omega (arith, ap length (steps-end t e));
+    taken = none-accepted cfg st (stepsIn t) (steps-end t e);
   }
 
-  step-whole : (t : List ℕ) (n : ℕ) (st : State) (s : Step) (z : ℕ) (v : Value) (j j′ : Judged) → fieldOf t ≡ IsStep s z → stepOf cfg st s .answer ≡ Taken v → WholeCounted (drop z t) (n + 1) (stepOf cfg st s .state) j′ → j ≡ j′ → WholeCounted t n st j
-  step-whole t n st s z v j j′ e q c w = record {
+  step-whole : (t : List ℕ) (n : ℕ) (st : State) (s : Step) (z : ℕ) (v : Value) (j : Judged) → fieldOf t ≡ IsStep s z → stepOf cfg st s .answer ≡ Taken v → WholeCounted (drop z t) (n + 1) (stepOf cfg st s .state) j → WholeCounted t n st j
+  step-whole t n st s z v j e q c = record {
     whole = sound-step t s z e ∙ c .whole;
-    count = omega (arith, ap (λ (j : Judged). j .count) w, c .count, ap length (steps-step t s z e));
-    taken = one-accepted cfg st s v (stepsIn (drop z t)) (stepsIn t) (j .state) (j′ .state) q (c .taken) (steps-step t s z e) (ap (λ (j : Judged). j .state) w);
+    count = omega (arith, c .count, ap length (steps-step t s z e));
+    taken = one-accepted cfg st s v (stepsIn (drop z t)) (stepsIn t) (j .state) q (c .taken) (steps-step t s z e);
   }
-
-  other : (v : Verdict) {k p : ℕ} → v ≡ Accepted → v ≡ Refused p k → ⊥
-  other v e q = let z : _≡_ {A = ℕ} 0 1 = cc in omega arith
-
-  not-both : (v : Verdict) {k p : ℕ} → v ≡ Unfinished → v ≡ Refused p k → ⊥
-  not-both v e q = let z : _≡_ {A = ℕ} 0 1 = cc in omega arith
-
-  left-over : (v : Verdict) → v ≡ Accepted → v ≡ Unfinished → ⊥
-  left-over v e q = let z : _≡_ {A = ℕ} 0 1 = cc in omega arith
 
   pub accepted-whole : (a : ℕ) (t : List ℕ) (n : ℕ) (st : State) → judgeFrom (stepOf cfg) a t n st .verdict ≡ Accepted → WholeCounted t n st (judgeFrom (stepOf cfg) a t n st)
-  accepted-whole zero t n st h = go (fieldOf t) refl
-    where
-      go : (x : Field) → fieldOf t ≡ x → WholeCounted t n st (judgeFrom (stepOf cfg) 0 t n st)
-      go (IsStep s z) e = absurd (left-over _ h (ap (λ (j : Judged). j .verdict) (starved (stepOf cfg) t n st e)))
-      go End e = end-whole t n st _ e (ended (stepOf cfg) t n st 0 e)
-      go (NoField k p) e = absurd (other _ h (ap (λ (j : Judged). j .verdict) (stopped (stepOf cfg) t n st 0 e)))
-  accepted-whole (suc a) t n st h = go (fieldOf t) refl (λ z s. accepted-whole a (drop z t) (n + 1) (stepOf cfg st s .state))
-    where
-      Rest : Type 0
-      Rest = (z : ℕ) (s : Step) → judgeFrom (stepOf cfg) a (drop z t) (n + 1) (stepOf cfg st s .state) .verdict ≡ Accepted
-          → WholeCounted (drop z t) (n + 1) (stepOf cfg st s .state) (judgeFrom (stepOf cfg) a (drop z t) (n + 1) (stepOf cfg st s .state))
-
-      one : suc a - 1 ≡ a
-      one = omega arith
-
-      by : (s : Step) (z : ℕ) (x : Answer) → fieldOf t ≡ IsStep s z → stepOf cfg st s .answer ≡ x → Rest → WholeCounted t n st (judgeFrom (stepOf cfg) (suc a) t n st)
-      by s z (Taken v) e q rest =
-          let w : judgeFrom (stepOf cfg) (suc a) t n st ≡ judgeFrom (stepOf cfg) a (drop z t) (n + 1) (stepOf cfg st s .state) = went (stepOf cfg) t n st (suc a) (λ c. omega (arith, c)) e refl q ∙ rw one in
-          step-whole t n st s z v _ _ e q (rest z s (sym (ap (λ (j : Judged). j .verdict) w) ∙ h)) w
-      by s z (Barred k) e q rest = absurd (other _ h (ap (λ (j : Judged). j .verdict) (barred (stepOf cfg) t n st (suc a) (λ c. omega (arith, c)) e refl q)))
-
-      go : (x : Field) → fieldOf t ≡ x → Rest → WholeCounted t n st (judgeFrom (stepOf cfg) (suc a) t n st)
-      go (IsStep s z) e rest = by s z (stepOf cfg st s .answer) e refl rest
-      go End e rest = end-whole t n st _ e (ended (stepOf cfg) t n st (suc a) e)
-      go (NoField k p) e rest = absurd (other _ h (ap (λ (j : Judged). j .verdict) (stopped (stepOf cfg) t n st (suc a) e)))
+  accepted-whole =
+      judged-each (stepOf cfg) (λ a t n st j. j .verdict ≡ Accepted → WholeCounted t n st j)
+      (record {
+        starved = λ t n st s z e h. absurd (unfinished-accepted h);
+        ended = λ a t n st e h. end-whole t n st e;
+        stopped = λ a t n st k p e h. absurd (accepted-refused (sym h));
+        barred = λ a t n st s z k e q h. absurd (accepted-refused (sym h));
+        went = λ a t n st s z v j e q rest h. step-whole t n st s z v j e q (rest h);
+      })
 
   -- an unfinished one leaves a step that was not tried
   pub unfinished-more : (a : ℕ) (t : List ℕ) (n : ℕ) (st : State) → judgeFrom (stepOf cfg) a t n st .verdict ≡ Unfinished → judgeFrom (stepOf cfg) a t n st .count < n + length (stepsIn t)
-  unfinished-more zero t n st h = go (fieldOf t) refl
-    where
-      go : (x : Field) → fieldOf t ≡ x → judgeFrom (stepOf cfg) 0 t n st .count < n + length (stepsIn t)
-      go (IsStep s z) e = omega (arith, ap (λ (j : Judged). j .count) (starved (stepOf cfg) t n st e), ap length (steps-step t s z e))
-      go End e = absurd (left-over _ (ap (λ (j : Judged). j .verdict) (ended (stepOf cfg) t n st 0 e)) h)
-      go (NoField k p) e = absurd (not-both _ h (ap (λ (j : Judged). j .verdict) (stopped (stepOf cfg) t n st 0 e)))
-  unfinished-more (suc a) t n st h = go (fieldOf t) refl (λ z s. unfinished-more a (drop z t) (n + 1) (stepOf cfg st s .state))
-    where
-      Rest : Type 0
-      Rest = (z : ℕ) (s : Step) → judgeFrom (stepOf cfg) a (drop z t) (n + 1) (stepOf cfg st s .state) .verdict ≡ Unfinished
-          → judgeFrom (stepOf cfg) a (drop z t) (n + 1) (stepOf cfg st s .state) .count < n + 1 + length (stepsIn (drop z t))
-
-      one : suc a - 1 ≡ a
-      one = omega arith
-
-      by : (s : Step) (z : ℕ) (x : Answer) → fieldOf t ≡ IsStep s z → stepOf cfg st s .answer ≡ x → Rest → judgeFrom (stepOf cfg) (suc a) t n st .count < n + length (stepsIn t)
-      by s z (Taken v) e q rest =
-          let w : judgeFrom (stepOf cfg) (suc a) t n st ≡ judgeFrom (stepOf cfg) a (drop z t) (n + 1) (stepOf cfg st s .state) = went (stepOf cfg) t n st (suc a) (λ c. omega (arith, c)) e refl q ∙ rw one in
-          let r = rest z s (sym (ap (λ (j : Judged). j .verdict) w) ∙ h) in
-          omega (arith, r, ap (λ (j : Judged). j .count) w, ap length (steps-step t s z e))
-      by s z (Barred k) e q rest = absurd (not-both _ h (ap (λ (j : Judged). j .verdict) (barred (stepOf cfg) t n st (suc a) (λ c. omega (arith, c)) e refl q)))
-
-      go : (x : Field) → fieldOf t ≡ x → Rest → judgeFrom (stepOf cfg) (suc a) t n st .count < n + length (stepsIn t)
-      go (IsStep s z) e rest = by s z (stepOf cfg st s .answer) e refl rest
-      go End e rest = absurd (left-over _ (ap (λ (j : Judged). j .verdict) (ended (stepOf cfg) t n st (suc a) e)) h)
-      go (NoField k p) e rest = absurd (not-both _ h (ap (λ (j : Judged). j .verdict) (stopped (stepOf cfg) t n st (suc a) e)))
+  unfinished-more =
+      judged-each (stepOf cfg) (λ a t n st j. j .verdict ≡ Unfinished → j .count < n + length (stepsIn t))
+      (record {
+        starved = λ t n st s z e h. omega (arith, ap length (steps-step t s z e));
+        ended = λ a t n st e h. absurd (unfinished-accepted (sym h));
+        stopped = λ a t n st k p e h. absurd (unfinished-refused (sym h));
+        barred = λ a t n st s z k e q h. absurd (unfinished-refused (sym h));
+        went = λ a t n st s z v j e q rest h. omega (arith, rest h, ap length (steps-step t s z e));
+      })

@@ -1,22 +1,20 @@
 -- What a refused verdict stops at: the first step that is refused, or the field at which the text ceases to be a recording.
 -- Assumes nothing.
-use Prim.Native.Nat.{ℕ, zero, suc, _+_, _-_}
+use Prim.Native.Nat.{ℕ, suc, _+_}
 use mathlib.Core.Bool.{Bool, true, false}
 use mathlib.Core.List.{List}
-use mathlib.Core.Path.{_≡_, refl, sym, ap, _∙_, subst}
+use mathlib.Core.Path.{_≡_, refl, ap, _∙_}
 use native.Mathlib.Omega.{arith}
 use lib.ListN.{length, drop}
 use Rattle.laws.proofs.Choosing.{clash}
 use Rattle.values.specs.declared.Step.{Step}
-use Rattle.values.specs.declared.Answer.{Answer}
-use Rattle.values.specs.declared.Answer.the-variants.{Taken, Refused as Barred}
+use Rattle.values.specs.declared.Answer.the-variants.{Refused as Barred}
 use Rattle.values.specs.Values.{refusalIn}
 use Rattle.config.specs.declared.Config.{Config}
 use Rattle.state.specs.declared.State.{State}
 use Rattle.rules.specs.Step.{stepOf}
 use Rattle.keep.proofs.Refusals.{never-zero}
-use Rattle.recording.specs.declared.Field.{Field}
-use Rattle.recording.specs.declared.Field.the-variants.{Step as IsStep, End, Refused as NoField}
+use Rattle.recording.specs.declared.Field.the-variants.{Step as IsStep, Refused as NoField}
 use Rattle.recording.specs.Recording.{fieldOf, refusalIn as Field·refusalIn, pastIn}
 use Rattle.recording.specs.Whole.{Whole}
 use Rattle.recording.proofs.OneField.{refused-18}
@@ -25,7 +23,7 @@ use Rattle.judging.specs.declared.Verdict.{Verdict}
 use Rattle.judging.specs.declared.Verdict.the-variants.{Accepted, Refused, Unfinished}
 use Rattle.judging.specs.declared.Judged.{Judged}
 use Rattle.judging.specs.Judging.{refusalIn as Verdict·refusalIn, placeIn, judged, judgeFrom}
-use Rattle.judging.proofs.Laws.{ended, stopped, starved, barred, went}
+use Rattle.judging.proofs.Laws.{judged-each}
 use Rattle.promises.specs.Claims.{Stops, atStep, atField}
 use Rattle.promises.proofs.Counted.{steps-step}
 
@@ -82,33 +80,13 @@ module _ (cfg : Config) where
     stops = atStep s _ (steps-step t s z e) (omega arith) (ap refusalIn q) (never-zero cfg st s k q);
   }
 
-  -- a verdict that equals one that does not refuse
-  none : (j j′ : Judged) → j ≡ j′ → refuses (j′ .verdict) ≡ false → refuses (j .verdict) ≡ true → ⊥
-  none j j′ e z h = clash (refuses (j .verdict)) h (ap (λ (x : Judged). refuses (x .verdict)) e ∙ z)
-
   pub stopped-at : (a : ℕ) (t : List ℕ) (n : ℕ) (st : State) → refuses (judgeFrom (stepOf cfg) a t n st .verdict) ≡ true → StopsFrom t n (judgeFrom (stepOf cfg) a t n st)
-  stopped-at zero t n st h = go (fieldOf t) refl
-    where
-      go : (x : Field) → fieldOf t ≡ x → StopsFrom t n (judgeFrom (stepOf cfg) 0 t n st)
-      go (IsStep s z) e = absurd (none _ _ (starved (stepOf cfg) t n st e) refl h)
-      go End e = absurd (none _ _ (ended (stepOf cfg) t n st 0 e) refl h)
-      go (NoField k p) e = subst (StopsFrom t n) (sym (stopped (stepOf cfg) t n st 0 e)) (field-stops t n st k p e)
-  stopped-at (suc a) t n st h = go (fieldOf t) refl (λ z s. stopped-at a (drop z t) (n + 1) (stepOf cfg st s .state))
-    where
-      Rest : Type 0
-      Rest = (z : ℕ) (s : Step) → refuses (judgeFrom (stepOf cfg) a (drop z t) (n + 1) (stepOf cfg st s .state) .verdict) ≡ true
-          → StopsFrom (drop z t) (n + 1) (judgeFrom (stepOf cfg) a (drop z t) (n + 1) (stepOf cfg st s .state))
-
-      one : suc a - 1 ≡ a
-      one = omega arith
-
-      by : (s : Step) (z : ℕ) (x : Answer) → fieldOf t ≡ IsStep s z → stepOf cfg st s .answer ≡ x → Rest → StopsFrom t n (judgeFrom (stepOf cfg) (suc a) t n st)
-      by s z (Taken v) e q rest =
-          let w : judgeFrom (stepOf cfg) (suc a) t n st ≡ judgeFrom (stepOf cfg) a (drop z t) (n + 1) (stepOf cfg st s .state) = went (stepOf cfg) t n st (suc a) (λ c. omega (arith, c)) e refl q ∙ rw one in
-          subst (StopsFrom t n) (sym w) (one-further t n s z _ e (rest z s (sym (ap (λ (x : Judged). refuses (x .verdict)) w) ∙ h)))
-      by s z (Barred k) e q rest = subst (StopsFrom t n) (sym (barred (stepOf cfg) t n st (suc a) (λ c. omega (arith, c)) e refl q)) (step-stops t n st s z k e q)
-
-      go : (x : Field) → fieldOf t ≡ x → Rest → StopsFrom t n (judgeFrom (stepOf cfg) (suc a) t n st)
-      go (IsStep s z) e rest = by s z (stepOf cfg st s .answer) e refl rest
-      go End e rest = absurd (none _ _ (ended (stepOf cfg) t n st (suc a) e) refl h)
-      go (NoField k p) e rest = subst (StopsFrom t n) (sym (stopped (stepOf cfg) t n st (suc a) e)) (field-stops t n st k p e)
+  stopped-at =
+      judged-each (stepOf cfg) (λ a t n st j. refuses (j .verdict) ≡ true → StopsFrom t n j)
+      (record {
+        starved = λ t n st s z e h. absurd (clash false h refl);
+        ended = λ a t n st e h. absurd (clash false h refl);
+        stopped = λ a t n st k p e h. field-stops t n st k p e;
+        barred = λ a t n st s z k e q h. step-stops t n st s z k e q;
+        went = λ a t n st s z v j e q rest h. one-further t n s z j e (rest h);
+      })
