@@ -15,11 +15,11 @@ use lib.ListN.{length, getD, set, length-set}
 use borrow.Author.Tests.{eq-eqb, ne-eqb}
 use Rattle.laws.specs.Choice.{bit}
 use Rattle.laws.proofs.Choosing.{clash, bit-most}
-use Rattle.laws.proofs.Places.{inside-of}
 use Rattle.state.specs.declared.Operation.{Operation}
 use Rattle.state.specs.declared.Operations.{Operations}
 use Rattle.state.specs.Parts.{noOperation}
 use Rattle.state.specs.Tables.{operationIn, withOperation}
+use Rattle.keep.proofs.Clients.{calling-inside}
 use Rattle.history.specs.History.{How, Ending, endsOf, lastOn, Proper}
 use Rattle.history.proofs.Beside.{set-each, set-both}
 use Rattle.history.proofs.Tied.{given, delivered, endedCall, AllProper, Calls}
@@ -43,11 +43,6 @@ unfolding AllProper
 proper-more e es b p h = ((b, p), h)
 
 -- ---- an operation replaced
-
--- a Calling operation is one of the table
-pub calling-inside : (os : Operations) (o : ℕ) → operationIn os o .calling ≡ true → o < length (os .at)
-unfolding operationIn
-calling-inside os o e = inside-of (λ y. y .calling ≡ true) (os .at) o noOperation (λ z. clash false z refl) e
 
 pub operation-each : (P : ℕ → Operation → Type 0) (os : Operations) (o : ℕ) (x : Operation) → o < length (os .at) → P o x → ((j : ℕ) → (j ≡ o → ⊥) → P j (operationIn os j)) → (j : ℕ)
     → P j (operationIn (withOperation os o x) j)

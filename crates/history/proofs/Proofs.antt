@@ -17,11 +17,11 @@ use Rattle.state.specs.declared.Stepped.{Stepped}
 use Rattle.state.specs.Start.{startOf}
 use Rattle.state.specs.Tables.{operationIn}
 use Rattle.keep.proofs.Configured.{runnables-most, server-there}
+use Rattle.keep.proofs.Clients.{requests-told}
 use Rattle.history.specs.History.{noRequest, History, historyOf, takenBy, allQueued, allSpawns}
 use Rattle.history.specs.Promises.{StaysSound, TakenHasOne, FreeHasNone, RequestsFit, ValuesFit, EndsOnce, EndsProperly, TimeoutAtZero, NumberIsFinal, DoneIsFinal, OpenIsUnended, LatestStarted, QueuesFollowed, FirstInFirstOut, SpawnTakesNext}
 use Rattle.history.proofs.Tied.{Tied}
 use Rattle.history.proofs.Runs.{halves, first, history-one}
-use Rattle.history.proofs.Ties.{requests-told}
 use Rattle.history.proofs.Accepts.{accepted, deed}
 use Rattle.history.proofs.Named.{started-at, proper-at}
 use Rattle.history.proofs.Reached.{sound-along, sound-at, tied-at, named-at, fifo-at, ends-grow}

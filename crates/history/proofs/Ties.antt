@@ -8,12 +8,10 @@ use mathlib.Core.Bool.{true, false}
 use mathlib.Core.List.{List}
 use mathlib.Core.Path.{_≡_, refl, sym}
 use native.Mathlib.Omega.{arith}
-use lib.Dec.{leb, eqb}
+use lib.Dec.{eqb}
 use lib.ListN.{length, getD, set}
-use borrow.Author.Tests.{leb-true, eqb-true}
-use Rattle.laws.proofs.Choosing.{clash, both-left, both-right, all-told}
-use Rattle.laws.proofs.Looping.{all-at}
-use Rattle.laws.proofs.Places.{filled-length}
+use borrow.Author.Tests.{eqb-true}
+use Rattle.laws.proofs.Choosing.{clash, both-left, both-right}
 use Rattle.values.specs.declared.Value.{Value}
 use Rattle.values.specs.Values.{timeoutV}
 use Rattle.config.specs.declared.Config.{Config}
@@ -24,29 +22,19 @@ use Rattle.state.specs.declared.Operations.{Operations}
 use Rattle.state.specs.declared.Runnable.{Runnable}
 use Rattle.state.specs.declared.Slot.{Slot}
 use Rattle.state.specs.declared.State.{State}
-use Rattle.state.specs.Parts.{noClient, noOwed, noSlot, maxRequests}
+use Rattle.state.specs.Parts.{noOwed, noSlot}
 use Rattle.state.specs.Tables.{runnableIn, operationIn, slotIn, withRunnable, withOperation, withSlot, withRunnables, withSlots}
-use Rattle.rules.specs.Sound.{isNoClient, clientFits, requestsSound, runnableSound, runnablesSound}
 use Rattle.rules.specs.Steps.{opening, asking, called, closing, closed, answers, finishing, leaving, starting, fresh, instanceOf, spawned}
 use Rattle.keep.specs.Facts.{Sound, CanCall, CanHandBack, CanEnd, CanTimeout}
 use Rattle.keep.proofs.Configured.{runnables-most, operations-most, capacity-most, operation-there}
 use Rattle.keep.proofs.Told.{runnables-length, operations-length, slots-length}
 use Rattle.keep.proofs.Kept.{runnable-kept, slot-kept, returned-kept, caller-kept, slot-inside}
+use Rattle.keep.proofs.Clients.{requests-told, calling-inside}
 use Rattle.history.specs.History.{Request, noRequest, How, byTimeout, byInstance, History, passed, begins, closes, takes, takesOldest, takenBy, latestOn, queuedAt, Proper}
 use Rattle.history.proofs.Tied.{given, Tag, Tied, queues-alike, served-alike, calls-alike, tied-alike}
-use Rattle.history.proofs.Calls.{calling-inside, calls-close, calls-start}
+use Rattle.history.proofs.Calls.{calls-close, calls-start}
 use Rattle.history.proofs.Tags.{serving-inside, queued-inside, tag-new, queues-close, served-close, queues-open, served-open, queues-push, queues-pop, oldest-tag, served-put, served-idle}
 use Rattle.history.proofs.Passes.{same-calls, alike-same}
-
--- the requests of a runnable keep to its capacity, in an array of sixteen
-pub requests-told : (cfg : Config) (st : State) (r : ℕ) → Sound cfg st → r < 16
-    → (runnableIn (st .runnables) r .requests .queued ≤ runnableConfIn (cfg .runnables) r .capacity) × (length (runnableIn (st .runnables) r .requests .at) ≡ 16)
-unfolding runnablesSound runnableSound requestsSound
-requests-told cfg st r s b =
-    let t = all-told _ (all-at (λ (r : ℕ). runnableSound cfg r (runnableIn (st .runnables) r)) 16 (s .runnables) r b) in
-    let q = t .1 .1 .1 .0 in
-    let fits = leb (runnableIn (st .runnables) r .requests .queued) (runnableConfIn (cfg .runnables) r .capacity) in
-    (leb-true _ _ (both-left fits _ q), filled-length (clientFits cfg r) isNoClient noClient maxRequests _ _ (both-right fits _ q))
 
 -- ---- a call starts
 

@@ -7,13 +7,12 @@ use mathlib.Core.Path.{_≡_, refl, sym, _∙_, ap}
 use native.Mathlib.Decide.{ℕ-discrete, decLt, decLe}
 use native.Mathlib.Omega.{arith}
 use lib.Dec.{ltb, leb, eqb}
-use lib.ListN.{length, getD}
+use lib.ListN.{length}
 use lib.Seq.{getD-set-same, getD-set-other}
 use borrow.Author.Tests.{lt-ltb, le-ltb, eq-eqb, ne-eqb, eqb-true, eqb-false, leb-true, ltb-true, not-true}
 use Rattle.laws.specs.Choice.{pick, both, either, bit}
-use Rattle.laws.specs.Loop.{sumBelow}
-use Rattle.laws.proofs.Choosing.{clash, all-told, pick-has, both-left, both-right, both-make, both-no, bit-most}
-use Rattle.laws.proofs.Looping.{all-at, sum-same, sum-term, sum-find}
+use Rattle.laws.proofs.Choosing.{clash, all-told, pick-has, both-left, both-right, both-no, bit-most}
+use Rattle.laws.proofs.Looping.{all-at, sum-same}
 use Rattle.laws.proofs.Places.{inside-of, sum-put, sum-push, sum-shift, filled-length}
 use Rattle.values.specs.declared.Value.{Value}
 use Rattle.values.specs.Values.{timeoutV}
@@ -37,7 +36,7 @@ use Rattle.rules.specs.Sound.{isNoClient, clientFits, requestsSound, runnableSo
 use Rattle.rules.specs.Steps.{entering, exiting, woken, fedRunnables, opening, asking, callerAfter, runningOn, closing, returnedRunnables, answers, finishing, leaving, isDue, starting, fresh, instanceOf, lowestEmpty, operationAfter, operationsAfter, runnablesAfter}
 use Rattle.keep.specs.Facts.{Clients, Sound, CanEnter, CanExit, CanFeed, CanCall, CanCollect, CanHandBack, CanEnd, CanSpawn, CanTimeout, CanTick, CanWait}
 use Rattle.keep.proofs.Configured.{runnables-most, operations-most, capacity-most, operation-there}
-use Rattle.keep.proofs.Told.{runnables-length, operations-length, slots-length}
+use Rattle.keep.proofs.Told.{runnables-length, operations-length, slots-length, is-client, own-client, client-there, queued-counts, served-counts}
 use Rattle.keep.proofs.Kept.{here, lowest-empty, runnable-kept, slot-kept, fed-kept, returned-kept, after-kept, waited-kept, caller-kept}
 
 -- ---- clients as a tally
@@ -64,15 +63,7 @@ below-fits b m k h = go (decLt m k) b refl
     go (no n) true e = rw (le-ltb m k (omega (arith, n)), e) (eq-eqb m k (omega (arith, n, rw e at h)))
     go (no n) false e = absurd (omega (arith, n, rw e at h))
 
--- a client counts for its own operation and number, and for no others
-is-client : (o m : ℕ) (c : Client) → isClient o m c ≡ true → (c .operation ≡ o) × (c .number ≡ m)
-unfolding isClient
-is-client o m c h = (eqb-true _ _ (both-left (eqb (c .operation) o) (eqb (c .number) m) h), eqb-true _ _ (both-right (eqb (c .operation) o) (eqb (c .number) m) h))
-
-own-client : (o m : ℕ) (c : Client) → c .operation ≡ o → c .number ≡ m → isClient o m c ≡ true
-unfolding isClient
-own-client o m c e f = both-make _ _ (eq-eqb _ _ e) (eq-eqb _ _ f)
-
+-- a client counts for no other operation or number than its own
 other-operation : (o m : ℕ) (c : Client) → (c .operation ≡ o → ⊥) → isClient o m c ≡ false
 unfolding isClient
 other-operation o m c n = rw (ne-eqb _ _ n)
@@ -80,10 +71,6 @@ other-operation o m c n = rw (ne-eqb _ _ n)
 other-number : (o m : ℕ) (c : Client) → (c .number ≡ m → ⊥) → isClient o m c ≡ false
 unfolding isClient
 other-number o m c n = both-no (eqb (c .operation) o) _ (ne-eqb _ _ n)
-
-bit-on : (b : Bool) → 1 ≤ bit b → b ≡ true
-bit-on true h = refl
-bit-on false h = absurd (omega arith)
 
 module _ (os : Operations) (rs : Runnables) (ss : Slots) where
   numbered-below : (o m : ℕ) (c : Client) → numbered os c ≡ true → isClient o m c ≡ true → m < operationIn os o .number + bit (operationIn os o .calling)
@@ -93,51 +80,21 @@ module _ (os : Operations) (rs : Runnables) (ss : Slots) where
       rw (e .0, e .1) at (fits-below (operationIn os (c .operation) .calling) (c .number) (operationIn os (c .operation) .number) h)
 
   pub clients-tallied : Clients os rs ss → Tallied os (clientsAs rs ss)
-  unfolding clientsAs queuedAs servedAs
   clients-tallied h = record {
     single = h .single;
-    below = λ o m l. go o m l (decLe 1 (queues o m));
+    below = λ o m. client-there rs ss o m (λ r b j c. numbered-below o m _ (h .queued r b j c)) (λ k b e. numbered-below o m _ (h .served k b e));
     called = h .called;
   }
-    where
-      queues : ℕ → ℕ → ℕ
-      queues o m = sumBelow (λ (r : ℕ). queuedAs o m (runnableIn rs r .requests)) maxRunnableConfs
-
-      go : (o m : ℕ) → 1 ≤ clientsAs rs ss o m → Dec (1 ≤ queues o m) → m < operationIn os o .number + bit (operationIn os o .calling)
-      go o m l (yes q) =
-          let f = sum-find (λ (r : ℕ). queuedAs o m (runnableIn rs r .requests)) maxRunnableConfs q in
-          let x = runnableIn rs (f .0) .requests in
-          let g = sum-find (λ (j : ℕ). bit (isClient o m (getD (x .at) j noClient))) (x .queued) (f .2) in
-          numbered-below o m (getD (x .at) (g .0) noClient) (h .queued (f .0) (f .1) (g .0) (g .1)) (bit-on _ (g .2))
-      go o m l (no n) =
-          let f = sum-find (λ (k : ℕ). servedAs o m (slotIn ss k .owed)) maxSlots (omega (arith, l, n)) in
-          let w = slotIn ss (f .0) .owed in
-          let b = bit-on (both (w .serving) (isClient o m (w .client))) (f .2) in
-          numbered-below o m (w .client) (h .served (f .0) (f .1) (both-left (w .serving) _ b)) (both-right (w .serving) _ b)
 
   below-numbered : Tallied os (clientsAs rs ss) → (c : Client) → 1 ≤ clientsAs rs ss (c .operation) (c .number) → numbered os c ≡ true
   unfolding numbered
   below-numbered h c l = below-fits (operationIn os (c .operation) .calling) (c .number) (operationIn os (c .operation) .number) (h .below (c .operation) (c .number) l)
 
   pub tallied-clients : Tallied os (clientsAs rs ss) → Clients os rs ss
-  unfolding clientsAs queuedAs servedAs
   tallied-clients h = record {
     single = h .single;
-    queued = λ r l j b. let c = getD (runnableIn rs r .requests .at) j noClient in
-        below-numbered h c
-        (omega (
-          arith,
-          sum-term (λ (r : ℕ). queuedAs (c .operation) (c .number) (runnableIn rs r .requests)) r maxRunnableConfs l,
-          sum-term (λ (j : ℕ). bit (isClient (c .operation) (c .number) (getD (runnableIn rs r .requests .at) j noClient))) j (runnableIn rs r .requests .queued) b,
-          ap bit (own-client (c .operation) (c .number) c refl refl),
-        ));
-    served = λ k l e. let c = slotIn ss k .owed .client in
-        below-numbered h c
-        (omega (
-          arith,
-          sum-term (λ (k : ℕ). servedAs (c .operation) (c .number) (slotIn ss k .owed)) k maxSlots l,
-          ap bit (both-make (slotIn ss k .owed .serving) (isClient (c .operation) (c .number) c) e (own-client (c .operation) (c .number) c refl refl)),
-        ));
+    queued = λ r l j b. below-numbered h _ (queued-counts rs ss r j l b);
+    served = λ k l e. below-numbered h _ (served-counts rs ss k l e);
     called = h .called;
   }
 
@@ -284,22 +241,17 @@ clients-runnables os rs rs′ ss e h = clients-kept os os rs rs′ ss ss (λ o. 
 
 -- ---- what a sound state tells of a queue, an open call and an empty slot
 
-record Asked (q : Requests) : Type 0 where
-  most : q .queued ≤ maxRequests
-  long : length (q .at) ≡ maxRequests
-
-asked-at : (cfg : Config) (st : State) (r : ℕ) → Sound cfg st → r < maxRunnableConfs → Asked (runnableIn (st .runnables) r .requests)
+-- the requests of a runnable keep to its capacity, in an array of sixteen
+pub requests-told : (cfg : Config) (st : State) (r : ℕ) → Sound cfg st → r < maxRunnableConfs
+    → (runnableIn (st .runnables) r .requests .queued ≤ runnableConfIn (cfg .runnables) r .capacity) × (length (runnableIn (st .runnables) r .requests .at) ≡ maxRequests)
 unfolding runnablesSound runnableSound requestsSound
-asked-at cfg st r s b =
-    let q = runnableIn (st .runnables) r .requests in
+requests-told cfg st r s b =
     let t = all-told _ (all-at (λ (r : ℕ). runnableSound cfg r (runnableIn (st .runnables) r)) maxRunnableConfs (s .runnables) r b) .1 .1 .1 .0 in
-    record {
-      most = omega (arith, leb-true (q .queued) (runnableConfIn (cfg .runnables) r .capacity) (both-left (leb (q .queued) (runnableConfIn (cfg .runnables) r .capacity)) _ t), capacity-most cfg (s .config) r);
-      long = filled-length (clientFits cfg r) isNoClient noClient maxRequests (q .queued) (q .at) (both-right (leb (q .queued) (runnableConfIn (cfg .runnables) r .capacity)) _ t);
-    }
+    let fits = leb (runnableIn (st .runnables) r .requests .queued) (runnableConfIn (cfg .runnables) r .capacity) in
+    (leb-true _ _ (both-left fits _ t), filled-length (clientFits cfg r) isNoClient noClient maxRequests _ _ (both-right fits _ t))
 
 -- an operation that is Calling is one of the table, and its number has one above it
-calling-inside : (os : Operations) (o : ℕ) → operationIn os o .calling ≡ true → o < length (os .at)
+pub calling-inside : (os : Operations) (o : ℕ) → operationIn os o .calling ≡ true → o < length (os .at)
 unfolding operationIn
 calling-inside os o h = inside-of (λ y. y .calling ≡ true) (os .at) o noOperation (λ e. clash false e refl) h
 
@@ -359,7 +311,7 @@ call-keeps-clients cfg st i o v s z =
     room = omega (arith, z .room, capacity-most cfg (s .config) r)
 
     more : (k m : ℕ) → queuedAs k m (pushRequest (x .requests) c) ≡ queuedAs k m (x .requests) + bit (isClient k m c)
-    more k m = asked k m (x .requests) c (omega (arith, room, asked-at cfg st r s b .long)) room
+    more k m = asked k m (x .requests) c (omega (arith, room, requests-told cfg st r s b .1)) room
 
 pub collect-keeps-clients : (cfg : Config) (st : State) (i o : ℕ) → Sound cfg st → CanCollect cfg st i o → Clients (st .operations) (st .runnables) (withSlot (st .slots) i (runningOn (slotIn (st .slots) i)))
 collect-keeps-clients cfg st i o s z = clients-slot (st .operations) (st .runnables) (st .slots) i (runningOn (slotIn (st .slots) i)) refl (s .clients)
@@ -462,12 +414,12 @@ spawn-keeps-clients cfg st r s z = go (eqb (c .capacity) 0) refl
     -- the oldest request goes from the queue to the slot
     moved : (y : Runnable) → y .requests ≡ restRequests (x .requests) → 0 < x .requests .queued → (o m : ℕ) → clientsAs (withRunnable (st .runnables) r y) (withSlot (st .slots) k (fresh r w)) o m ≡ clientsAs (st .runnables) (st .slots) o m
     moved y e p o m =
-        let q = asked-at cfg st r s b in
+        let q = requests-told cfg st r s b in
         omega (
           arith,
           served-put (withRunnable (st .runnables) r y) (st .slots) o m k (fresh r w) (z .slot) (omega (arith, z .slot, slots-length cfg st s)),
           queued-put (st .runnables) (st .slots) o m r y b (omega (arith, b, runnables-length cfg st s)),
-          taken o m (x .requests) p (omega (arith, q .most, q .long)),
+          taken o m (x .requests) p (omega (arith, q .0, capacity-most cfg (s .config) r, q .1)),
           ap (queuedAs o m) e,
           idle o m (slotIn (st .slots) k .owed) free,
           busy o m w refl,

@@ -36,6 +36,11 @@ use Rattle.keep.proofs.Slots.{blank-slot}
 same-all : {A : Type 0} (p : ℕ → A → Bool) (m : ℕ) (x : A) → ((k : ℕ) → p k x ≡ true) → allBelow (λ (k : ℕ). p k (getD (replicate m x) k x)) m ≡ true
 same-all p m x h = all-of (λ (k : ℕ). p k (getD (replicate m x) k x)) m (λ k l. rw (getD-replicate m k x x l) (h k))
 
+-- a choice between true and true
+either-way : (b : Bool) → pick b true true ≡ true
+either-way true = refl
+either-way false = refl
+
 module _ (cfg : Config) (h : configSound cfg ≡ true) where
   -- ---- runnables
 
@@ -78,12 +83,8 @@ module _ (cfg : Config) (h : configSound cfg ≡ true) where
   unfolding variablesSound variableSound variableIn startVariables startVariable noVariables isPayload isVoid
   start-variables =
       all-each (λ (k : ℕ) (x : Variable). startVariable (variableConfIn (cfg .variables) k)) noVariable (λ v y. variableSound cfg v y) (cfg .variables .n) maxVariableConfs (replicate maxVariableConfs noVariable)
-      (same-all (λ v y. variableSound cfg v y) maxVariableConfs noVariable (λ v. blank (ltb v (cfg .variables .n))))
+      (same-all (λ v y. variableSound cfg v y) maxVariableConfs noVariable (λ v. either-way (ltb v (cfg .variables .n))))
       (λ v b c q. rw (lt-ltb v (cfg .variables .n) c) (pick-has (λ y. isPayload (y .value) ≡ true) (variableConfIn (cfg .variables) v .initialed) (record { value = numberV (variableConfIn (cfg .variables) v .initial) }) noVariable (λ e. refl) (λ e. refl)))
-    where
-      blank : (b : Bool) → pick b true true ≡ true
-      blank true = refl
-      blank false = refl
 
   -- ---- elements
 
@@ -94,10 +95,6 @@ module _ (cfg : Config) (h : configSound cfg ≡ true) where
   blank-element : (q : ℕ) → elementSound cfg q noElement ≡ true
   unfolding elementSound noElement isStored isPayload isVoid
   blank-element q = both-make _ _ (either-way (both (ltb q (cfg .required .n)) (eqb (requiredConfIn (cfg .required) q .capacity) 0))) (no-values-sound (requiredConfIn (cfg .required) q .capacity))
-    where
-      either-way : (b : Bool) → pick b true true ≡ true
-      either-way true = refl
-      either-way false = refl
 
   -- an unqueued one that is there holds NeverReceived
   never-received : (q : ℕ) → q < cfg .required .n → eqb (requiredConfIn (cfg .required) q .capacity) 0 ≡ true → elementSound cfg q (record { value = neverReceivedV; updated = false; queue = noValues }) ≡ true
@@ -119,11 +116,7 @@ module _ (cfg : Config) (h : configSound cfg ≡ true) where
 
   start-operations : operationsSound cfg noOperations ≡ true
   unfolding operationsSound operationSound operationIn doneSound isOutcome isPayload isVoid noOperations
-  start-operations = same-all (λ o y. operationSound cfg o y) maxOperationConfs noOperation (λ o. blank (ltb o (cfg .operations .n)))
-    where
-      blank : (b : Bool) → pick b true true ≡ true
-      blank true = refl
-      blank false = refl
+  start-operations = same-all (λ o y. operationSound cfg o y) maxOperationConfs noOperation (λ o. either-way (ltb o (cfg .operations .n)))
 
   start-timers : timersSound cfg noTimers ≡ true
   unfolding timersSound timerSound timerIn noTimers

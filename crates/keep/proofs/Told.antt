@@ -101,17 +101,60 @@ module _ (cfg : Config) (t : Areas) (ss : Slots) where
 -- ---- clients
 
 -- one that counts for o and m is of that operation and number
-is-client : (o m : ℕ) (c : Client) → isClient o m c ≡ true → (c .operation ≡ o) × (c .number ≡ m)
+pub is-client : (o m : ℕ) (c : Client) → isClient o m c ≡ true → (c .operation ≡ o) × (c .number ≡ m)
 unfolding isClient
 is-client o m c h = (eqb-true _ _ (both-left (eqb (c .operation) o) (eqb (c .number) m) h), eqb-true _ _ (both-right (eqb (c .operation) o) (eqb (c .number) m) h))
 
-own-client : (c : Client) → isClient (c .operation) (c .number) c ≡ true
+pub own-client : (o m : ℕ) (c : Client) → c .operation ≡ o → c .number ≡ m → isClient o m c ≡ true
 unfolding isClient
-own-client c = both-make _ _ (eq-eqb (c .operation) (c .operation) refl) (eq-eqb (c .number) (c .number) refl)
+own-client o m c e f = both-make _ _ (eq-eqb _ _ e) (eq-eqb _ _ f)
 
 bit-on : (b : Bool) → 1 ≤ bit b → b ≡ true
 bit-on true h = refl
 bit-on false h = absurd (omega arith)
+
+module _ (rs : Runnables) (ss : Slots) where
+  -- a pair that counts is that of a client that is there, in a queue or in a slot
+  pub client-there : {Q : Type 0} (o m : ℕ)
+      → ((r : ℕ) → r < maxRunnableConfs → (j : ℕ) → j < runnableIn rs r .requests .queued → isClient o m (getD (runnableIn rs r .requests .at) j noClient) ≡ true → Q)
+      → ((k : ℕ) → k < maxSlots → slotIn ss k .owed .serving ≡ true → isClient o m (slotIn ss k .owed .client) ≡ true → Q)
+      → 1 ≤ clientsAs rs ss o m → Q
+  unfolding clientsAs queuedAs servedAs
+  client-there {Q} o m f g l = go (decLe 1 (sumBelow (λ (r : ℕ). queuedAs o m (runnableIn rs r .requests)) maxRunnableConfs))
+    where
+      go : Dec (1 ≤ sumBelow (λ (r : ℕ). queuedAs o m (runnableIn rs r .requests)) maxRunnableConfs) → Q
+      go (yes h) =
+          let x = sum-find (λ (r : ℕ). queuedAs o m (runnableIn rs r .requests)) maxRunnableConfs h in
+          let q = runnableIn rs (x .0) .requests in
+          let y = sum-find (λ (j : ℕ). bit (isClient o m (getD (q .at) j noClient))) (q .queued) (x .2) in
+          f (x .0) (x .1) (y .0) (y .1) (bit-on _ (y .2))
+      go (no n) =
+          let x = sum-find (λ (k : ℕ). servedAs o m (slotIn ss k .owed)) maxSlots (omega (arith, l, n)) in
+          let w = slotIn ss (x .0) .owed in
+          let b = bit-on (both (w .serving) (isClient o m (w .client))) (x .2) in
+          g (x .0) (x .1) (both-left (w .serving) _ b) (both-right (w .serving) _ b)
+
+  -- a client that is there counts for its own operation and number
+  pub queued-counts : (r j : ℕ) → r < maxRunnableConfs → j < runnableIn rs r .requests .queued → 1 ≤ clientsAs rs ss (getD (runnableIn rs r .requests .at) j noClient .operation) (getD (runnableIn rs r .requests .at) j noClient .number)
+  unfolding clientsAs queuedAs
+  queued-counts r j l b =
+      let c = getD (runnableIn rs r .requests .at) j noClient in
+      omega (
+        arith,
+        sum-term (λ (r : ℕ). queuedAs (c .operation) (c .number) (runnableIn rs r .requests)) r maxRunnableConfs l,
+        sum-term (λ (j : ℕ). bit (isClient (c .operation) (c .number) (getD (runnableIn rs r .requests .at) j noClient))) j (runnableIn rs r .requests .queued) b,
+        ap bit (own-client (c .operation) (c .number) c refl refl),
+      )
+
+  pub served-counts : (k : ℕ) → k < maxSlots → slotIn ss k .owed .serving ≡ true → 1 ≤ clientsAs rs ss (slotIn ss k .owed .client .operation) (slotIn ss k .owed .client .number)
+  unfolding clientsAs servedAs
+  served-counts k l e =
+      let c = slotIn ss k .owed .client in
+      omega (
+        arith,
+        sum-term (λ (k : ℕ). servedAs (c .operation) (c .number) (slotIn ss k .owed)) k maxSlots l,
+        ap bit (both-make (slotIn ss k .owed .serving) (isClient (c .operation) (c .number) c) e (own-client (c .operation) (c .number) c refl refl)),
+      )
 
 module _ (os : Operations) (rs : Runnables) (ss : Slots) where
   queued-told : allBelow (queuedSound os rs ss) maxRunnableConfs ≡ true → (r : ℕ) → r < maxRunnableConfs → (j : ℕ) → j < runnableIn rs r .requests .queued → clientSound os rs ss (getD (runnableIn rs r .requests .at) j noClient) ≡ true
@@ -134,21 +177,11 @@ module _ (os : Operations) (rs : Runnables) (ss : Slots) where
       omega (arith, rw (e .0, e .1) at (eqb-true (clientsAs rs ss (c .operation) (c .number)) 1 (both-right (numbered os c) _ h)))
 
   single-told : allBelow (queuedSound os rs ss) maxRunnableConfs ≡ true → allBelow (servedSound os rs ss) maxSlots ≡ true → (o m : ℕ) → clientsAs rs ss o m ≤ 1
-  unfolding clientsAs queuedAs servedAs
-  single-told hq hs o m = go (decLe 1 (sumBelow (λ (r : ℕ). queuedAs o m (runnableIn rs r .requests)) maxRunnableConfs)) (decLe 1 (sumBelow (λ (k : ℕ). servedAs o m (slotIn ss k .owed)) maxSlots))
+  single-told hq hs o m = go (decLe 1 (clientsAs rs ss o m))
     where
-      go : Dec (1 ≤ sumBelow (λ (r : ℕ). queuedAs o m (runnableIn rs r .requests)) maxRunnableConfs) → Dec (1 ≤ sumBelow (λ (k : ℕ). servedAs o m (slotIn ss k .owed)) maxSlots) → clientsAs rs ss o m ≤ 1
-      go (yes h) z =
-          let f = sum-find (λ (r : ℕ). queuedAs o m (runnableIn rs r .requests)) maxRunnableConfs h in
-          let q = runnableIn rs (f .0) .requests in
-          let g = sum-find (λ (j : ℕ). bit (isClient o m (getD (q .at) j noClient))) (q .queued) (f .2) in
-          client-single o m (getD (q .at) (g .0) noClient) (queued-told hq (f .0) (f .1) (g .0) (g .1)) (bit-on _ (g .2))
-      go (no n) (yes h) =
-          let f = sum-find (λ (k : ℕ). servedAs o m (slotIn ss k .owed)) maxSlots h in
-          let w = slotIn ss (f .0) .owed in
-          let b = bit-on (both (w .serving) (isClient o m (w .client))) (f .2) in
-          client-single o m (w .client) (served-told hs (f .0) (f .1) (both-left (w .serving) _ b)) (both-right (w .serving) _ b)
-      go (no n) (no k) = omega (arith, n, k)
+      go : Dec (1 ≤ clientsAs rs ss o m) → clientsAs rs ss o m ≤ 1
+      go (yes l) = client-there rs ss o m (λ r b j c. client-single o m _ (queued-told hq r b j c)) (λ k b e. client-single o m _ (served-told hs k b e)) l
+      go (no n) = omega (arith, n)
 
   pub clients-told : clientsSound os rs ss ≡ true → Clients os rs ss
   unfolding clientsSound calledSound
@@ -164,28 +197,6 @@ module _ (os : Operations) (rs : Runnables) (ss : Slots) where
         called = λ o l e. eqb-true _ 1 (either-right _ (eqb (clientsAs rs ss o (operationIn os o .number)) 1) (all-at (calledSound os rs ss) maxOperationConfs c o l) (ap not e));
       }
 
-  -- a client that is there counts for its own operation and number
-  queued-counts : (r j : ℕ) → r < maxRunnableConfs → j < runnableIn rs r .requests .queued → 1 ≤ clientsAs rs ss (getD (runnableIn rs r .requests .at) j noClient .operation) (getD (runnableIn rs r .requests .at) j noClient .number)
-  unfolding clientsAs queuedAs
-  queued-counts r j l b =
-      let c = getD (runnableIn rs r .requests .at) j noClient in
-      omega (
-        arith,
-        sum-term (λ (r : ℕ). queuedAs (c .operation) (c .number) (runnableIn rs r .requests)) r maxRunnableConfs l,
-        sum-term (λ (j : ℕ). bit (isClient (c .operation) (c .number) (getD (runnableIn rs r .requests .at) j noClient))) j (runnableIn rs r .requests .queued) b,
-        ap bit (own-client c),
-      )
-
-  served-counts : (k : ℕ) → k < maxSlots → slotIn ss k .owed .serving ≡ true → 1 ≤ clientsAs rs ss (slotIn ss k .owed .client .operation) (slotIn ss k .owed .client .number)
-  unfolding clientsAs servedAs
-  served-counts k l e =
-      let c = slotIn ss k .owed .client in
-      omega (
-        arith,
-        sum-term (λ (k : ℕ). servedAs (c .operation) (c .number) (slotIn ss k .owed)) k maxSlots l,
-        ap bit (both-make (slotIn ss k .owed .serving) (isClient (c .operation) (c .number) c) e (own-client c)),
-      )
-
   client-made : Clients os rs ss → (c : Client) → numbered os c ≡ true → 1 ≤ clientsAs rs ss (c .operation) (c .number) → clientSound os rs ss c ≡ true
   unfolding clientSound
   client-made h c n l = both-make _ _ n (eq-eqb (clientsAs rs ss (c .operation) (c .number)) 1 (omega (arith, h .single (c .operation) (c .number))))
@@ -194,13 +205,13 @@ module _ (os : Operations) (rs : Runnables) (ss : Slots) where
   unfolding clientsSound queuedSound servedSound calledSound
   clients-made h =
       both-make _ _
-      (all-of (queuedSound os rs ss) maxRunnableConfs (λ r l. all-of _ (runnableIn rs r .requests .queued) (λ j b. client-made h (getD (runnableIn rs r .requests .at) j noClient) (h .queued r l j b) (queued-counts r j l b))))
+      (all-of (queuedSound os rs ss) maxRunnableConfs (λ r l. all-of _ (runnableIn rs r .requests .queued) (λ j b. client-made h (getD (runnableIn rs r .requests .at) j noClient) (h .queued r l j b) (queued-counts rs ss r j l b))))
       (both-make _ _
       (all-of (servedSound os rs ss) maxSlots (λ k l. served k l (slotIn ss k .owed .serving) refl))
       (all-of (calledSound os rs ss) maxOperationConfs (λ o l. called o l (operationIn os o .calling) refl)))
     where
       served : (k : ℕ) → k < maxSlots → (b : Bool) → slotIn ss k .owed .serving ≡ b → either (not b) (clientSound os rs ss (slotIn ss k .owed .client)) ≡ true
-      served k l true e = client-made h (slotIn ss k .owed .client) (h .served k l e) (served-counts k l e)
+      served k l true e = client-made h (slotIn ss k .owed .client) (h .served k l e) (served-counts rs ss k l e)
       served k l false e = refl
 
       called : (o : ℕ) → o < maxOperationConfs → (b : Bool) → operationIn os o .calling ≡ b → either (not b) (eqb (clientsAs rs ss o (operationIn os o .number)) 1) ≡ true

@@ -6,11 +6,8 @@ use mathlib.Core.Bool.{Bool, true, false}
 use mathlib.Core.List.{List, [], _∷_}
 use mathlib.Core.Path.{_≡_, refl, sym, ap, _∙_}
 use native.Mathlib.Omega.{arith}
-use lib.Dec.{eqb}
 use lib.ListN.{length, take, drop}
-use borrow.Author.Tests.{eqb-true}
 use Rattle.laws.specs.Choice.{pick}
-use Rattle.laws.proofs.Choosing.{both-left, both-right}
 use Rattle.values.specs.declared.Value.{Value}
 use Rattle.values.specs.declared.Step.{Step}
 use Rattle.values.specs.declared.Answer.{Answer}
@@ -33,24 +30,16 @@ use Rattle.judging.specs.Judging.{judged, judgeFrom}
 use Rattle.judging.proofs.Laws.{judged-each, unfinished-accepted, unfinished-refused, accepted-refused}
 use Rattle.history.specs.Promises.{Accepted as AllAccepted}
 use Rattle.history.proofs.Runs.{of-taken}
+use Rattle.history.proofs.Deeds.{same-value}
 
 -- ---- a step that is taken answers what it claims
-
--- equal kinds and numbers are equal values
-same-is : (v w : Value) → sameValue v w ≡ true → v ≡ w
-unfolding sameValue
-same-is v w h =
-    let k : v .kind ≡ w .kind = eqb-true (v .kind) (w .kind) (both-left (eqb (v .kind) (w .kind)) (eqb (v .number) (w .number)) h) in
-    let n : v .number ≡ w .number = eqb-true (v .number) (w .number) (both-right (eqb (v .kind) (w .kind)) (eqb (v .number) (w .number)) h) in
-    let e : _≡_ {A = Value} (record { kind = v .kind; number = v .number }) (record { kind = w .kind; number = w .number }) = rw (k, n) in
-    e
 
 claimed-is : (claim : Value) (st y : State) (x : Answer) (v : Value) → claimedOf claim st (record { answer = x; state = y }) .answer ≡ Taken v → v ≡ claim
 unfolding claimedOf
 claimed-is claim st y (Taken w) v h = go (sameValue w claim) refl h
   where
     go : (b : Bool) → sameValue w claim ≡ b → (pick {A = Stepped} b (record { answer = Taken w; state = y }) (refused 17 st)) .answer ≡ Taken v → v ≡ claim
-    go true e k = let p : v ≡ w = cc in p ∙ same-is w claim e
+    go true e k = let p : v ≡ w = cc in p ∙ same-value w claim e
     go false e k = absurd (let z : _≡_ {A = ℕ} 0 1 = cc in omega arith)
 claimed-is claim st y (Barred k) v h = absurd (let z : _≡_ {A = ℕ} 0 1 = cc in omega arith)
 
