@@ -4,6 +4,7 @@ pub mod Told
 pub mod Kept
 pub mod Counts
 pub mod Areas
+pub mod Tallies
 pub mod Clients
 pub mod Instances
 pub mod Runnables
