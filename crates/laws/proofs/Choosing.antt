@@ -5,6 +5,7 @@ use mathlib.Core.Bool.{Bool, true, false}
 use mathlib.Core.List.{List, [], _∷_}
 use mathlib.Core.Path.{_≡_, refl}
 use native.Mathlib.Omega.{arith}
+use lib.Dec.{eqb}
 use borrow.Author.Tests.{lt-ltb, le-ltb, le-leb, lt-leb, eq-eqb, ne-eqb}
 use Rattle.laws.specs.Choice.{pick, both, either, alike, bit, allOf, AllOf}
 
@@ -15,6 +16,11 @@ clash b p q = let z : _≡_ {A = ℕ} 0 1 = cc in omega arith
 pub bit-most : (b : Bool) → bit b ≤ 1
 bit-most true = omega arith
 bit-most false = omega arith
+
+-- a flag is told from its number
+pub bit-back : (b : Bool) → eqb (bit b) 1 ≡ b
+bit-back true = refl
+bit-back false = refl
 
 pub both-left : (a b : Bool) → both a b ≡ true → a ≡ true
 both-left true b h = refl
@@ -30,6 +36,11 @@ both-make a b p q = rw (p, q)
 pub both-no : (a b : Bool) → b ≡ false → both a b ≡ false
 both-no true b h = h
 both-no false b h = refl
+
+-- the last test of a list decides
+pub both-true : (b : Bool) → b ≡ both b true
+both-true true = refl
+both-true false = refl
 
 -- what is left of two where one fails
 pub either-right : (a b : Bool) → either a b ≡ true → a ≡ false → b ≡ true
@@ -68,6 +79,11 @@ pick-off false x y z h n = (refl, h)
 pub pick-on : {A : Type 0} (b : Bool) (x y z : A) → pick b x y ≡ z → (y ≡ z → ⊥) → (b ≡ true) × (x ≡ z)
 pick-on true x y z h n = (refl, h)
 pick-on false x y z h n = absurd (n h)
+
+-- a choice of the same twice
+pub pick-alike : {A : Type 0} (b : Bool) (x : A) → pick b x x ≡ x
+pick-alike true x = refl
+pick-alike false x = refl
 
 -- what holds of each side holds of the choice
 pub pick-has : {A : Type 0} (P : A → Type 0) (b : Bool) (x y : A) → (b ≡ true → P x) → (b ≡ false → P y) → P (pick b x y)

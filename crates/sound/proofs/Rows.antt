@@ -1,9 +1,9 @@
--- Laws that a loop of this crate ends by: rows whose first places are in use, the last test of a list, and what one instance counts for.
+-- Laws that a loop of this crate ends by: rows whose first places are in use, and what one instance counts for.
 -- Assumes nothing.
 use Prim.Native.Nat.{ℕ, _≤_, _<_}
 use mathlib.Core.Bool.{Bool, true, false}
 use mathlib.Core.List.{List}
-use mathlib.Core.Path.{_≡_, refl}
+use mathlib.Core.Path.{_≡_}
 use native.Mathlib.Omega.{arith}
 use lib.Dec.{eqb}
 use lib.ListN.{length, getD}
@@ -15,11 +15,6 @@ use Rattle.laws.proofs.Choosing.{both-make, both-no, bit-most}
 use Rattle.laws.proofs.Looping.{all-fails}
 use Rattle.state.specs.declared.Owed.{Owed}
 use Rattle.rules.specs.Sound.{isZero, servedAs, isClient}
-
--- the last test of a list decides
-pub last-test : (b : Bool) → both b true ≡ b
-last-test true = refl
-last-test false = refl
 
 module _ {A : Type 0} (good blank : A → Bool) (d : A) (m n : ℕ) (l : List A) where
   -- a row with a place that fails

@@ -13,6 +13,7 @@ use borrow.Author.Tests.{lt-ltb, le-ltb, ltb-true}
 use Rattle.laws.specs.Choice.{pick, both}
 use Rattle.laws.specs.Loop.{allBelow}
 use Rattle.laws.specs.Row.{eachBelow}
+use Rattle.laws.proofs.Choosing.{both-true}
 use Rattle.laws.proofs.Places.{inside, past, each-length, each-more}
 use Rattle.state.specs.declared.Runnable.{Runnable}
 use Rattle.state.specs.declared.Runnables.{Runnables}
@@ -25,10 +26,6 @@ use Rattle.rules.specs.declared.Found.the-variants.{At, Nothing}
 use Rattle.rules.specs.Steps.{runnableLets, lowestEmpty, foundEmpty}
 
 -- ---- a row that ends at m
-
-both-yes : (b : Bool) → both b true ≡ b
-both-yes true = refl
-both-yes false = refl
 
 each-past : {A : Type 0} (m : ℕ) (f : ℕ → A → A) (d : A) (n : ℕ) (l : List A) → length l ≤ m → m ≤ n → eachBelow f d n l ≡ eachBelow f d m l
 unfolding eachBelow
@@ -54,7 +51,7 @@ all-past m p (suc n) h b = go (ℕ-discrete m (suc n)) (λ c. all-past m p n h c
   where
     go : Dec (m ≡ suc n) → (m ≤ n → allBelow p n ≡ allBelow p m) → both (allBelow p n) (p n) ≡ allBelow p m
     go (yes e) rest = ap (allBelow p) (sym e)
-    go (no k) rest = let c : m ≤ n = omega (arith, k) in rw (h n c, both-yes (allBelow p n), rest c)
+    go (no k) rest = let c : m ≤ n = omega (arith, k) in rw (h n c, ← both-true (allBelow p n), rest c)
 
 pub all-within : (m : ℕ) (p : ℕ → Bool) (n : ℕ) → ((k : ℕ) → m ≤ k → p k ≡ true) → allBelow p (pick (ltb n m) n m) ≡ allBelow p n
 all-within m p n h = go (decLt n m)

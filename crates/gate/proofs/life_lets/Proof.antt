@@ -1,5 +1,5 @@
-use Rattle.gate.proofs.Ends.{both-true}
 use Rattle.laws.specs.Choice.{allOf}
+use Rattle.laws.proofs.Choosing.{both-true}
 use Rattle.rules.specs.Refusals.{lifeLets}
 use Rattle.gate.proofs.life_lets.Statement.{statement}
 use Rattle.gate.proofs.life_lets.Tie as tie

@@ -1,9 +1,8 @@
-use mathlib.Core.Path.{sym}
 use borrow.Author.Tests.{lt-ltb, le-ltb, le-leb, lt-leb}
 use Rattle.laws.specs.Choice.{allOf}
+use Rattle.laws.proofs.Choosing.{both-true}
 use Rattle.rules.specs.Sound.{callingSound}
 use Rattle.sound.specs.Only.{onlyOperations}
-use Rattle.sound.proofs.Rows.{last-test}
 use Rattle.sound.proofs.calling_sound.Statement.{statement}
 use Rattle.sound.proofs.calling_sound.Tie as tie
 
@@ -21,7 +20,7 @@ returns-3 c = rw (lt-ltb _ _ (c .before .before .before .before .before .before 
 
 returns-4 : tie.Need-returns-4
 unfolding callingSound allOf onlyOperations
-returns-4 c = rw (lt-ltb _ _ (c .before .before .before .before .before .before .before .before .if1 .left), ← c .before .before .before .before .before .before .before .get .ensures, le-leb _ _ (c .before .before .before .before .if2 .left), le-leb _ _ (c .before .before .if3 .left), ← c .is-void .ensures) (sym (last-test (c .is-void .result)))
+returns-4 c = rw (lt-ltb _ _ (c .before .before .before .before .before .before .before .before .if1 .left), ← c .before .before .before .before .before .before .before .get .ensures, le-leb _ _ (c .before .before .before .before .if2 .left), le-leb _ _ (c .before .before .if3 .left), ← c .is-void .ensures) (both-true _)
 
 pub calling-sound-spec : {M : Type 1} → statement M
 calling-sound-spec =

@@ -1,8 +1,7 @@
-use mathlib.Core.Path.{sym}
 use borrow.Author.Tests.{not-true, not-false, eq-eqb, ne-eqb}
 use Rattle.laws.specs.Choice.{allOf}
+use Rattle.laws.proofs.Choosing.{both-true}
 use Rattle.rules.specs.Sound.{isNoSlot}
-use Rattle.sound.proofs.Rows.{last-test}
 use Rattle.sound.proofs.is_no_slot.Statement.{statement}
 use Rattle.sound.proofs.is_no_slot.Tie as tie
 
@@ -36,7 +35,7 @@ returns-7 c = rw (eq-eqb _ _ (c .before .before .before .before .before .before 
 
 returns-8 : tie.Need-returns-8
 unfolding isNoSlot allOf
-returns-8 c = rw (eq-eqb _ _ (c .before .before .before .before .before .before .before .before .before .before .before .before .before .if1 .left), c .before .before .before .before .before .before .before .before .before .before .before .before .if2 .left, eq-eqb _ _ (c .before .before .before .before .before .before .before .before .before .before .if3 .left), c .before .before .before .before .before .before .before .before .before .if4 .left, c .before .before .before .before .before .before .before .if5 .left, ← c .before .before .before .before .before .is-no-client .ensures, not-false (c .before .before .before .before .before .is-no-client .result) (c .before .before .before .before .if6 .left), eq-eqb _ _ (c .before .if7 .left), ← c .stack-blank .ensures) (sym (last-test (c .stack-blank .result)))
+returns-8 c = rw (eq-eqb _ _ (c .before .before .before .before .before .before .before .before .before .before .before .before .before .if1 .left), c .before .before .before .before .before .before .before .before .before .before .before .before .if2 .left, eq-eqb _ _ (c .before .before .before .before .before .before .before .before .before .before .if3 .left), c .before .before .before .before .before .before .before .before .before .if4 .left, c .before .before .before .before .before .before .before .if5 .left, ← c .before .before .before .before .before .is-no-client .ensures, not-false (c .before .before .before .before .before .is-no-client .result) (c .before .before .before .before .if6 .left), eq-eqb _ _ (c .before .if7 .left), ← c .stack-blank .ensures) (both-true _)
 
 pub is-no-slot-spec : {M : Type 1} → statement M
 is-no-slot-spec =

@@ -1,9 +1,7 @@
-use mathlib.Core.Path.{sym}
 use borrow.Author.Tests.{not-true, not-false, lt-ltb, le-ltb}
-use lib.Dec.{eqb}
 use Rattle.laws.specs.Choice.{allOf}
+use Rattle.laws.proofs.Choosing.{both-true}
 use Rattle.rules.specs.Sound.{lifeSound}
-use Rattle.sound.proofs.Rows.{last-test}
 use Rattle.sound.proofs.life_sound.Statement.{statement}
 use Rattle.sound.proofs.life_sound.Tie as tie
 
@@ -17,11 +15,11 @@ returns-2 c = rw (lt-ltb _ _ (c .before .before .if1 .left), ← c .before .fini
 
 returns-3 : tie.Need-returns-3
 unfolding lifeSound allOf
-returns-3 c = rw (← c .waits-well .ensures, lt-ltb _ _ (c .before .before .before .before .if1 .left), ← c .before .before .before .finishes-well .ensures, not-false (c .before .before .before .finishes-well .result) (c .before .before .if2 .left), c .before .if3 .taken) (sym (last-test (c .waits-well .result)))
+returns-3 c = rw (← c .waits-well .ensures, lt-ltb _ _ (c .before .before .before .before .if1 .left), ← c .before .before .before .finishes-well .ensures, not-false (c .before .before .before .finishes-well .result) (c .before .before .if2 .left), c .before .if3 .taken) (both-true _)
 
 returns-4 : tie.Need-returns-4
 unfolding lifeSound allOf
-returns-4 c = rw (lt-ltb _ _ (c .before .before .before .before .if1 .left), ← c .before .before .before .finishes-well .ensures, not-false (c .before .before .before .finishes-well .result) (c .before .before .if2 .left), c .before .if3 .left) (sym (last-test (eqb (c .before .before .before .before .before .before .before .before .args .l .on) 0)))
+returns-4 c = rw (lt-ltb _ _ (c .before .before .before .before .if1 .left), ← c .before .before .before .finishes-well .ensures, not-false (c .before .before .before .finishes-well .result) (c .before .before .if2 .left), c .before .if3 .left) (both-true _)
 
 pub life-sound-spec : {M : Type 1} → statement M
 life-sound-spec =

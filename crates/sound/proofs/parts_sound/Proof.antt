@@ -1,8 +1,7 @@
-use mathlib.Core.Path.{sym}
 use borrow.Author.Tests.{not-true, not-false}
 use Rattle.laws.specs.Choice.{allOf}
+use Rattle.laws.proofs.Choosing.{both-true}
 use Rattle.sound.proofs.Whole.{variables-only, elements-only, operations-only, timers-only}
-use Rattle.sound.proofs.Rows.{last-test}
 use Rattle.sound.proofs.parts_sound.Statement.{statement}
 use Rattle.sound.proofs.parts_sound.Tie as tie
 
@@ -28,7 +27,7 @@ returns-5 c = rw (← c .before .before .before .before .before .before .before 
 
 returns-6 : tie.Need-returns-6
 unfolding allOf
-returns-6 c = rw (← c .before .before .before .before .before .before .before .before .before .before .before .before .before .before .before .runnables-sound .ensures, not-false (c .before .before .before .before .before .before .before .before .before .before .before .before .before .before .before .runnables-sound .result) (c .before .before .before .before .before .before .before .before .before .before .before .before .before .before .if1 .left), ← variables-only (c .before .before .before .before .before .before .before .before .before .before .before .before .before .before .before .before .before .args .cfg) (c .before .before .before .before .before .before .before .before .before .before .before .before .before .before .before .before .before .args .st .variables), ← c .before .before .before .before .before .before .before .before .before .before .before .before .variables-sound .ensures, not-false (c .before .before .before .before .before .before .before .before .before .before .before .before .variables-sound .result) (c .before .before .before .before .before .before .before .before .before .before .before .if2 .left), ← elements-only (c .before .before .before .before .before .before .before .before .before .before .before .before .before .before .before .before .before .args .cfg) (c .before .before .before .before .before .before .before .before .before .before .before .before .before .before .before .before .before .args .st .elements), ← c .before .before .before .before .before .before .before .before .before .elements-sound .ensures, not-false (c .before .before .before .before .before .before .before .before .before .elements-sound .result) (c .before .before .before .before .before .before .before .before .if3 .left), ← operations-only (c .before .before .before .before .before .before .before .before .before .before .before .before .before .before .before .before .before .args .cfg) (c .before .before .before .before .before .before .before .before .before .before .before .before .before .before .before .before .before .args .st .operations), ← c .before .before .before .before .before .before .operations-sound .ensures, not-false (c .before .before .before .before .before .before .operations-sound .result) (c .before .before .before .before .before .if4 .left), ← timers-only (c .before .before .before .before .before .before .before .before .before .before .before .before .before .before .before .before .before .args .cfg) (c .before .before .before .before .before .before .before .before .before .before .before .before .before .before .before .before .before .args .st .timers), ← c .before .before .before .timers-sound .ensures, not-false (c .before .before .before .timers-sound .result) (c .before .before .if5 .left), ← c .slots-sound .ensures) (sym (last-test (c .slots-sound .result)))
+returns-6 c = rw (← c .before .before .before .before .before .before .before .before .before .before .before .before .before .before .before .runnables-sound .ensures, not-false (c .before .before .before .before .before .before .before .before .before .before .before .before .before .before .before .runnables-sound .result) (c .before .before .before .before .before .before .before .before .before .before .before .before .before .before .if1 .left), ← variables-only (c .before .before .before .before .before .before .before .before .before .before .before .before .before .before .before .before .before .args .cfg) (c .before .before .before .before .before .before .before .before .before .before .before .before .before .before .before .before .before .args .st .variables), ← c .before .before .before .before .before .before .before .before .before .before .before .before .variables-sound .ensures, not-false (c .before .before .before .before .before .before .before .before .before .before .before .before .variables-sound .result) (c .before .before .before .before .before .before .before .before .before .before .before .if2 .left), ← elements-only (c .before .before .before .before .before .before .before .before .before .before .before .before .before .before .before .before .before .args .cfg) (c .before .before .before .before .before .before .before .before .before .before .before .before .before .before .before .before .before .args .st .elements), ← c .before .before .before .before .before .before .before .before .before .elements-sound .ensures, not-false (c .before .before .before .before .before .before .before .before .before .elements-sound .result) (c .before .before .before .before .before .before .before .before .if3 .left), ← operations-only (c .before .before .before .before .before .before .before .before .before .before .before .before .before .before .before .before .before .args .cfg) (c .before .before .before .before .before .before .before .before .before .before .before .before .before .before .before .before .before .args .st .operations), ← c .before .before .before .before .before .before .operations-sound .ensures, not-false (c .before .before .before .before .before .before .operations-sound .result) (c .before .before .before .before .before .if4 .left), ← timers-only (c .before .before .before .before .before .before .before .before .before .before .before .before .before .before .before .before .before .args .cfg) (c .before .before .before .before .before .before .before .before .before .before .before .before .before .before .before .before .before .args .st .timers), ← c .before .before .before .timers-sound .ensures, not-false (c .before .before .before .timers-sound .result) (c .before .before .if5 .left), ← c .slots-sound .ensures) (both-true _)
 
 pub parts-sound-spec : {M : Type 1} → statement M
 parts-sound-spec =

@@ -1,8 +1,7 @@
-use mathlib.Core.Path.{sym}
 use borrow.Author.Tests.{not-true, not-false, le-leb, lt-leb}
 use Rattle.laws.specs.Choice.{allOf}
+use Rattle.laws.proofs.Choosing.{both-true}
 use Rattle.rules.specs.Sound.{runnableSound}
-use Rattle.sound.proofs.Rows.{last-test}
 use Rattle.sound.proofs.runnable_sound.Statement.{statement}
 use Rattle.sound.proofs.runnable_sound.Tie as tie
 
@@ -20,7 +19,7 @@ returns-3 c = rw (← c .before .pends-well .ensures, ← c .before .before .bef
 
 returns-4 : tie.Need-returns-4
 unfolding runnableSound allOf
-returns-4 c = rw (← c .requests-sound .ensures, ← c .before .before .before .pends-well .ensures, ← c .before .before .before .before .before .before .before .before .before .get .ensures, le-leb _ _ (c .before .before .before .before .before .before .if1 .left), ← c .before .before .before .before .before .instances-fit .ensures, not-false (c .before .before .before .before .before .instances-fit .result) (c .before .before .before .before .if2 .left), not-false (c .before .before .before .pends-well .result) (c .before .before .if3 .left)) (sym (last-test (c .requests-sound .result)))
+returns-4 c = rw (← c .requests-sound .ensures, ← c .before .before .before .pends-well .ensures, ← c .before .before .before .before .before .before .before .before .before .get .ensures, le-leb _ _ (c .before .before .before .before .before .before .if1 .left), ← c .before .before .before .before .before .instances-fit .ensures, not-false (c .before .before .before .before .before .instances-fit .result) (c .before .before .before .before .if2 .left), not-false (c .before .before .before .pends-well .result) (c .before .before .if3 .left)) (both-true _)
 
 pub runnable-sound-spec : {M : Type 1} → statement M
 runnable-sound-spec =

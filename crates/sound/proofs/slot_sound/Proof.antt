@@ -1,8 +1,7 @@
-use mathlib.Core.Path.{sym}
 use borrow.Author.Tests.{not-true, not-false}
 use Rattle.laws.specs.Choice.{allOf}
+use Rattle.laws.proofs.Choosing.{both-true}
 use Rattle.rules.specs.Sound.{slotSound}
-use Rattle.sound.proofs.Rows.{last-test}
 use Rattle.sound.proofs.slot_sound.Statement.{statement}
 use Rattle.sound.proofs.slot_sound.Tie as tie
 
@@ -16,7 +15,7 @@ returns-2 c = rw (c .before .before .before .before .before .before .if1 .taken,
 
 returns-3 : tie.Need-returns-3
 unfolding slotSound allOf
-returns-3 c = rw (c .before .before .before .before .before .before .before .before .if1 .taken, ← c .before .before .before .before .before .before .life-sound .ensures, not-false (c .before .before .before .before .before .before .life-sound .result) (c .before .before .before .before .before .if2 .left), ← c .before .before .before .owed-sound .ensures, not-false (c .before .before .before .owed-sound .result) (c .before .before .if3 .left), ← c .stack-sound .ensures) (sym (last-test (c .stack-sound .result)))
+returns-3 c = rw (c .before .before .before .before .before .before .before .before .if1 .taken, ← c .before .before .before .before .before .before .life-sound .ensures, not-false (c .before .before .before .before .before .before .life-sound .result) (c .before .before .before .before .before .if2 .left), ← c .before .before .before .owed-sound .ensures, not-false (c .before .before .before .owed-sound .result) (c .before .before .if3 .left), ← c .stack-sound .ensures) (both-true _)
 
 returns-4 : tie.Need-returns-4
 unfolding slotSound allOf

@@ -1,8 +1,7 @@
-use mathlib.Core.Path.{sym}
 use borrow.Author.Tests.{not-true, not-false}
 use Rattle.laws.specs.Choice.{allOf}
+use Rattle.laws.proofs.Choosing.{both-true}
 use Rattle.sound.proofs.Whole.{areas-only}
-use Rattle.sound.proofs.Rows.{last-test}
 use Rattle.sound.proofs.ties_sound.Statement.{statement}
 use Rattle.sound.proofs.ties_sound.Tie as tie
 
@@ -16,7 +15,7 @@ returns-2 c = rw (← c .before .before .before .before .counts-sound .ensures, 
 
 returns-3 : tie.Need-returns-3
 unfolding allOf
-returns-3 c = rw (← c .before .before .before .before .before .before .counts-sound .ensures, not-false (c .before .before .before .before .before .before .counts-sound .result) (c .before .before .before .before .before .if1 .left), ← areas-only (c .before .before .before .before .before .before .before .before .before .args .cfg) (c .before .before .before .before .before .before .before .before .before .args .st .areas) (c .before .before .before .before .before .before .before .before .before .args .st .slots), ← c .before .before .before .areas-sound .ensures, not-false (c .before .before .before .areas-sound .result) (c .before .before .if2 .left), ← c .clients-sound .ensures) (sym (last-test (c .clients-sound .result)))
+returns-3 c = rw (← c .before .before .before .before .before .before .counts-sound .ensures, not-false (c .before .before .before .before .before .before .counts-sound .result) (c .before .before .before .before .before .if1 .left), ← areas-only (c .before .before .before .before .before .before .before .before .before .args .cfg) (c .before .before .before .before .before .before .before .before .before .args .st .areas) (c .before .before .before .before .before .before .before .before .before .args .st .slots), ← c .before .before .before .areas-sound .ensures, not-false (c .before .before .before .areas-sound .result) (c .before .before .if2 .left), ← c .clients-sound .ensures) (both-true _)
 
 pub ties-sound-spec : {M : Type 1} → statement M
 ties-sound-spec =

@@ -1,9 +1,7 @@
-use mathlib.Core.Path.{sym}
 use borrow.Author.Tests.{lt-ltb, le-ltb}
-use lib.Dec.{eqb}
 use Rattle.laws.specs.Choice.{allOf}
-use Rattle.rules.specs.Sound.{componentOf, waitsWell}
-use Rattle.sound.proofs.Rows.{last-test}
+use Rattle.laws.proofs.Choosing.{both-true}
+use Rattle.rules.specs.Sound.{waitsWell}
 use Rattle.sound.proofs.waits_well.Statement.{statement}
 use Rattle.sound.proofs.waits_well.Tie as tie
 
@@ -17,7 +15,7 @@ returns-2 c = rw (lt-ltb _ _ (c .before .before .if1 .left), ← c .before .get 
 
 returns-3 : tie.Need-returns-3
 unfolding waitsWell allOf
-returns-3 c = rw (c .before .before .get2 .ensures, lt-ltb _ _ (c .before .before .before .before .before .before .if1 .left), ← c .before .before .before .before .before .get .ensures, c .before .before .before .before .if2 .left) (sym (last-test (eqb (c .before .before .before .before .before .get .result .component) (componentOf (c .before .before .before .before .before .before .before .before .before .args .cfg) (c .before .before .before .before .before .before .before .before .before .args .l .runnable)))))
+returns-3 c = rw (c .before .before .get2 .ensures, lt-ltb _ _ (c .before .before .before .before .before .before .if1 .left), ← c .before .before .before .before .before .get .ensures, c .before .before .before .before .if2 .left) (both-true _)
 
 pub waits-well-spec : {M : Type 1} → statement M
 waits-well-spec =
