@@ -5,106 +5,56 @@ use mathlib.Core.Bool.{Bool, true, false, not}
 use mathlib.Core.Path.{_≡_, refl, ap}
 use native.Mathlib.Decide.{decLt}
 use native.Mathlib.Omega.{arith}
-use lib.Dec.{ltb, leb, eqb}
-use borrow.Author.Tests.{ltb-true, leb-true, eqb-true, not-true, lt-ltb, le-ltb, lt-leb}
+use lib.Dec.{ltb, leb}
+use borrow.Author.Tests.{ltb-true, leb-true, eqb-true, not-true, lt-leb}
 use Rattle.laws.specs.Choice.{alike, bit}
-use Rattle.laws.proofs.Choosing.{clash, both-left, both-right, either-right, alike-is, pick-on}
-use Rattle.laws.proofs.Looping.{all-at}
+use Rattle.laws.proofs.Choosing.{clash, both-left, both-right, either-right, alike-is}
 use Rattle.laws.proofs.Places.{past}
 use Rattle.config.specs.declared.Config.{Config}
 use Rattle.config.specs.declared.RunnableConf.{RunnableConf}
 use Rattle.config.specs.declared.RequiredConf.{RequiredConf}
 use Rattle.config.specs.Tables.{noRunnableConf, noRequiredConf, runnableConfIn, requiredConfIn, providedConfIn, linkIn, operationConfIn, timerConfIn, dataEventIn, returnEventIn}
-use Rattle.entries.specs.declared.Entry.{Entry}
 use Rattle.entries.specs.Entries.{maxOf, countOf, placesOf, entryOf}
-use Rattle.entries.specs.Faults.{inRange, namesThere, isServer, isQueued, pairsWell, entryFault, isNoEntry, placeSound, kindSound, configSound}
+use Rattle.entries.specs.Faults.{inRange, namesThere, isServer, isQueued, pairsWell, configSound}
+use Rattle.entries.proofs.Kind.{Well, fault-told, Blank, blank-told, Kind, config-told}
 
 -- ---- any kind, by its tag
 
--- an entry without fault
-pub record Well (cfg : Config) (tag i : ℕ) (e : Entry) : Type 0 where
-  pub range : inRange tag e ≡ true
-  pub names : namesThere cfg tag e ≡ true
-  pub pairs : pairsWell cfg tag i e ≡ true
-
--- an entry of zeros
-pub record Blank (e : Entry) : Type 0 where
-  pub first : e .first ≡ 0
-  pub second : e .second ≡ 0
-  pub third : e .third ≡ 0
-  pub number : e .number ≡ 0
-
-pub well : (cfg : Config) (tag i : ℕ) (e : Entry) → entryFault cfg tag i e ≡ 0 → Well cfg tag i e
-unfolding entryFault
-well cfg tag i e h =
-    let a = pick-on (ltb i (maxOf tag)) _ 23 0 h (λ q. omega (arith, q)) in
-    let b = pick-on (inRange tag e) _ 24 0 (a .1) (λ q. omega (arith, q)) in
-    let c = pick-on (namesThere cfg tag e) _ 25 0 (b .1) (λ q. omega (arith, q)) in
-    let d = pick-on (pairsWell cfg tag i e) _ 26 0 (c .1) (λ q. omega (arith, q)) in
-    record { range = b .0; names = c .0; pairs = d .0 }
-
-pub blank : (e : Entry) → isNoEntry e ≡ true → Blank e
-unfolding isNoEntry
-blank e h =
-    let b = both-right (eqb (e .first) 0) _ h in
-    let c = both-right (eqb (e .second) 0) _ b in
-    record {
-      first = eqb-true _ _ (both-left (eqb (e .first) 0) _ h);
-      second = eqb-true _ _ (both-left (eqb (e .second) 0) _ b);
-      third = eqb-true _ _ (both-left (eqb (e .third) 0) _ c);
-      number = eqb-true _ _ (both-right (eqb (e .third) 0) _ c);
-    }
-
--- a kind: the length of its table, how many are in use, and each place
-pub record Kind (cfg : Config) (tag : ℕ) : Type 0 where
-  pub places : placesOf cfg tag ≡ maxOf tag
-  pub most : countOf cfg tag ≤ maxOf tag
-  pub used : (i : ℕ) → i < countOf cfg tag → Well cfg tag i (entryOf cfg tag i)
-  pub unused : (i : ℕ) → i < maxOf tag → countOf cfg tag ≤ i → Blank (entryOf cfg tag i)
-
-pub kind-told : (cfg : Config) (tag : ℕ) → kindSound cfg tag ≡ true → Kind cfg tag
-unfolding kindSound placeSound
-kind-told cfg tag h =
-    let a = both-left (eqb (placesOf cfg tag) (maxOf tag)) _ h in
-    let r = both-right (eqb (placesOf cfg tag) (maxOf tag)) _ h in
-    let b = leb-true (countOf cfg tag) (maxOf tag) (both-left (leb (countOf cfg tag) (maxOf tag)) _ r) in
-    let p = all-at (placeSound cfg tag) (maxOf tag) (both-right (leb (countOf cfg tag) (maxOf tag)) _ r) in
-    record {
-      places = eqb-true _ _ a;
-      most = b;
-      used = λ i l. well cfg tag i (entryOf cfg tag i) (eqb-true _ _ (rw (lt-ltb i (countOf cfg tag) l) at (p i (omega arith))));
-      unused = λ i m l. blank (entryOf cfg tag i) (rw (le-ltb i (countOf cfg tag) l) at (p i m));
-    }
-
 module _ (cfg : Config) (h : configSound cfg ≡ true) where
-  pub kind : (j : ℕ) → j < 10 → Kind cfg (0x10 + j)
-  unfolding configSound
-  kind j l = kind-told cfg (0x10 + j) (all-at (λ (j : ℕ). kindSound cfg (0x10 + j)) 10 h j l)
+  kind : (j : ℕ) → j < 10 → Kind cfg (0x10 + j)
+  kind j l = config-told cfg h (0x10 + j) (omega arith) (omega arith)
+
+  -- a part in use, and a place not in use
+  used : (j : ℕ) → j < 10 → (i : ℕ) → i < countOf cfg (0x10 + j) → Well cfg (0x10 + j) i (entryOf cfg (0x10 + j) i)
+  used j l i b = fault-told cfg (0x10 + j) i (entryOf cfg (0x10 + j) i) (kind j l .used i b)
+
+  unused : (j : ℕ) → j < 10 → (i : ℕ) → i < maxOf (0x10 + j) → countOf cfg (0x10 + j) ≤ i → Blank (entryOf cfg (0x10 + j) i)
+  unused j l i m b = blank-told (entryOf cfg (0x10 + j) i) (kind j l .blank i m b)
 
   -- ---- how many there are
 
   pub runnables-most : cfg .runnables .n ≤ 16
   unfolding countOf maxOf
-  runnables-most = kind 0 (omega arith) .most
+  runnables-most = kind 0 (omega arith) .room
 
   pub areas-most : cfg .areas .n ≤ 16
   unfolding countOf maxOf
-  areas-most = kind 2 (omega arith) .most
+  areas-most = kind 2 (omega arith) .room
 
   pub required-most : cfg .required .n ≤ 16
   unfolding countOf maxOf
-  required-most = kind 3 (omega arith) .most
+  required-most = kind 3 (omega arith) .room
 
   pub operations-most : cfg .operations .n ≤ 8
   unfolding countOf maxOf
-  operations-most = kind 6 (omega arith) .most
+  operations-most = kind 6 (omega arith) .room
 
   -- ---- runnables
 
   -- in use: no init flag on a server, and a capacity that a queue has room for
   runnable-well : (r : ℕ) → r < cfg .runnables .n → Well cfg 0x10 r (entryOf cfg 0x10 r)
   unfolding countOf
-  runnable-well = kind 0 (omega arith) .used
+  runnable-well = used 0 (omega arith)
 
   -- not in use: every field is blank
   pub runnable-blank : (r : ℕ) → cfg .runnables .n ≤ r → runnableConfIn (cfg .runnables) r ≡ noRunnableConf
@@ -120,7 +70,7 @@ module _ (cfg : Config) (h : configSound cfg ≡ true) where
           off true q e g z = absurd (omega (arith, z))
 
       go : Dec (r < 16) → runnableConfIn (cfg .runnables) r ≡ noRunnableConf
-      go (yes b) = let z = kind 0 (omega arith) .unused r b l in flags (runnableConfIn (cfg .runnables) r) (z .first) (z .second) (z .third) (z .number)
+      go (yes b) = let z = unused 0 (omega arith) r b l in flags (runnableConfIn (cfg .runnables) r) (z .first) (z .second) (z .third) (z .number)
       go (no b) = past (cfg .runnables .at) r 16 noRunnableConf (kind 0 (omega arith) .places) (omega (arith, b))
 
   pub capacity-most : (r : ℕ) → runnableConfIn (cfg .runnables) r .capacity ≤ 16
@@ -166,7 +116,7 @@ module _ (cfg : Config) (h : configSound cfg ≡ true) where
   required-blank q l = go (decLt q 16)
     where
       go : Dec (q < 16) → requiredConfIn (cfg .required) q ≡ noRequiredConf
-      go (yes b) = let z = kind 3 (omega arith) .unused q b l in λ i. record { component = z .first i; capacity = z .second i }
+      go (yes b) = let z = unused 3 (omega arith) q b l in λ i. record { component = z .first i; capacity = z .second i }
       go (no b) = past (cfg .required .at) q 16 noRequiredConf (kind 3 (omega arith) .places) (omega (arith, b))
 
   pub length-most : (q : ℕ) → requiredConfIn (cfg .required) q .capacity ≤ 16
@@ -174,7 +124,7 @@ module _ (cfg : Config) (h : configSound cfg ≡ true) where
   length-most q = go (decLt q (cfg .required .n))
     where
       go : Dec (q < cfg .required .n) → requiredConfIn (cfg .required) q .capacity ≤ 16
-      go (yes b) = leb-true _ 16 (both-right (leb (requiredConfIn (cfg .required) q .component) 15) _ (kind 3 (omega arith) .used q b .range))
+      go (yes b) = leb-true _ 16 (both-right (leb (requiredConfIn (cfg .required) q .component) 15) _ (used 3 (omega arith) q b .range))
       go (no b) = omega (arith, ap (λ (x : RequiredConf). x .capacity) (required-blank q (omega (arith, b))))
 
   -- ---- links: both ends are there, and of one kind
@@ -183,28 +133,28 @@ module _ (cfg : Config) (h : configSound cfg ≡ true) where
   unfolding pairsWell entryOf countOf
   link-alike l b =
       alike-is (providedConfIn (cfg .provided) (linkIn (cfg .links) l .provided) .queued) (isQueued cfg (linkIn (cfg .links) l .required))
-      (both-left (alike (providedConfIn (cfg .provided) (linkIn (cfg .links) l .provided) .queued) (isQueued cfg (linkIn (cfg .links) l .required))) _ (kind 5 (omega arith) .used l b .pairs))
+      (both-left (alike (providedConfIn (cfg .provided) (linkIn (cfg .links) l .provided) .queued) (isQueued cfg (linkIn (cfg .links) l .required))) _ (used 5 (omega arith) l b .pairs))
 
   -- ---- operations: each stands on a server that is there
 
   pub operation-there : (o : ℕ) → o < cfg .operations .n → operationConfIn (cfg .operations) o .server < cfg .runnables .n
   unfolding namesThere entryOf countOf
-  operation-there o b = ltb-true _ _ (kind 6 (omega arith) .used o b .names)
+  operation-there o b = ltb-true _ _ (used 6 (omega arith) o b .names)
 
   -- ---- timers and events: each stands on a plain runnable that is there
 
   pub timer-there : (t : ℕ) → t < cfg .timers .n → timerConfIn (cfg .timers) t .runnable < cfg .runnables .n
   unfolding namesThere entryOf countOf
-  timer-there t b = ltb-true _ _ (kind 7 (omega arith) .used t b .names)
+  timer-there t b = ltb-true _ _ (used 7 (omega arith) t b .names)
 
   pub timer-plain : (t : ℕ) → t < cfg .timers .n → isServer cfg (timerConfIn (cfg .timers) t .runnable) ≡ false
   unfolding pairsWell entryOf countOf
-  timer-plain t b = not-true _ (kind 7 (omega arith) .used t b .pairs)
+  timer-plain t b = not-true _ (used 7 (omega arith) t b .pairs)
 
   pub devent-plain : (e : ℕ) → e < cfg .devents .n → isServer cfg (dataEventIn (cfg .devents) e .runnable) ≡ false
   unfolding pairsWell entryOf countOf
-  devent-plain e b = not-true _ (both-left (not (isServer cfg (dataEventIn (cfg .devents) e .runnable))) _ (kind 8 (omega arith) .used e b .pairs))
+  devent-plain e b = not-true _ (both-left (not (isServer cfg (dataEventIn (cfg .devents) e .runnable))) _ (used 8 (omega arith) e b .pairs))
 
   pub revent-plain : (e : ℕ) → e < cfg .revents .n → isServer cfg (returnEventIn (cfg .revents) e .runnable) ≡ false
   unfolding pairsWell entryOf countOf
-  revent-plain e b = not-true _ (both-left (not (isServer cfg (returnEventIn (cfg .revents) e .runnable))) _ (kind 9 (omega arith) .used e b .pairs))
+  revent-plain e b = not-true _ (both-left (not (isServer cfg (returnEventIn (cfg .revents) e .runnable))) _ (used 9 (omega arith) e b .pairs))

@@ -6,7 +6,8 @@ use mathlib.Core.Path.{_≡_, refl, sym, ap, _∙_}
 use native.Mathlib.Omega.{arith}
 use lib.Dec.{eqb, ltb}
 use borrow.Author.Tests.{eqb-true, eqb-false}
-use Rattle.laws.specs.Choice.{pick, either, bit}
+use Rattle.laws.specs.Choice.{pick, either}
+use Rattle.laws.proofs.Choosing.{bit-back}
 use Rattle.config.specs.declared.Config.{Config}
 use Rattle.config.specs.Tables.{providedConfIn}
 use Rattle.entries.specs.declared.Entry.{Entry}
@@ -21,10 +22,6 @@ pick-same false x y x′ y′ f g = g refl
 either-same : (b x x′ : Bool) → (b ≡ false → x ≡ x′) → either b x ≡ either b x′
 either-same true x x′ f = refl
 either-same false x x′ f = f refl
-
-bit-back : (b : Bool) → eqb (bit b) 1 ≡ b
-bit-back true = refl
-bit-back false = refl
 
 -- for one tag or another; the kinds below it agree
 module _ (cfg cfg′ : Config) (k : ℕ) (counts : (j : ℕ) → j < k → countOf cfg′ j ≡ countOf cfg j) (entries : (j i : ℕ) → j < k → entryOf cfg′ j i ≡ entryOf cfg j i) where

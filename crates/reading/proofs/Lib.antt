@@ -2,5 +2,4 @@
 pub mod Ahead
 pub mod Adding
 pub mod Kept
-pub mod Told
 pub mod Sound

@@ -3,7 +3,7 @@
 -- so one more of the last kind or a higher one leaves every fault of the others as it was (fault-kept), and its own were tested with the same numbers.
 -- Assumes nothing.
 use Prim.Native.Nat.{ℕ, zero, suc, _+_, _-_, _≤_, _<_}
-use mathlib.Core.Bool.{Bool, true, false, not}
+use mathlib.Core.Bool.{true, not}
 use mathlib.Core.List.{List}
 use mathlib.Core.Path.{_≡_, refl, ap, _∙_}
 use native.Mathlib.Decide.{ℕ-discrete, decLt}
@@ -11,13 +11,14 @@ use native.Mathlib.Omega.{arith}
 use lib.Dec.{eqb, leb}
 use lib.ListN.{length, drop}
 use borrow.Author.Tests.{ne-eqb, eqb-true, leb-true}
-use Rattle.laws.specs.Choice.{pick}
 use Rattle.laws.proofs.Choosing.{both-left, pick-has}
 use Rattle.config.specs.declared.Config.{Config}
 use Rattle.config.specs.Tables.{noConfig}
 use Rattle.entries.specs.declared.Entry.{Entry}
 use Rattle.entries.specs.Entries.{countOf, entryOf, placed}
 use Rattle.entries.specs.Faults.{entryFault, configSound}
+use Rattle.entries.proofs.Kind.{fault-told, Kind, config-told, config-made}
+use Rattle.entries.proofs.Tags.{kind-tag, blank-none, blank-sound}
 use Rattle.reading.specs.Reading.{entryIn, inOrder, headOf, bodyFault, wholeOf, refusedAt, onHead, readFrom, configOf}
 use Rattle.reading.specs.declared.Outcome.the-variants.{Whole}
 use Rattle.reading.specs.declared.Reading.{Reading}
@@ -26,7 +27,6 @@ use Rattle.reading.specs.declared.Head.the-variants.{Field, End, Bad}
 use Rattle.reading.proofs.Ahead.{field-frame}
 use Rattle.reading.proofs.Adding.{Adds, adds, back-read}
 use Rattle.reading.proofs.Kept.{fault-kept}
-use Rattle.reading.proofs.Told.{fault-told, kind-tag, Kind, config-told, config-made, blank-sound}
 
 -- ---- while reading
 
@@ -34,17 +34,6 @@ use Rattle.reading.proofs.Told.{fault-told, kind-tag, Kind, config-told
 pub record Sofar (cfg : Config) (last : ℕ) : Type 0 where
   pub kinds : (k : ℕ) → 0x10 ≤ k → k ≤ 0x19 → Kind cfg k
   pub above : (k : ℕ) → last < k → countOf cfg k ≡ 0
-
--- a blank configuration has no part of any kind
-none-of : (b : Bool) (n : ℕ) → n ≡ 0 → pick b 0 n ≡ 0
-none-of true n h = refl
-none-of false n h = h
-
-blank-none : (k : ℕ) → countOf noConfig k ≡ 0
-unfolding countOf noConfig
-blank-none k =
-    none-of (eqb k 0x10) _ (none-of (eqb k 0x11) _ (none-of (eqb k 0x12) _ (none-of (eqb k 0x13) _ (none-of (eqb k 0x14) _
-    (none-of (eqb k 0x15) _ (none-of (eqb k 0x16) _ (none-of (eqb k 0x17) _ (none-of (eqb k 0x18) _ (none-of (eqb k 0x19) 0 refl)))))))))
 
 sofar-starts : Sofar noConfig 0
 sofar-starts = record { kinds = config-told noConfig blank-sound; above = λ k l. blank-none k }
@@ -65,7 +54,7 @@ module _ (cfg cfg′ : Config) (last tag : ℕ) (e : Entry) (f : Sofar cfg last)
   grown g =
       record {
         places = a .places tag ∙ g .places;
-        room = omega (arith, a .own, fault-told cfg tag (countOf cfg tag) e h .0);
+        room = omega (arith, a .own, fault-told cfg tag (countOf cfg tag) e h .room);
         used = λ i l. stands i (omega (arith, l, a .own)) (ℕ-discrete i (countOf cfg tag));
         blank = λ i l m. rw (a .earlier i (λ q. omega (arith, q, m, a .own))) (g .blank i l (omega (arith, m, a .own)));
       }
@@ -120,9 +109,9 @@ order-up last tag h = go (ℕ-discrete last 0)
 sofar-part : (cfg : Config) (last tag : ℕ) (t : List ℕ) → Sofar cfg last → last ≤ tag → entryFault cfg tag (countOf cfg tag) (entryIn tag t) ≡ 0 → Sofar (placed cfg tag (entryIn tag t)) tag
 sofar-part cfg last tag t f up h =
     let r = fault-told cfg tag (countOf cfg tag) (entryIn tag t) h in
-    let k = kind-tag tag (omega (arith, r .0)) in
-    let a = adds cfg (entryIn tag t) tag (k .0) (k .1) (r .0) (f .kinds tag (k .0) (k .1) .places) in
-    sofar-grows cfg (placed cfg tag (entryIn tag t)) last tag (entryIn tag t) f (rw (back-read tag (k .0) (k .1) t (r .1)) at a) up h (k .0) (k .1)
+    let k = kind-tag tag (omega (arith, r .room)) in
+    let a = adds cfg (entryIn tag t) tag (k .0) (k .1) (r .room) (f .kinds tag (k .0) (k .1) .places) in
+    sofar-grows cfg (placed cfg tag (entryIn tag t)) last tag (entryIn tag t) f (rw (back-read tag (k .0) (k .1) t (r .range)) at a) up h (k .0) (k .1)
 
 -- a field without fault, the edition or a part
 sofar-field : (cfg : Config) (last tag : ℕ) (t : List ℕ) → Sofar cfg last → last ≤ tag → bodyFault cfg tag t ≡ 0 → Sofar (placed cfg tag (entryIn tag t)) tag

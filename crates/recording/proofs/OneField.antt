@@ -1,6 +1,6 @@
 -- One field, both ways: the bytes of a step read as that step, and what reads as a step or as the end is its bytes.
 -- Assumes nothing.
-use Prim.Native.Nat.{ℕ, _<_, _≤_}
+use Prim.Native.Nat.{ℕ, _≤_}
 use mathlib.Core.Bool.{Bool, true, false}
 use mathlib.Core.List.{List, [], _++_}
 use mathlib.Core.Path.{_≡_, refl, sym, ap, ap₂, subst, _∙_}
@@ -12,7 +12,8 @@ use Rattle.laws.specs.Choice.{pick}
 use Rattle.laws.proofs.Choosing.{pick-on, pick-off, pick-has}
 use Rattle.values.specs.declared.Step.{Step}
 use Rattle.wire.specs.Bytes.{lengthOf, numberOf}
-use Rattle.wire.proofs.Laws.{be32-bytes, bytes32-be, be32-fits, read, drop-read}
+use Rattle.wire.proofs.Laws.{be32-bytes, bytes32-be, be32-fits, front-read}
+pub use Rattle.wire.proofs.Laws.{Bytes}
 use Rattle.recording.specs.Recording.{valuesGood, tested, stepAt, stepIn, endIn, fieldOf, bytesOf, endBytes, Recorded}
 use Rattle.recording.specs.declared.Field.{Field}
 use Rattle.recording.specs.declared.Field.the-variants.{Step as IsStep, End, Refused}
@@ -82,10 +83,6 @@ step-told t s n e =
       body = eqb-true (lengthOf (getD t 1 0) (getD t 2 0)) 13 (p₂ .0);
     }
 
--- every byte of a text is below 256
-abbrev pub Bytes : List ℕ → Type 0
-Bytes t = (i : ℕ) → getD t i 0 < 256
-
 -- a step that was read can be held by a recording
 pub step-recorded : (t : List ℕ) (s : Step) (n : ℕ) → Bytes t → fieldOf t ≡ IsStep s n → Recorded s
 step-recorded t s n h e =
@@ -113,8 +110,7 @@ step-bytes t s n h e =
     let k₃ : s .what ≡ getD t 5 0 = ap (λ (x : Step). x .what) (sym u) in
     let a = bytes32-be (s .argument .number) (getD t 7 0) (getD t 8 0) (getD t 9 0) (getD t 10 0) (ap (λ (x : Step). x .argument .number) (sym u)) (h 7) (h 8) (h 9) (h 10) in
     let c = bytes32-be (s .claim .number) (getD t 12 0) (getD t 13 0) (getD t 14 0) (getD t 15 0) (ap (λ (x : Step). x .claim .number) (sym u)) (h 12) (h 13) (h 14) (h 15) in
-    let r : read t 0 16 ≡ bytesOf s = cc in
-    drop-read 16 t 0 (f .long) ∙ ap (λ (l : List ℕ). l ++ drop 16 t) r
+    front-read 16 t (bytesOf s) (f .long) (cc)
 
 no-end : {A : Type 0} {r p : ℕ} → Refused r p ≡ End → A
 no-end e = let z : _≡_ {A = ℕ} 0 1 = cc in absurd (omega arith)
@@ -141,8 +137,7 @@ end-bytes t e =
     let high : getD t 1 0 ≡ 0 = omega arith in
     let low : getD t 2 0 ≡ 0 = omega arith in
     let d : drop 3 t ≡ [] = drop-of-length-le t {i = 3} (omega arith) in
-    let r : read t 0 3 ++ drop 3 t ≡ endBytes = cc in
-    drop-read 3 t 0 (omega arith) ∙ r
+    front-read 3 t endBytes (omega arith) (cc) ∙ ap (λ (l : List ℕ). endBytes ++ l) d
 
 -- ---- refused: 18, at the place asked for or one past it
 

@@ -18,10 +18,12 @@ use Rattle.config.specs.Tables.{noConfig}
 use Rattle.wire.specs.Bytes.{lengthOf, wroteTo, wroteBytes, build}
 use Rattle.wire.specs.declared.Wrote.{Wrote}
 use Rattle.wire.specs.declared.Wrote.the-variants.{Refused as NotWritten}
-use Rattle.wire.proofs.Laws.{build-same, read, drop-read}
+use Rattle.wire.proofs.Laws.{Bytes, front-read, build-same}
 use Rattle.entries.specs.declared.Entry.{Entry}
 use Rattle.entries.specs.Entries.{maxOf, countOf, placesOf, placed}
 use Rattle.entries.specs.Faults.{entryFault}
+use Rattle.entries.proofs.Kind.{fault-told, config-told}
+use Rattle.entries.proofs.Tags.{kind-tag, blank-none, blank-sound}
 use Rattle.reading.specs.Reading.{sizeOf, entryIn, inOrder, headOf, bodyFault, wholeOf, refusedAt, onHead, readFrom, configOf}
 use Rattle.reading.specs.declared.Outcome.{Outcome}
 use Rattle.reading.specs.declared.Outcome.the-variants.{Whole, Refused}
@@ -29,13 +31,12 @@ use Rattle.reading.specs.declared.Reading.{Reading}
 use Rattle.reading.specs.declared.Head.{Head}
 use Rattle.reading.specs.declared.Head.the-variants.{Field, End, Bad}
 use Rattle.reading.proofs.Ahead.{Framed, field-frame}
-use Rattle.reading.proofs.Adding.{each-kind, Adds, adds, back-read}
-use Rattle.reading.proofs.Told.{fault-told, kind-tag, config-told, blank-sound}
+use Rattle.reading.proofs.Adding.{Adds, adds, back-read}
 use Rattle.writing.specs.Writing.{entryBytes, kindBytes, blockOf, partsBytes, editionBytes, endBytes, textOf, configTo, configWritten}
 use Rattle.reading.proofs.Sound.{read-sound}
 use Rattle.trip.specs.Trip.{rewriteTo, rewriteWritten}
 use Rattle.trip.proofs.Growing.{no-part, parts-grow}
-use Rattle.trip.proofs.EachEntry.{Bytes, entry-front}
+use Rattle.trip.proofs.EachEntry.{entry-front}
 
 -- ---- while reading
 
@@ -45,10 +46,9 @@ pub record Tidy (cfg : Config) (last : ℕ) : Type 0 where
   pub above : (k : ℕ) → 0x10 ≤ k → k ≤ 0x19 → last < k → countOf cfg k ≡ 0
 
 tidy-starts : Tidy noConfig 0
-unfolding countOf noConfig
 tidy-starts = record {
   places = λ k l h. config-told noConfig blank-sound k l h .places;
-  above = λ k l h b. each-kind (λ j. countOf noConfig j ≡ 0) refl refl refl refl refl refl refl refl refl refl k l h;
+  above = λ k l h b. blank-none k;
 }
 
 tidy-grows : (cfg cfg′ : Config) (last tag : ℕ) (e : Entry) → Adds cfg cfg′ tag e → last ≤ tag → Tidy cfg last → Tidy cfg′ tag
@@ -108,17 +108,16 @@ module _ (t : List ℕ) (h : Bytes t) (cfg : Config) (last tag size : ℕ) (fr :
       edition-front one first said room =
           let high : getD t 1 0 ≡ 0 = omega (arith, h 1, h 2) in
           let low : getD t 2 0 ≡ 1 = omega (arith, h 1, h 2) in
-          let r : read t 0 4 ≡ editionBytes = cc in
-          drop-read 4 t 0 room ∙ ap (λ (x : List ℕ). x ++ drop 4 t) r
+          front-read 4 t editionBytes room (cc)
 
   part-step : (tag ≡ 0x01 → ⊥) → (last ≡ 0 → ⊥) → Step
   unfolding bodyFault
   part-step n m =
       let w : entryFault cfg tag (countOf cfg tag) (entryIn tag t) ≡ 0 = rw (ne-eqb tag 0x01 n) at fault in
       let r = fault-told cfg tag (countOf cfg tag) (entryIn tag t) w in
-      let k = kind-tag tag (omega (arith, r .0)) in
+      let k = kind-tag tag (omega (arith, r .room)) in
       let a : Adds cfg (placed cfg tag (entryIn tag t)) tag (entryIn tag t) =
-      rw (back-read tag (k .0) (k .1) t (r .1)) at (adds cfg (entryIn tag t) tag (k .0) (k .1) (r .0) (f .places tag (k .0) (k .1))) in
+      rw (back-read tag (k .0) (k .1) t (r .range)) at (adds cfg (entryIn tag t) tag (k .0) (k .1) (r .room) (f .places tag (k .0) (k .1))) in
       let up = order-later last tag m (fr .order) .0 in
       let grow : partsBytes (placed cfg tag (entryIn tag t)) ≡ partsBytes cfg ++ entryBytes tag (entryIn tag t) =
       parts-grow cfg (placed cfg tag (entryIn tag t)) tag (entryIn tag t) a (k .0) (k .1) (λ j l b d. f .above j l b (omega arith)) in
@@ -184,8 +183,7 @@ end-text t cfg last e l =
     let high : getD t 1 0 ≡ 0 = omega (arith, f .said) in
     let low : getD t 2 0 ≡ 0 = omega (arith, f .said) in
     let d : drop 3 t ≡ [] = drop-of-length-le t {i = 3} (omega arith) in
-    let r : read t 0 3 ++ drop 3 t ≡ endBytes = cc in
-    let w : t ≡ endBytes = drop-read 3 t 0 (omega arith) ∙ r in
+    let w : t ≡ endBytes = front-read 3 t endBytes (omega arith) (cc) ∙ ap (λ (x : List ℕ). endBytes ++ x) d in
     ap (λ (x : List ℕ). (editionBytes ++ partsBytes cfg) ++ x) (sym w) ∙ ap (λ (x : Bool). pick x [] (editionBytes ++ partsBytes cfg) ++ t) (sym (ne-eqb last 0 (f .later)))
 
 -- ---- the whole text

@@ -6,7 +6,6 @@ use Prim.Native.Nat.{ℕ, zero, suc, _+_, _-_, _<_, _≤_, _^_}
 use mathlib.Core.Bool.{Bool, true, false}
 use mathlib.Core.List.{List, _++_, append-assoc}
 use mathlib.Core.Path.{_≡_, refl, sym, ap, ap₂, subst, _∙_}
-use native.Mathlib.Decide.{decLt}
 use native.Mathlib.Nat.{not-suc-le-zero}
 use native.Mathlib.Numerals.{add-one}
 use native.Mathlib.Omega.{arith}
@@ -24,16 +23,16 @@ use Rattle.wire.specs.declared.Wrote.the-variants.{To, Refused as NotWritten}
 use Rattle.entries.specs.declared.Entry.{Entry}
 use Rattle.entries.specs.Entries.{countOf, entryOf, placed}
 use Rattle.entries.specs.Faults.{entryFault, configSound}
+use Rattle.entries.proofs.Kind.{fault-told, config-told}
 use Rattle.reading.specs.Reading.{sizeOf, entryIn, inOrder, headOf, bodyFault, wholeOf, refusedAt, onHead, readFrom, configOf}
 use Rattle.reading.specs.declared.Head.{Head}
 use Rattle.reading.specs.declared.Head.the-variants.{Field}
 use Rattle.reading.proofs.Adding.{Adds, adds, back-read}
 use Rattle.reading.proofs.Kept.{fault-kept}
-use Rattle.reading.proofs.Told.{fault-told, config-told}
 use Rattle.writing.specs.Writing.{entryBytes, partBytes, kindBytes, blockOf, partsBytes, editionBytes, endBytes, textOf, configTo, configWritten}
 use Rattle.trip.specs.Trip.{writeAndReadOf as readBack}
 use Rattle.trip.proofs.EachEntry.{entry-back, part-shaped, part-fits, frame-head, entry-leads}
-use Rattle.trip.proofs.Standing.{no-kind-count, no-kind-entry, Stands, stands-start, stands-grow, stands-next, stands-all}
+use Rattle.trip.proofs.Standing.{Stands, stands-start, stands-grow, stands-next, stands-all}
 
 -- ---- reading goes on
 
@@ -73,27 +72,13 @@ module _ (cfg : Config) (s : configSound cfg ≡ true) (v : (i : ℕ) → getD (
     no-fault = config-told cfg s tag low high .used i l
 
     reads-entry : entryIn tag t ≡ e
-    reads-entry = entry-back tag e u (part-fits cfg v tag low high i (fault-told cfg tag i e no-fault .1)) ∙ part-shaped tag low high cfg i
+    reads-entry = entry-back tag e u (part-fits cfg v tag low high i (fault-told cfg tag i e no-fault .range)) ∙ part-shaped tag low high cfg i
 
     -- the same fault is found with what stands
-    count-below : (j : ℕ) → j < tag → countOf p j ≡ countOf cfg j
-    count-below j m = go (decLt j 0x10)
-      where
-        go : Dec (j < 0x10) → countOf p j ≡ countOf cfg j
-        go (yes b) = no-kind-count j (λ k a c q. omega (arith, a, b, q)) p ∙ sym (no-kind-count j (λ k a c q. omega (arith, a, b, q)) cfg)
-        go (no b) = f .counts j (omega (arith, b)) m
-
-    entry-below : (j n : ℕ) → j < tag → entryOf p j n ≡ entryOf cfg j n
-    entry-below j n m = go (decLt j 0x10)
-      where
-        go : Dec (j < 0x10) → entryOf p j n ≡ entryOf cfg j n
-        go (yes b) = no-kind-entry j (λ k a c q. omega (arith, a, b, q)) p n ∙ sym (no-kind-entry j (λ k a c q. omega (arith, a, b, q)) cfg n)
-        go (no b) = f .lower j n (omega (arith, b)) m
-
     found : entryFault p tag (countOf p tag) (entryIn tag t) ≡ 0
     found =
         ap₂ (λ (n : ℕ) (x : Entry). entryFault p tag n x) (f .own) reads-entry
-        ∙ fault-kept cfg p tag count-below entry-below i (λ z. f .same (i - 1) (omega (arith, z))) e ∙ no-fault
+        ∙ fault-kept cfg p tag (f .counts) (f .lower) i (λ z. f .same (i - 1) (omega (arith, z))) e ∙ no-fault
 
     body : bodyFault p tag t ≡ 0
     unfolding bodyFault
@@ -102,8 +87,8 @@ module _ (cfg : Config) (s : configSound cfg ≡ true) (v : (i : ℕ) → getD (
     grows : Adds p (placed p tag (entryIn tag t)) tag e
     grows =
         let r = fault-told p tag (countOf p tag) (entryIn tag t) found in
-        let b = back-read tag low high t (r .1) ∙ reads-entry in
-        subst (Adds p (placed p tag (entryIn tag t)) tag) b (adds p (entryIn tag t) tag low high (r .0) (f .places tag low high))
+        let b = back-read tag low high t (r .range) ∙ reads-entry in
+        subst (Adds p (placed p tag (entryIn tag t)) tag) b (adds p (entryIn tag t) tag low high (r .room) (f .places tag low high))
 
   part-reads : (tag i : ℕ) → 0x10 ≤ tag → tag ≤ 0x19 → i < countOf cfg tag → (u : List ℕ) → Reads cfg tag (i + 1) u → Reads cfg tag i (partBytes cfg tag i ++ u)
   unfolding Reads partBytes

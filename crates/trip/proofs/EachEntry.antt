@@ -13,7 +13,7 @@ use Rattle.laws.proofs.Choosing.{both-left, both-right}
 use Rattle.config.specs.declared.Config.{Config}
 use Rattle.config.specs.Tables.{noVariableConf, variableConfIn}
 use Rattle.wire.specs.Bytes.{lengthOf}
-use Rattle.wire.proofs.Laws.{be32-bytes, bytes32-be, read, drop-read}
+use Rattle.wire.proofs.Laws.{Bytes, be32-bytes, bytes32-be, front-read}
 use Rattle.entries.specs.declared.Entry.{Entry}
 use Rattle.entries.specs.Entries.{entryOf}
 use Rattle.entries.specs.Faults.{inRange, isTime}
@@ -22,10 +22,6 @@ use Rattle.reading.specs.declared.Head.the-variants.{Field}
 use Rattle.reading.proofs.Ahead.{Framed}
 use Rattle.reading.proofs.Adding.{each-kind}
 use Rattle.writing.specs.Writing.{runnableBytes, variableBytes, areaBytes, operationBytes, timerBytes, pairBytes, entryBytes}
-
--- every byte of a text is below 256
-abbrev pub Bytes : List ℕ → Type 0
-Bytes t = (i : ℕ) → getD t i 0 < 256
 
 -- ---- written, then read
 
@@ -142,41 +138,35 @@ module _ (t : List ℕ) (h : Bytes t) where
   runnable-front tag said room =
       let l = low-byte 7 (omega arith) said in
       let q = bytes32-be (runnableIn t .number) (getD t 5 0) (getD t 6 0) (getD t 7 0) (getD t 8 0) refl (h 5) (h 6) (h 7) (h 8) in
-      let r : read t 0 10 ≡ runnableBytes (runnableIn t) = cc in
-      drop-read 10 t 0 room ∙ ap (λ (x : List ℕ). x ++ drop 10 t) r
+      front-read 10 t (runnableBytes (runnableIn t)) room (cc)
 
   variable-front : getD t 0 0 ≡ 0x11 → lengthOf (getD t 1 0) (getD t 2 0) ≡ 6 → 9 ≤ length t → t ≡ variableBytes (variableIn t) ++ drop 9 t
   variable-front tag said room =
       let l = low-byte 6 (omega arith) said in
       let q = bytes32-be (variableIn t .number) (getD t 5 0) (getD t 6 0) (getD t 7 0) (getD t 8 0) refl (h 5) (h 6) (h 7) (h 8) in
-      let r : read t 0 9 ≡ variableBytes (variableIn t) = cc in
-      drop-read 9 t 0 room ∙ ap (λ (x : List ℕ). x ++ drop 9 t) r
+      front-read 9 t (variableBytes (variableIn t)) room (cc)
 
   area-front : getD t 0 0 ≡ 0x12 → lengthOf (getD t 1 0) (getD t 2 0) ≡ 1 → 4 ≤ length t → t ≡ areaBytes (areaIn t) ++ drop 4 t
   area-front tag said room =
       let l = low-byte 1 (omega arith) said in
-      let r : read t 0 4 ≡ areaBytes (areaIn t) = cc in
-      drop-read 4 t 0 room ∙ ap (λ (x : List ℕ). x ++ drop 4 t) r
+      front-read 4 t (areaBytes (areaIn t)) room (cc)
 
   operation-front : getD t 0 0 ≡ 0x16 → lengthOf (getD t 1 0) (getD t 2 0) ≡ 7 → 10 ≤ length t → t ≡ operationBytes (operationIn t) ++ drop 10 t
   operation-front tag said room =
       let l = low-byte 7 (omega arith) said in
       let q = bytes32-be (operationIn t .number) (getD t 6 0) (getD t 7 0) (getD t 8 0) (getD t 9 0) refl (h 6) (h 7) (h 8) (h 9) in
-      let r : read t 0 10 ≡ operationBytes (operationIn t) = cc in
-      drop-read 10 t 0 room ∙ ap (λ (x : List ℕ). x ++ drop 10 t) r
+      front-read 10 t (operationBytes (operationIn t)) room (cc)
 
   timer-front : getD t 0 0 ≡ 0x17 → lengthOf (getD t 1 0) (getD t 2 0) ≡ 5 → 8 ≤ length t → t ≡ timerBytes (timerIn t) ++ drop 8 t
   timer-front tag said room =
       let l = low-byte 5 (omega arith) said in
       let q = bytes32-be (timerIn t .number) (getD t 4 0) (getD t 5 0) (getD t 6 0) (getD t 7 0) refl (h 4) (h 5) (h 6) (h 7) in
-      let r : read t 0 8 ≡ timerBytes (timerIn t) = cc in
-      drop-read 8 t 0 room ∙ ap (λ (x : List ℕ). x ++ drop 8 t) r
+      front-read 8 t (timerBytes (timerIn t)) room (cc)
 
   pair-front : (tag : ℕ) → getD t 0 0 ≡ tag → lengthOf (getD t 1 0) (getD t 2 0) ≡ 2 → 5 ≤ length t → t ≡ pairBytes tag (pairIn t) ++ drop 5 t
   pair-front tag first said room =
       let l = low-byte 2 (omega arith) said in
-      let r : read t 0 5 ≡ pairBytes tag (pairIn t) = cc in
-      drop-read 5 t 0 room ∙ ap (λ (x : List ℕ). x ++ drop 5 t) r
+      front-read 5 t (pairBytes tag (pairIn t)) room (cc)
 
   -- a field that was read is the field of its entry
   pub entry-front : (tag : ℕ) → 0x10 ≤ tag → tag ≤ 0x19 → getD t 0 0 ≡ tag → lengthOf (getD t 1 0) (getD t 2 0) ≡ sizeOf tag → 3 + sizeOf tag ≤ length t

@@ -9,9 +9,8 @@ use native.Mathlib.Omega.{arith}
 use lib.ListN.{length, getD}
 use lib.Seq.{ext-getD}
 use lib.Dec.{eqb, ltb}
-use borrow.Author.Tests.{eqb-true}
 use Rattle.laws.specs.Choice.{bit}
-use Rattle.laws.proofs.Choosing.{both-left, both-right}
+use Rattle.laws.proofs.Choosing.{bit-back}
 use Rattle.laws.proofs.Places.{past}
 use Rattle.config.specs.declared.RunnableConf.{RunnableConf}
 use Rattle.config.specs.declared.RunnableConfs.{RunnableConfs}
@@ -38,8 +37,8 @@ use Rattle.config.specs.Tables.{runnableConfIn, noRunnableConf, variableConfIn,
 use Rattle.entries.specs.declared.Entry.{Entry}
 use Rattle.entries.specs.Entries.{noEntry, maxOf, countOf, placesOf, entryOf, runnableEntry, runnablePart, variableEntry, variablePart, areaEntry, areaPart, requiredEntry, requiredPart, providedEntry, providedPart, linkEntry, linkPart, operationEntry, operationPart, timerEntry, timerPart, dataEventEntry, dataEventPart, returnEventEntry, returnEventPart}
 use Rattle.entries.specs.Faults.{isNoEntry, configSound}
+use Rattle.entries.proofs.Kind.{blank-told, config-told}
 use Rattle.reading.proofs.Adding.{each-kind}
-use Rattle.reading.proofs.Told.{config-told}
 
 -- ---- an entry holds all of its part
 
@@ -49,23 +48,19 @@ flags-told true false = (refl, refl)
 flags-told false true = (refl, refl)
 flags-told false false = (refl, refl)
 
-mark-told : (a : Bool) → eqb (bit a) 1 ≡ a
-mark-told true = refl
-mark-told false = refl
-
 runnable-back : (x : RunnableConf) → runnablePart (runnableEntry x) ≡ x
 runnable-back x =
     ap₂ (λ (c i : Bool). record { component = x .component; concurrent = c; init = i; interval = x .interval; capacity = x .capacity })
     (flags-told (x .concurrent) (x .init) .0) (flags-told (x .concurrent) (x .init) .1)
 
 variable-back : (x : VariableConf) → variablePart (variableEntry x) ≡ x
-variable-back x = ap (λ (m : Bool). record { component = x .component; initialed = m; initial = x .initial }) (mark-told (x .initialed))
+variable-back x = ap (λ (m : Bool). record { component = x .component; initialed = m; initial = x .initial }) (bit-back (x .initialed))
 
 provided-back : (x : ProvidedConf) → providedPart (providedEntry x) ≡ x
-provided-back x = ap (λ (m : Bool). record { component = x .component; queued = m }) (mark-told (x .queued))
+provided-back x = ap (λ (m : Bool). record { component = x .component; queued = m }) (bit-back (x .queued))
 
 operation-back : (x : OperationConf) → operationPart (operationEntry x) ≡ x
-operation-back x = ap (λ (m : Bool). record { component = x .component; asynchronous = m; server = x .server; timeout = x .timeout }) (mark-told (x .asynchronous))
+operation-back x = ap (λ (m : Bool). record { component = x .component; asynchronous = m; server = x .server; timeout = x .timeout }) (bit-back (x .asynchronous))
 
 -- rows whose parts have the same entries
 same-rows : {A : Type 0} (entry : A → Entry) (part : Entry → A) → ((x : A) → part (entry x) ≡ x) → (d : A) (l m : List A) → length l ≡ length m
@@ -158,16 +153,7 @@ same-config p q f =
 -- ---- places that are not in use
 
 is-blank : (e : Entry) → isNoEntry e ≡ true → e ≡ noEntry
-unfolding isNoEntry
-is-blank e h =
-    let h₁ = both-right (eqb (e .first) 0) _ h in
-    let h₂ = both-right (eqb (e .second) 0) _ h₁ in
-    let a : e .first ≡ 0 = eqb-true (e .first) 0 (both-left (eqb (e .first) 0) _ h) in
-    let b : e .second ≡ 0 = eqb-true (e .second) 0 (both-left (eqb (e .second) 0) _ h₁) in
-    let c : e .third ≡ 0 = eqb-true (e .third) 0 (both-left (eqb (e .third) 0) (eqb (e .number) 0) h₂) in
-    let d : e .number ≡ 0 = eqb-true (e .number) 0 (both-right (eqb (e .third) 0) (eqb (e .number) 0) h₂) in
-    ap₂ (λ (x y : ℕ). record { first = x; second = y; third = e .third; number = e .number }) a b
-    ∙ ap₂ (λ (x y : ℕ). record { first = 0; second = 0; third = x; number = y }) c d
+is-blank e h = let z = blank-told e h in λ i. record { first = z .first i; second = z .second i; third = z .third i; number = z .number i }
 
 past-places : (cfg : Config) (k : ℕ) → 0x10 ≤ k → k ≤ 0x19 → (n : ℕ) → placesOf cfg k ≤ n → entryOf cfg k n ≡ noEntry
 unfolding placesOf entryOf runnableConfIn variableConfIn areaConfIn requiredConfIn providedConfIn linkIn operationConfIn timerConfIn dataEventIn returnEventIn

@@ -32,6 +32,10 @@ be32-fits a b c d ha hb hc hd = omega arith
 
 -- ---- the front of a text
 
+-- every byte of a text is below 256
+abbrev pub Bytes : List ℕ → Type 0
+Bytes t = (i : ℕ) → getD t i 0 < 256
+
 -- what code takes as the part of a slice from a place on is all that is ahead
 pub rest-is : (s : List ℕ) (at : ℕ) → take (length s - at) (drop at s) ≡ drop at s
 rest-is s at = take-all (length s - at) (drop at s) (let e = length-drop at s in omega arith)
@@ -41,12 +45,18 @@ abbrev pub read : List ℕ → ℕ → ℕ → List ℕ
 read t i zero = []
 read t i (suc n) = getD t i 0 ∷ read t (suc i) n
 
-pub drop-read : (n : ℕ) (t : List ℕ) (i : ℕ) → i + n ≤ length t → drop i t ≡ read t i n ++ drop (i + n) t
+drop-read : (n : ℕ) (t : List ℕ) (i : ℕ) → i + n ≤ length t → drop i t ≡ read t i n ++ drop (i + n) t
 drop-read zero t i h = let e : i ≡ i + 0 = omega arith in ap (λ (k : ℕ). drop k t) e
 drop-read (suc n) t i h =
     let e : suc i + n ≡ i + suc n = omega arith in
     drop-cons t i 0 (omega arith)
     ∙ ap (λ (r : List ℕ). getD t i 0 ∷ r) (drop-read n t (suc i) (omega arith) ∙ ap (λ (k : ℕ). read t (suc i) n ++ drop k t) e)
+
+-- the first n bytes are these
+pub front-read : (n : ℕ) (t xs : List ℕ) → n ≤ length t → read t 0 n ≡ xs → t ≡ xs ++ drop n t
+front-read n t xs h r =
+    let e : 0 + n ≡ n = omega arith in
+    drop-read n t 0 (omega arith) ∙ ap₂ (λ (l : List ℕ) (k : ℕ). l ++ drop k t) r e
 
 -- ---- a buffer
 

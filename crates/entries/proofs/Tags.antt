@@ -1,0 +1,66 @@
+-- Tags that name no kind, and the blank configuration.
+-- Assumes nothing.
+use Prim.Native.Nat.{ℕ, _≤_, _<_}
+use mathlib.Core.Bool.{true, false}
+use mathlib.Core.Path.{_≡_, refl}
+use native.Mathlib.Decide.{decLt}
+use native.Mathlib.Omega.{arith}
+use lib.Dec.{eqb}
+use borrow.Author.Tests.{ne-eqb}
+use Rattle.laws.specs.Choice.{pick}
+use Rattle.laws.specs.Loop.{allBelow}
+use Rattle.laws.proofs.Choosing.{pick-alike}
+use Rattle.config.specs.declared.Config.{Config}
+use Rattle.config.specs.Tables.{noConfig, runnableConfIn, variableConfIn, areaConfIn, requiredConfIn, providedConfIn, linkIn, operationConfIn, timerConfIn, dataEventIn, returnEventIn}
+use Rattle.entries.specs.Entries.{noEntry, maxOf, countOf, placesOf, entryOf}
+use Rattle.entries.specs.Faults.{inRange, namesThere, pairsWell, entryFault, isNoEntry, placeSound, kindSound, configSound}
+
+module _ (k : ℕ) (n : 0x10 ≤ k → k ≤ 0x19 → ⊥) where
+  -- a choice by the ten tags comes to its last
+  falls : {A : Type 0} (a b c d e f g h i j z : A) → pick (eqb k 0x10) a (pick (eqb k 0x11) b (pick (eqb k 0x12) c (pick (eqb k 0x13) d (pick (eqb k 0x14) e (pick (eqb k 0x15) f (pick (eqb k 0x16) g (pick (eqb k 0x17) h (pick (eqb k 0x18) i (pick (eqb k 0x19) j z))))))))) ≡ z
+  falls a b c d e f g h i j z =
+      rw (
+        off 0x10 (omega arith) (omega arith),
+        off 0x11 (omega arith) (omega arith),
+        off 0x12 (omega arith) (omega arith),
+        off 0x13 (omega arith) (omega arith),
+        off 0x14 (omega arith) (omega arith),
+        off 0x15 (omega arith) (omega arith),
+        off 0x16 (omega arith) (omega arith),
+        off 0x17 (omega arith) (omega arith),
+        off 0x18 (omega arith) (omega arith),
+        off 0x19 (omega arith) (omega arith),
+      )
+    where
+      off : (t : ℕ) → 0x10 ≤ t → t ≤ 0x19 → eqb k t ≡ false
+      off t l m = ne-eqb k t (λ q. n (omega (arith, q)) (omega (arith, q)))
+
+  pub no-kind-max : maxOf k ≡ 0
+  unfolding maxOf
+  no-kind-max = falls _ _ _ _ _ _ _ _ _ _ 0
+
+  pub no-kind-count : (cfg : Config) → countOf cfg k ≡ 0
+  unfolding countOf
+  no-kind-count cfg = falls _ _ _ _ _ _ _ _ _ _ 0
+
+  pub no-kind-entry : (cfg : Config) (i : ℕ) → entryOf cfg k i ≡ noEntry
+  unfolding entryOf
+  no-kind-entry cfg i = falls _ _ _ _ _ _ _ _ _ _ noEntry
+
+-- a tag of which there may be a part is one of the ten
+pub kind-tag : (tag : ℕ) → 0 < maxOf tag → (0x10 ≤ tag) × (tag ≤ 0x19)
+kind-tag tag h = go (decLt tag 0x10) (decLt 0x19 tag)
+  where
+    go : Dec (tag < 0x10) → Dec (0x19 < tag) → (0x10 ≤ tag) × (tag ≤ 0x19)
+    go (yes l) b = absurd (omega (arith, no-kind-max tag (λ a b. omega (arith, l, a))))
+    go (no n) (yes l) = absurd (omega (arith, no-kind-max tag (λ a b. omega (arith, l, b))))
+    go (no n) (no m) = (omega (arith, n), omega (arith, m))
+
+-- a blank configuration has no part of any kind, and is sound
+pub blank-none : (k : ℕ) → countOf noConfig k ≡ 0
+unfolding countOf noConfig
+blank-none k = simp pick-alike
+
+pub blank-sound : configSound noConfig ≡ true
+unfolding configSound kindSound allBelow placeSound entryFault isNoEntry inRange namesThere pairsWell maxOf countOf placesOf entryOf noConfig runnableConfIn variableConfIn areaConfIn requiredConfIn providedConfIn linkIn operationConfIn timerConfIn dataEventIn returnEventIn
+blank-sound = refl
