@@ -1,12 +1,12 @@
 -- One part more: what placing an entry changes of a configuration, said by counts and entries, and that nothing else changes.
--- Each kind shows the same six facts; above them the kind is a number from 10 to 19, hex.
+-- A table of any kind shows the same six facts (row-adds); above them the kind is a number from 10 to 19, hex.
 -- Assumes nothing.
 use Prim.Native.Nat.{ℕ, _+_, _≤_, _<_, zero, suc, _*_, _%_}
-use mathlib.Core.Path.{_≡_, refl, ap}
+use mathlib.Core.Path.{_≡_, refl, sym, ap, _∙_}
 use native.Mathlib.Decide.{ℕ-discrete}
 use native.Mathlib.Omega.{arith}
 use lib.Dec.{eqb, ltb, leb}
-use lib.ListN.{length, length-set, getD}
+use lib.ListN.{length, length-set, getD, set}
 use lib.Seq.{getD-set-same, getD-set-other}
 use borrow.Author.Tests.{lt-ltb, ne-eqb, leb-true}
 use Rattle.laws.specs.Choice.{pick, bit}
@@ -58,143 +58,35 @@ pub record Adds (cfg cfg′ : Config) (tag : ℕ) (e : Entry) : Type 0 where
   pub earlier : (i : ℕ) → (i ≡ countOf cfg tag → ⊥) → entryOf cfg′ tag i ≡ entryOf cfg tag i
   pub others : (k i : ℕ) → (k ≡ tag → ⊥) → entryOf cfg′ k i ≡ entryOf cfg k i
 
-module _ (cfg : Config) (e : Entry) where
-  runnable-adds : cfg .runnables .n < 16 → length (cfg .runnables .at) ≡ 16 → Adds cfg (placed cfg 0x10 e) 0x10 (backOf 0x10 e)
-  unfolding placed countOf placesOf entryOf backOf runnableConfIn addRunnableConf
-  runnable-adds h l =
-      rw (lt-ltb (cfg .runnables .n) 16 h)
-      (record {
-        own = refl;
-        counts = λ k n. rw (ne-eqb k 0x10 n);
-        places = λ k. rw (length-set (cfg .runnables .at) (cfg .runnables .n) (runnablePart e));
-        entry = ap runnableEntry (getD-set-same (cfg .runnables .at) (cfg .runnables .n) (runnablePart e) noRunnableConf (omega arith));
-        earlier = λ i n. ap runnableEntry (getD-set-other (cfg .runnables .at) (cfg .runnables .n) i (runnablePart e) noRunnableConf n);
-        others = λ k i n. rw (ne-eqb k 0x10 n);
-      })
+-- a table with one part more, of the kind whose entries it holds
+row-adds : {A : Type 0} {cfg cfg′ : Config} {tag : ℕ} (entry : A → Entry) (d x : A) (l : List A) (n : ℕ) → n < length l → countOf cfg tag ≡ n → countOf cfg′ tag ≡ n + 1
+    → ((i : ℕ) → entryOf cfg tag i ≡ entry (getD l i d)) → ((i : ℕ) → entryOf cfg′ tag i ≡ entry (getD (set l n x) i d))
+    → (length (set l n x) ≡ length l → (k : ℕ) → placesOf cfg′ k ≡ placesOf cfg k)
+    → ((k : ℕ) → (k ≡ tag → ⊥) → (countOf cfg′ k ≡ countOf cfg k) × ((i : ℕ) → entryOf cfg′ k i ≡ entryOf cfg k i)) → Adds cfg cfg′ tag (entry x)
+row-adds {A} {cfg} {cfg′} {tag} entry d x l n b own more was now places rest = record {
+  own = more ∙ ap (λ (m : ℕ). m + 1) (sym own);
+  counts = λ k q. rest k q .0;
+  places = places (length-set l n x);
+  entry = ap (entryOf cfg′ tag) own ∙ now n ∙ ap entry (getD-set-same l n x d b);
+  earlier = λ i q. now i ∙ ap entry (getD-set-other l n i x d (λ e. q (e ∙ sym own))) ∙ sym (was i);
+  others = λ k i q. rest k q .1 i;
+}
 
-  variable-adds : cfg .variables .n < 16 → length (cfg .variables .at) ≡ 16 → Adds cfg (placed cfg 0x11 e) 0x11 (backOf 0x11 e)
-  unfolding placed countOf placesOf entryOf backOf variableConfIn addVariableConf
-  variable-adds h l =
-      rw (lt-ltb (cfg .variables .n) 16 h)
-      (record {
-        own = refl;
-        counts = λ k n. rw (ne-eqb k 0x11 n);
-        places = λ k. rw (length-set (cfg .variables .at) (cfg .variables .n) (variablePart e));
-        entry = ap variableEntry (getD-set-same (cfg .variables .at) (cfg .variables .n) (variablePart e) noVariableConf (omega arith));
-        earlier = λ i n. ap variableEntry (getD-set-other (cfg .variables .at) (cfg .variables .n) i (variablePart e) noVariableConf n);
-        others = λ k i n. rw (ne-eqb k 0x11 n);
-      })
-
-  area-adds : cfg .areas .n < 16 → length (cfg .areas .at) ≡ 16 → Adds cfg (placed cfg 0x12 e) 0x12 (backOf 0x12 e)
-  unfolding placed countOf placesOf entryOf backOf areaConfIn addAreaConf
-  area-adds h l =
-      rw (lt-ltb (cfg .areas .n) 16 h)
-      (record {
-        own = refl;
-        counts = λ k n. rw (ne-eqb k 0x12 n);
-        places = λ k. rw (length-set (cfg .areas .at) (cfg .areas .n) (areaPart e));
-        entry = ap areaEntry (getD-set-same (cfg .areas .at) (cfg .areas .n) (areaPart e) noAreaConf (omega arith));
-        earlier = λ i n. ap areaEntry (getD-set-other (cfg .areas .at) (cfg .areas .n) i (areaPart e) noAreaConf n);
-        others = λ k i n. rw (ne-eqb k 0x12 n);
-      })
-
-  required-adds : cfg .required .n < 16 → length (cfg .required .at) ≡ 16 → Adds cfg (placed cfg 0x13 e) 0x13 (backOf 0x13 e)
-  unfolding placed countOf placesOf entryOf backOf requiredConfIn addRequiredConf
-  required-adds h l =
-      rw (lt-ltb (cfg .required .n) 16 h)
-      (record {
-        own = refl;
-        counts = λ k n. rw (ne-eqb k 0x13 n);
-        places = λ k. rw (length-set (cfg .required .at) (cfg .required .n) (requiredPart e));
-        entry = ap requiredEntry (getD-set-same (cfg .required .at) (cfg .required .n) (requiredPart e) noRequiredConf (omega arith));
-        earlier = λ i n. ap requiredEntry (getD-set-other (cfg .required .at) (cfg .required .n) i (requiredPart e) noRequiredConf n);
-        others = λ k i n. rw (ne-eqb k 0x13 n);
-      })
-
-  provided-adds : cfg .provided .n < 16 → length (cfg .provided .at) ≡ 16 → Adds cfg (placed cfg 0x14 e) 0x14 (backOf 0x14 e)
-  unfolding placed countOf placesOf entryOf backOf providedConfIn addProvidedConf
-  provided-adds h l =
-      rw (lt-ltb (cfg .provided .n) 16 h)
-      (record {
-        own = refl;
-        counts = λ k n. rw (ne-eqb k 0x14 n);
-        places = λ k. rw (length-set (cfg .provided .at) (cfg .provided .n) (providedPart e));
-        entry = ap providedEntry (getD-set-same (cfg .provided .at) (cfg .provided .n) (providedPart e) noProvidedConf (omega arith));
-        earlier = λ i n. ap providedEntry (getD-set-other (cfg .provided .at) (cfg .provided .n) i (providedPart e) noProvidedConf n);
-        others = λ k i n. rw (ne-eqb k 0x14 n);
-      })
-
-  link-adds : cfg .links .n < 32 → length (cfg .links .at) ≡ 32 → Adds cfg (placed cfg 0x15 e) 0x15 (backOf 0x15 e)
-  unfolding placed countOf placesOf entryOf backOf linkIn addLink
-  link-adds h l =
-      rw (lt-ltb (cfg .links .n) 32 h)
-      (record {
-        own = refl;
-        counts = λ k n. rw (ne-eqb k 0x15 n);
-        places = λ k. rw (length-set (cfg .links .at) (cfg .links .n) (linkPart e));
-        entry = ap linkEntry (getD-set-same (cfg .links .at) (cfg .links .n) (linkPart e) noLink (omega arith));
-        earlier = λ i n. ap linkEntry (getD-set-other (cfg .links .at) (cfg .links .n) i (linkPart e) noLink n);
-        others = λ k i n. rw (ne-eqb k 0x15 n);
-      })
-
-  operation-adds : cfg .operations .n < 8 → length (cfg .operations .at) ≡ 8 → Adds cfg (placed cfg 0x16 e) 0x16 (backOf 0x16 e)
-  unfolding placed countOf placesOf entryOf backOf operationConfIn addOperationConf
-  operation-adds h l =
-      rw (lt-ltb (cfg .operations .n) 8 h)
-      (record {
-        own = refl;
-        counts = λ k n. rw (ne-eqb k 0x16 n);
-        places = λ k. rw (length-set (cfg .operations .at) (cfg .operations .n) (operationPart e));
-        entry = ap operationEntry (getD-set-same (cfg .operations .at) (cfg .operations .n) (operationPart e) noOperationConf (omega arith));
-        earlier = λ i n. ap operationEntry (getD-set-other (cfg .operations .at) (cfg .operations .n) i (operationPart e) noOperationConf n);
-        others = λ k i n. rw (ne-eqb k 0x16 n);
-      })
-
-  timer-adds : cfg .timers .n < 8 → length (cfg .timers .at) ≡ 8 → Adds cfg (placed cfg 0x17 e) 0x17 (backOf 0x17 e)
-  unfolding placed countOf placesOf entryOf backOf timerConfIn addTimerConf
-  timer-adds h l =
-      rw (lt-ltb (cfg .timers .n) 8 h)
-      (record {
-        own = refl;
-        counts = λ k n. rw (ne-eqb k 0x17 n);
-        places = λ k. rw (length-set (cfg .timers .at) (cfg .timers .n) (timerPart e));
-        entry = ap timerEntry (getD-set-same (cfg .timers .at) (cfg .timers .n) (timerPart e) noTimerConf (omega arith));
-        earlier = λ i n. ap timerEntry (getD-set-other (cfg .timers .at) (cfg .timers .n) i (timerPart e) noTimerConf n);
-        others = λ k i n. rw (ne-eqb k 0x17 n);
-      })
-
-  data-event-adds : cfg .devents .n < 32 → length (cfg .devents .at) ≡ 32 → Adds cfg (placed cfg 0x18 e) 0x18 (backOf 0x18 e)
-  unfolding placed countOf placesOf entryOf backOf dataEventIn addDataEvent
-  data-event-adds h l =
-      rw (lt-ltb (cfg .devents .n) 32 h)
-      (record {
-        own = refl;
-        counts = λ k n. rw (ne-eqb k 0x18 n);
-        places = λ k. rw (length-set (cfg .devents .at) (cfg .devents .n) (dataEventPart e));
-        entry = ap dataEventEntry (getD-set-same (cfg .devents .at) (cfg .devents .n) (dataEventPart e) noDataEvent (omega arith));
-        earlier = λ i n. ap dataEventEntry (getD-set-other (cfg .devents .at) (cfg .devents .n) i (dataEventPart e) noDataEvent n);
-        others = λ k i n. rw (ne-eqb k 0x18 n);
-      })
-
-  return-event-adds : cfg .revents .n < 16 → length (cfg .revents .at) ≡ 16 → Adds cfg (placed cfg 0x19 e) 0x19 (backOf 0x19 e)
-  unfolding placed countOf placesOf entryOf backOf returnEventIn addReturnEvent
-  return-event-adds h l =
-      rw (lt-ltb (cfg .revents .n) 16 h)
-      (record {
-        own = refl;
-        counts = λ k n. rw (ne-eqb k 0x19 n);
-        places = λ k. rw (length-set (cfg .revents .at) (cfg .revents .n) (returnEventPart e));
-        entry = ap returnEventEntry (getD-set-same (cfg .revents .at) (cfg .revents .n) (returnEventPart e) noReturnEvent (omega arith));
-        earlier = λ i n. ap returnEventEntry (getD-set-other (cfg .revents .at) (cfg .revents .n) i (returnEventPart e) noReturnEvent n);
-        others = λ k i n. rw (ne-eqb k 0x19 n);
-      })
-
-  -- a kind with room: one part more
-  pub adds : (tag : ℕ) → 0x10 ≤ tag → tag ≤ 0x19 → countOf cfg tag < maxOf tag → placesOf cfg tag ≡ maxOf tag → Adds cfg (placed cfg tag e) tag (backOf tag e)
-  unfolding countOf maxOf placesOf
-  adds =
-      each-kind (λ tag. countOf cfg tag < maxOf tag → placesOf cfg tag ≡ maxOf tag → Adds cfg (placed cfg tag e) tag (backOf tag e))
-      runnable-adds variable-adds area-adds required-adds provided-adds link-adds operation-adds timer-adds data-event-adds return-event-adds
+-- a kind with room: one part more
+pub adds : (cfg : Config) (e : Entry) (tag : ℕ) → 0x10 ≤ tag → tag ≤ 0x19 → countOf cfg tag < maxOf tag → placesOf cfg tag ≡ maxOf tag → Adds cfg (placed cfg tag e) tag (backOf tag e)
+unfolding countOf maxOf placesOf placed entryOf backOf runnableConfIn addRunnableConf variableConfIn addVariableConf areaConfIn addAreaConf requiredConfIn addRequiredConf providedConfIn addProvidedConf linkIn addLink operationConfIn addOperationConf timerConfIn addTimerConf dataEventIn addDataEvent returnEventIn addReturnEvent
+adds cfg e =
+    each-kind (λ tag. countOf cfg tag < maxOf tag → placesOf cfg tag ≡ maxOf tag → Adds cfg (placed cfg tag e) tag (backOf tag e))
+    (λ h l. rw (lt-ltb (cfg .runnables .n) 16 h) (row-adds runnableEntry noRunnableConf (runnablePart e) (cfg .runnables .at) (cfg .runnables .n) (omega arith) refl refl (λ i. refl) (λ i. refl) (λ q k. rw q) (λ k n. rw (ne-eqb k 0x10 n) (refl, λ i. refl))))
+    (λ h l. rw (lt-ltb (cfg .variables .n) 16 h) (row-adds variableEntry noVariableConf (variablePart e) (cfg .variables .at) (cfg .variables .n) (omega arith) refl refl (λ i. refl) (λ i. refl) (λ q k. rw q) (λ k n. rw (ne-eqb k 0x11 n) (refl, λ i. refl))))
+    (λ h l. rw (lt-ltb (cfg .areas .n) 16 h) (row-adds areaEntry noAreaConf (areaPart e) (cfg .areas .at) (cfg .areas .n) (omega arith) refl refl (λ i. refl) (λ i. refl) (λ q k. rw q) (λ k n. rw (ne-eqb k 0x12 n) (refl, λ i. refl))))
+    (λ h l. rw (lt-ltb (cfg .required .n) 16 h) (row-adds requiredEntry noRequiredConf (requiredPart e) (cfg .required .at) (cfg .required .n) (omega arith) refl refl (λ i. refl) (λ i. refl) (λ q k. rw q) (λ k n. rw (ne-eqb k 0x13 n) (refl, λ i. refl))))
+    (λ h l. rw (lt-ltb (cfg .provided .n) 16 h) (row-adds providedEntry noProvidedConf (providedPart e) (cfg .provided .at) (cfg .provided .n) (omega arith) refl refl (λ i. refl) (λ i. refl) (λ q k. rw q) (λ k n. rw (ne-eqb k 0x14 n) (refl, λ i. refl))))
+    (λ h l. rw (lt-ltb (cfg .links .n) 32 h) (row-adds linkEntry noLink (linkPart e) (cfg .links .at) (cfg .links .n) (omega arith) refl refl (λ i. refl) (λ i. refl) (λ q k. rw q) (λ k n. rw (ne-eqb k 0x15 n) (refl, λ i. refl))))
+    (λ h l. rw (lt-ltb (cfg .operations .n) 8 h) (row-adds operationEntry noOperationConf (operationPart e) (cfg .operations .at) (cfg .operations .n) (omega arith) refl refl (λ i. refl) (λ i. refl) (λ q k. rw q) (λ k n. rw (ne-eqb k 0x16 n) (refl, λ i. refl))))
+    (λ h l. rw (lt-ltb (cfg .timers .n) 8 h) (row-adds timerEntry noTimerConf (timerPart e) (cfg .timers .at) (cfg .timers .n) (omega arith) refl refl (λ i. refl) (λ i. refl) (λ q k. rw q) (λ k n. rw (ne-eqb k 0x17 n) (refl, λ i. refl))))
+    (λ h l. rw (lt-ltb (cfg .devents .n) 32 h) (row-adds dataEventEntry noDataEvent (dataEventPart e) (cfg .devents .at) (cfg .devents .n) (omega arith) refl refl (λ i. refl) (λ i. refl) (λ q k. rw q) (λ k n. rw (ne-eqb k 0x18 n) (refl, λ i. refl))))
+    (λ h l. rw (lt-ltb (cfg .revents .n) 16 h) (row-adds returnEventEntry noReturnEvent (returnEventPart e) (cfg .revents .at) (cfg .revents .n) (omega arith) refl refl (λ i. refl) (λ i. refl) (λ q k. rw q) (λ k n. rw (ne-eqb k 0x19 n) (refl, λ i. refl))))
 
 -- ---- the entry of a part that was read is the entry that the bytes say
 
