@@ -96,29 +96,31 @@ unfolding build
 build-size f k zero h = omega arith
 build-size f k (suc n) h = omega (arith, length-append (build f n) (f n), h n, build-size f k n h)
 
--- ---- a loop that puts pieces: i of n are put, and o is where the text goes on
+-- ---- a loop that puts pieces: all n of them fit, i are put, and o is where the text goes on
 
 pub record Putting (b₀ : List ℕ) (at : ℕ) (f : ℕ → List ℕ) (n i o : ℕ) (b : List ℕ) : Type 0 where
+  pub room : at + length (build f n) ≤ length b₀
   pub upto : i ≤ n
   pub put : Put b₀ at (build f i) o b
 
-pub putting-start : (b₀ : List ℕ) (at : ℕ) (f : ℕ → List ℕ) (n : ℕ) → Putting b₀ at f n 0 at b₀
+pub putting-start : (b₀ : List ℕ) (at : ℕ) (f : ℕ → List ℕ) (n : ℕ) → at + length (build f n) ≤ length b₀ → Putting b₀ at f n 0 at b₀
 unfolding build
-putting-start b₀ at f n = record { upto = omega arith; put = put-none b₀ at }
+putting-start b₀ at f n room = record { room = room; upto = omega arith; put = put-none b₀ at }
 
-module _ (b₀ : List ℕ) (at : ℕ) (f : ℕ → List ℕ) (n i o : ℕ) (b : List ℕ) (room : at + length (build f n) ≤ length b₀) (p : Putting b₀ at f n i o b) where
+module _ {b₀ : List ℕ} {at : ℕ} {f : ℕ → List ℕ} {n i o : ℕ} {b : List ℕ} (p : Putting b₀ at f n i o b) where
   pub putting-same : length b ≡ length b₀
   putting-same = let l = build-le f n i (p .upto) in put-same b₀ b (build f i) at o (p .put) (omega arith)
 
   pub putting-room : i < n → o + length (f i) ≤ length b₀
   putting-room l = let k = build-le f n (i + 1) (omega arith) in omega (arith, p .put .next, ap length (build-one f i), length-append (build f i) (f i))
 
-  pub putting-step : i < n → (r : Wrote) (b′ : List ℕ) (size : ℕ) → Written b o (f i) r b′ → size ≡ length (f i) → Putting b₀ at f n (i + 1) (o + size) b′
-  putting-step l r b′ size w z =
+  pub putting-step : i < n → {r : Wrote} {b′ : List ℕ} {size : ℕ} → Written b o (f i) r b′ → size ≡ length (f i) → Putting b₀ at f n (i + 1) (o + size) b′
+  putting-step l {r} {b′} {size} w z =
       let m = build-le f n i (p .upto) in
       let k = build-le f n (i + 1) (omega arith) in
       let e = build-one f i in
       record {
+        room = p .room;
         upto = omega arith;
         put = rw e (put-more b₀ b (build f i) at o (p .put) (omega arith) b′ (f i) (o + size) (omega (arith, ap length e)) (w .bytes) (ap (λ (q : ℕ). o + q) z));
       }
@@ -126,4 +128,4 @@ module _ (b₀ : List ℕ) (at : ℕ) (f : ℕ → List ℕ) (n i o : ℕ) (b : 
   pub putting-done : n ≤ i → Written b₀ at (build f n) (To o) b
   putting-done l =
       let e : i ≡ n = omega (arith, p .upto) in
-      put-written b₀ b (build f n) at o (subst (λ (k : ℕ). Put b₀ at (build f k) o b) e (p .put)) room
+      put-written b₀ b (build f n) at o (subst (λ (k : ℕ). Put b₀ at (build f k) o b) e (p .put)) (p .room)

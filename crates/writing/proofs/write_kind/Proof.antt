@@ -18,15 +18,16 @@ abbrev μ-loop : tie.MeasureT-loop
 μ-loop buf₀ at cfg tag room n size i₀ next₀ buf i next = n - i
 
 loop-holds : tie.Need-loop-holds Inv-loop μ-loop
-loop-holds c = putting-start (now (c .before .before .before .before .before .before .args .buf)) (c .before .before .before .before .before .before .args .at) (partBytes (c .before .before .before .before .before .before .args .cfg) (c .before .before .before .before .before .before .args .tag)) (countOf (c .before .before .before .before .before .before .args .cfg) (c .before .before .before .before .before .before .args .tag))
+unfolding kindBytes
+loop-holds c =
+    putting-start (now (c .before .before .before .before .before .before .args .buf)) (c .before .before .before .before .before .before .args .at) (partBytes (c .before .before .before .before .before .before .args .cfg) (c .before .before .before .before .before .before .args .tag)) (countOf (c .before .before .before .before .before .before .args .cfg) (c .before .before .before .before .before .before .args .tag))
+    (run-room (now (c .before .before .before .before .before .before .args .buf)) (kindBytes (c .before .before .before .before .before .before .args .cfg) (c .before .before .before .before .before .before .args .tag)) (c .before .before .before .before .before .before .args .at) (c .before .before .before .before .kind-size .result) (kind-size (c .before .before .before .before .before .before .args .cfg) (c .before .before .before .before .before .before .args .tag) ∙ sym (c .before .before .before .before .kind-size .ensures)) (sym (c .before .before .before .has-room .ensures) ∙ c .before .before .if1 .taken))
 
 add-next : tie.Need-add-next Inv-loop μ-loop
-unfolding kindBytes
 add-next c =
-    let r = run-room (now (c .before .before .before .before .before .before .before .before .before .before .before .before .before .args .buf)) (kindBytes (c .before .before .before .before .before .before .before .before .before .before .before .before .before .args .cfg) (c .before .before .before .before .before .before .before .before .before .before .before .before .before .args .tag)) (c .before .before .before .before .before .before .before .before .before .before .before .before .before .args .at) (c .before .before .before .before .before .before .before .before .before .before .before .kind-size .result) (kind-size (c .before .before .before .before .before .before .before .before .before .before .before .before .before .args .cfg) (c .before .before .before .before .before .before .before .before .before .before .before .before .before .args .tag) ∙ sym (c .before .before .before .before .before .before .before .before .before .before .before .kind-size .ensures)) (sym (c .before .before .before .before .before .before .before .before .before .before .has-room .ensures) ∙ c .before .before .before .before .before .before .before .before .before .if1 .taken) in
     let l : c .before .before .before .before .before .before .loop .i < countOf (c .before .before .before .before .before .before .before .before .before .before .before .before .before .args .cfg) (c .before .before .before .before .before .before .before .before .before .before .before .before .before .args .tag) = omega (arith, c .before .before .before .before .before .before .before .before .count-of .ensures, c .before .before .before .before .before .loop-test .taken) in
     let z : c .before .before .before .before .before .before .before .field-size .result ≡ length (partBytes (c .before .before .before .before .before .before .before .before .before .before .before .before .before .args .cfg) (c .before .before .before .before .before .before .before .before .before .before .before .before .before .args .tag) (c .before .before .before .before .before .before .loop .i)) = c .before .before .before .before .before .before .before .field-size .ensures ∙ sym (part-size (c .before .before .before .before .before .before .before .before .before .before .before .before .before .args .cfg) (c .before .before .before .before .before .before .before .before .before .before .before .before .before .args .tag) (c .before .before .before .before .before .before .loop .i)) in
-    omega (arith, putting-room (now (c .before .before .before .before .before .before .before .before .before .before .before .before .before .args .buf)) (c .before .before .before .before .before .before .before .before .before .before .before .before .before .args .at) (partBytes (c .before .before .before .before .before .before .before .before .before .before .before .before .before .args .cfg) (c .before .before .before .before .before .before .before .before .before .before .before .before .before .args .tag)) (countOf (c .before .before .before .before .before .before .before .before .before .before .before .before .before .args .cfg) (c .before .before .before .before .before .before .before .before .before .before .before .before .before .args .tag)) (c .before .before .before .before .before .before .loop .i) (c .before .before .before .before .before .before .loop .next) (c .before .before .before .before .before .before .loop .buf) r (c .before .before .before .before .before .before .loop .inv) l)
+    omega (arith, putting-room (c .before .before .before .before .before .before .loop .inv) l)
 
 add-i : tie.Need-add-i Inv-loop μ-loop
 add-i c = omega (arith, c .before .before .before .before .before .before .before .before .count-of, c .before .before .before .before .before .loop-test .taken)
@@ -35,25 +36,18 @@ loop-less : tie.Need-loop-less Inv-loop μ-loop
 loop-less c = omega (arith, c .before .before .before .before .before .loop-test .taken)
 
 loop-again : tie.Need-loop-again Inv-loop μ-loop
-unfolding kindBytes
 loop-again c =
-    let r = run-room (now (c .before .before .before .before .before .before .before .before .before .before .before .before .before .args .buf)) (kindBytes (c .before .before .before .before .before .before .before .before .before .before .before .before .before .args .cfg) (c .before .before .before .before .before .before .before .before .before .before .before .before .before .args .tag)) (c .before .before .before .before .before .before .before .before .before .before .before .before .before .args .at) (c .before .before .before .before .before .before .before .before .before .before .before .kind-size .result) (kind-size (c .before .before .before .before .before .before .before .before .before .before .before .before .before .args .cfg) (c .before .before .before .before .before .before .before .before .before .before .before .before .before .args .tag) ∙ sym (c .before .before .before .before .before .before .before .before .before .before .before .kind-size .ensures)) (sym (c .before .before .before .before .before .before .before .before .before .before .has-room .ensures) ∙ c .before .before .before .before .before .before .before .before .before .if1 .taken) in
     let l : c .before .before .before .before .before .before .loop .i < countOf (c .before .before .before .before .before .before .before .before .before .before .before .before .before .args .cfg) (c .before .before .before .before .before .before .before .before .before .before .before .before .before .args .tag) = omega (arith, c .before .before .before .before .before .before .before .before .count-of .ensures, c .before .before .before .before .before .loop-test .taken) in
     let z : c .before .before .before .before .before .before .before .field-size .result ≡ length (partBytes (c .before .before .before .before .before .before .before .before .before .before .before .before .before .args .cfg) (c .before .before .before .before .before .before .before .before .before .before .before .before .before .args .tag) (c .before .before .before .before .before .before .loop .i)) = c .before .before .before .before .before .before .before .field-size .ensures ∙ sym (part-size (c .before .before .before .before .before .before .before .before .before .before .before .before .before .args .cfg) (c .before .before .before .before .before .before .before .before .before .before .before .before .before .args .tag) (c .before .before .before .before .before .before .loop .i)) in
     let w = part-written (c .before .before .before .before .before .before .before .before .before .before .before .before .before .args .cfg) (c .before .before .before .before .before .before .before .before .before .before .before .before .before .args .tag) (c .before .before .before .before .before .before .loop .i) (c .before .before .before .entry-of .result) (c .before .before .before .entry-of .ensures) (c .before .before .before .before .before .before .loop .buf) (c .before .before .before .before .before .before .loop .next) (c .before .before .write-entry .result) (c .before .before .write-entry .last .0) (c .before .before .write-entry .ensures) in
-    putting-step (now (c .before .before .before .before .before .before .before .before .before .before .before .before .before .args .buf)) (c .before .before .before .before .before .before .before .before .before .before .before .before .before .args .at) (partBytes (c .before .before .before .before .before .before .before .before .before .before .before .before .before .args .cfg) (c .before .before .before .before .before .before .before .before .before .before .before .before .before .args .tag)) (countOf (c .before .before .before .before .before .before .before .before .before .before .before .before .before .args .cfg) (c .before .before .before .before .before .before .before .before .before .before .before .before .before .args .tag)) (c .before .before .before .before .before .before .loop .i) (c .before .before .before .before .before .before .loop .next) (c .before .before .before .before .before .before .loop .buf) r (c .before .before .before .before .before .before .loop .inv) l (c .before .before .write-entry .result) (c .before .before .write-entry .last .0) (c .before .before .before .before .before .before .before .field-size .result) w z
+    putting-step (c .before .before .before .before .before .before .loop .inv) l w z
 
 same-length : tie.Need-same-length Inv-loop μ-loop
-unfolding kindBytes
-same-length c =
-    let r = run-room (now (c .before .before .before .before .before .before .before .before .args .buf)) (kindBytes (c .before .before .before .before .before .before .before .before .args .cfg) (c .before .before .before .before .before .before .before .before .args .tag)) (c .before .before .before .before .before .before .before .before .args .at) (c .before .before .before .before .before .before .kind-size .result) (kind-size (c .before .before .before .before .before .before .before .before .args .cfg) (c .before .before .before .before .before .before .before .before .args .tag) ∙ sym (c .before .before .before .before .before .before .kind-size .ensures)) (sym (c .before .before .before .before .before .has-room .ensures) ∙ c .before .before .before .before .if1 .taken) in
-    putting-same (now (c .before .before .before .before .before .before .before .before .args .buf)) (c .before .before .before .before .before .before .before .before .args .at) (partBytes (c .before .before .before .before .before .before .before .before .args .cfg) (c .before .before .before .before .before .before .before .before .args .tag)) (countOf (c .before .before .before .before .before .before .before .before .args .cfg) (c .before .before .before .before .before .before .before .before .args .tag)) (c .before .loop .i) (c .before .loop .next) (c .before .loop .buf) r (c .before .loop .inv)
+same-length c = putting-same (c .before .loop .inv)
 
 returns : tie.Need-returns Inv-loop μ-loop
 unfolding kindBytes
-returns c =
-    let r = run-room (now (c .before .before .before .before .before .before .before .before .args .buf)) (kindBytes (c .before .before .before .before .before .before .before .before .args .cfg) (c .before .before .before .before .before .before .before .before .args .tag)) (c .before .before .before .before .before .before .before .before .args .at) (c .before .before .before .before .before .before .kind-size .result) (kind-size (c .before .before .before .before .before .before .before .before .args .cfg) (c .before .before .before .before .before .before .before .before .args .tag) ∙ sym (c .before .before .before .before .before .before .kind-size .ensures)) (sym (c .before .before .before .before .before .has-room .ensures) ∙ c .before .before .before .before .if1 .taken) in
-    putting-done (now (c .before .before .before .before .before .before .before .before .args .buf)) (c .before .before .before .before .before .before .before .before .args .at) (partBytes (c .before .before .before .before .before .before .before .before .args .cfg) (c .before .before .before .before .before .before .before .before .args .tag)) (countOf (c .before .before .before .before .before .before .before .before .args .cfg) (c .before .before .before .before .before .before .before .before .args .tag)) (c .before .loop .i) (c .before .loop .next) (c .before .loop .buf) r (c .before .loop .inv) (omega (arith, c .before .before .before .count-of .ensures, c .loop-test .left))
+returns c = putting-done (c .before .loop .inv) (omega (arith, c .before .before .before .count-of .ensures, c .loop-test .left))
 
 returns-2 : tie.Need-returns-2 Inv-loop μ-loop
 returns-2 c = run-short (now (c .before .before .before .before .args .buf)) (kindBytes (c .before .before .before .before .args .cfg) (c .before .before .before .before .args .tag)) (c .before .before .before .before .args .at) (c .before .before .kind-size .result) (kind-size (c .before .before .before .before .args .cfg) (c .before .before .before .before .args .tag) ∙ sym (c .before .before .kind-size .ensures)) (sym (c .before .has-room .ensures) ∙ c .if1 .left)

@@ -17,7 +17,10 @@ abbrev μ-loop : tie.MeasureT-loop
 μ-loop buf₀ at cfg room j₀ next₀ buf j next = 10 - j
 
 loop-holds : tie.Need-loop-holds Inv-loop μ-loop
-loop-holds c = putting-start (now (c .before .before .before .before .args .buf)) (c .before .before .before .before .args .at) (blockOf (c .before .before .before .before .args .cfg)) 10
+unfolding partsBytes
+loop-holds c =
+    putting-start (now (c .before .before .before .before .args .buf)) (c .before .before .before .before .args .at) (blockOf (c .before .before .before .before .args .cfg)) 10
+    (run-room (now (c .before .before .before .before .args .buf)) (partsBytes (c .before .before .before .before .args .cfg)) (c .before .before .before .before .args .at) (c .before .before .parts-size .result) (parts-size (c .before .before .before .before .args .cfg) ∙ sym (c .before .before .parts-size .ensures)) (sym (c .before .has-room .ensures) ∙ c .if1 .taken))
 
 add-write-kind : tie.Need-add-write-kind Inv-loop μ-loop
 add-write-kind c = omega (arith, c .before .loop-test .taken)
@@ -26,11 +29,9 @@ add-kind-size : tie.Need-add-kind-size Inv-loop μ-loop
 add-kind-size c = omega (arith, c .before .before .before .before .loop-test .taken)
 
 add-next : tie.Need-add-next Inv-loop μ-loop
-unfolding partsBytes
 add-next c =
-    let r = run-room (now (c .before .before .before .before .before .before .before .before .before .before .before .args .buf)) (partsBytes (c .before .before .before .before .before .before .before .before .before .before .before .args .cfg)) (c .before .before .before .before .before .before .before .before .before .before .before .args .at) (c .before .before .before .before .before .before .before .before .before .parts-size .result) (parts-size (c .before .before .before .before .before .before .before .before .before .before .before .args .cfg) ∙ sym (c .before .before .before .before .before .before .before .before .before .parts-size .ensures)) (sym (c .before .before .before .before .before .before .before .before .has-room .ensures) ∙ c .before .before .before .before .before .before .before .if1 .taken) in
     let z : c .kind-size .result ≡ length (blockOf (c .before .before .before .before .before .before .before .before .before .before .before .args .cfg) (c .before .before .before .before .before .before .loop .j)) = c .kind-size .ensures ∙ sym (block-size (c .before .before .before .before .before .before .before .before .before .before .before .args .cfg) (c .before .before .before .before .before .before .loop .j)) in
-    omega (arith, putting-room (now (c .before .before .before .before .before .before .before .before .before .before .before .args .buf)) (c .before .before .before .before .before .before .before .before .before .before .before .args .at) (blockOf (c .before .before .before .before .before .before .before .before .before .before .before .args .cfg)) 10 (c .before .before .before .before .before .before .loop .j) (c .before .before .before .before .before .before .loop .next) (c .before .before .before .before .before .before .loop .buf) r (c .before .before .before .before .before .before .loop .inv) (c .before .before .before .before .before .loop-test .taken))
+    omega (arith, putting-room (c .before .before .before .before .before .before .loop .inv) (c .before .before .before .before .before .loop-test .taken))
 
 add-j : tie.Need-add-j Inv-loop μ-loop
 add-j c = omega (arith, c .before .before .before .before .before .loop-test .taken)
@@ -39,23 +40,17 @@ loop-less : tie.Need-loop-less Inv-loop μ-loop
 loop-less c = omega (arith, c .before .before .before .before .before .loop-test .taken)
 
 loop-again : tie.Need-loop-again Inv-loop μ-loop
-unfolding partsBytes blockOf
+unfolding blockOf
 loop-again c =
-    let r = run-room (now (c .before .before .before .before .before .before .before .before .before .before .before .args .buf)) (partsBytes (c .before .before .before .before .before .before .before .before .before .before .before .args .cfg)) (c .before .before .before .before .before .before .before .before .before .before .before .args .at) (c .before .before .before .before .before .before .before .before .before .parts-size .result) (parts-size (c .before .before .before .before .before .before .before .before .before .before .before .args .cfg) ∙ sym (c .before .before .before .before .before .before .before .before .before .parts-size .ensures)) (sym (c .before .before .before .before .before .before .before .before .has-room .ensures) ∙ c .before .before .before .before .before .before .before .if1 .taken) in
     let z : c .kind-size .result ≡ length (blockOf (c .before .before .before .before .before .before .before .before .before .before .before .args .cfg) (c .before .before .before .before .before .before .loop .j)) = c .kind-size .ensures ∙ sym (block-size (c .before .before .before .before .before .before .before .before .before .before .before .args .cfg) (c .before .before .before .before .before .before .loop .j)) in
-    putting-step (now (c .before .before .before .before .before .before .before .before .before .before .before .args .buf)) (c .before .before .before .before .before .before .before .before .before .before .before .args .at) (blockOf (c .before .before .before .before .before .before .before .before .before .before .before .args .cfg)) 10 (c .before .before .before .before .before .before .loop .j) (c .before .before .before .before .before .before .loop .next) (c .before .before .before .before .before .before .loop .buf) r (c .before .before .before .before .before .before .loop .inv) (c .before .before .before .before .before .loop-test .taken) (c .before .before .before .write-kind .result) (c .before .before .before .write-kind .last .0) (c .kind-size .result) (c .before .before .before .write-kind .ensures) z
+    putting-step (c .before .before .before .before .before .before .loop .inv) (c .before .before .before .before .before .loop-test .taken) (c .before .before .before .write-kind .ensures) z
 
 same-length : tie.Need-same-length Inv-loop μ-loop
-unfolding partsBytes
-same-length c =
-    let r = run-room (now (c .before .before .before .before .before .before .args .buf)) (partsBytes (c .before .before .before .before .before .before .args .cfg)) (c .before .before .before .before .before .before .args .at) (c .before .before .before .before .parts-size .result) (parts-size (c .before .before .before .before .before .before .args .cfg) ∙ sym (c .before .before .before .before .parts-size .ensures)) (sym (c .before .before .before .has-room .ensures) ∙ c .before .before .if1 .taken) in
-    putting-same (now (c .before .before .before .before .before .before .args .buf)) (c .before .before .before .before .before .before .args .at) (blockOf (c .before .before .before .before .before .before .args .cfg)) 10 (c .before .loop .j) (c .before .loop .next) (c .before .loop .buf) r (c .before .loop .inv)
+same-length c = putting-same (c .before .loop .inv)
 
 returns : tie.Need-returns Inv-loop μ-loop
 unfolding partsBytes
-returns c =
-    let r = run-room (now (c .before .before .before .before .before .before .args .buf)) (partsBytes (c .before .before .before .before .before .before .args .cfg)) (c .before .before .before .before .before .before .args .at) (c .before .before .before .before .parts-size .result) (parts-size (c .before .before .before .before .before .before .args .cfg) ∙ sym (c .before .before .before .before .parts-size .ensures)) (sym (c .before .before .before .has-room .ensures) ∙ c .before .before .if1 .taken) in
-    putting-done (now (c .before .before .before .before .before .before .args .buf)) (c .before .before .before .before .before .before .args .at) (blockOf (c .before .before .before .before .before .before .args .cfg)) 10 (c .before .loop .j) (c .before .loop .next) (c .before .loop .buf) r (c .before .loop .inv) (c .loop-test .left)
+returns c = putting-done (c .before .loop .inv) (c .loop-test .left)
 
 returns-2 : tie.Need-returns-2 Inv-loop μ-loop
 returns-2 c = run-short (now (c .before .before .before .before .args .buf)) (partsBytes (c .before .before .before .before .args .cfg)) (c .before .before .before .before .args .at) (c .before .before .parts-size .result) (parts-size (c .before .before .before .before .args .cfg) ∙ sym (c .before .before .parts-size .ensures)) (sym (c .before .has-room .ensures) ∙ c .if1 .left)
