@@ -20,26 +20,18 @@ same-length c = c .before .before .before .buf .given .1 ∙ c .before .before .
 same-length-2 : tie.Need-same-length-2 Inv-loop μ-loop
 same-length-2 c = c .before .before .before .before .before .buf .given .1 ∙ c .before .before .before .before .before .before .before .before .before .loop .inv .1
 
-add-done : tie.Need-add-done Inv-loop μ-loop
-add-done c =
-    let l = c .before .before .before .before .before .buf .given .1 in
-    let m = c .before .before .before .before .before .buf .given .0 in
-    let h = rw (c .before .before .more .given .1) at (c .before .before .before .before .before .before .read-part .ensures .0) in
-    omega (arith, h, l, m)
-
-loop-less : tie.Need-loop-less Inv-loop μ-loop
-loop-less c =
-    let l = c .before .before .before .before .before .buf .given .1 in
-    let m = c .before .before .before .before .before .buf .given .0 in
-    let h = rw (c .before .before .more .given .1) at (c .before .before .before .before .before .before .read-part .ensures .0) in
-    omega (arith, h, l, m)
-
 loop-again : tie.Need-loop-again Inv-loop μ-loop
 loop-again c =
     let l = c .before .before .before .before .before .buf .given .1 in
     let m = c .before .before .before .before .before .buf .given .0 in
     let h = rw (c .before .before .more .given .1) at (c .before .before .before .before .before .before .read-part .ensures .0) in
     omega (arith, h, l, m)
+
+add-done : tie.Need-add-done Inv-loop μ-loop
+add-done c = let k = loop-again c in omega arith
+
+loop-less : tie.Need-loop-less Inv-loop μ-loop
+loop-less c = let k = loop-again c in omega arith
 
 same-length-3 : tie.Need-same-length-3 Inv-loop μ-loop
 same-length-3 c = c .before .loop .inv .1
