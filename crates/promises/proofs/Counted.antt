@@ -1,4 +1,4 @@
--- Judging the bytes is judging the list of the steps read from them: the steps that a verdict counts are accepted, one after the other, and lead to its state;
+-- From bytes to steps: what a verdict counts are the first steps of the bytes, each accepted from the state before it, up to the state that the verdict gives;
 -- an accepted text is a whole recording, and all of its steps are counted.
 -- Assumes nothing.
 use Prim.Native.Nat.{ℕ, suc, _+_, _≤_, _<_}
