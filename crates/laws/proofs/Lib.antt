@@ -1,3 +1,4 @@
+-- The laws of choices, loops and rows.
 pub mod Choosing
 pub mod Looping
 pub mod Places

@@ -1,3 +1,5 @@
+-- `cases::every_case` meets its contract.
+-- Assumes nothing.
 use mathlib.Core.Path.{_≡_, refl, _∙_}
 use borrow.Author.Needs.{needs}
 use native.Mathlib.Omega.{arith}

@@ -1,3 +1,5 @@
+-- `desk::repeat` meets its contract.
+-- Assumes nothing.
 use Prim.Native.Nat.{_-_}
 use native.Mathlib.Omega.{arith}
 use Rattle.desk.proofs.repeat.Statement.{statement}

@@ -1,3 +1,5 @@
+-- `entries::count_of` meets its contract.
+-- Assumes nothing.
 use Rattle.entries.specs.Entries.{countOf}
 use borrow.Author.Tests.{ne-eqb}
 use Rattle.entries.proofs.count_of.Statement.{statement}

@@ -1,3 +1,5 @@
+-- `entries::entry_fault` meets its contract.
+-- Assumes nothing.
 use Rattle.entries.specs.Faults.{entryFault}
 use borrow.Author.Tests.{lt-ltb, le-ltb}
 use Rattle.entries.proofs.entry_fault.Statement.{statement}

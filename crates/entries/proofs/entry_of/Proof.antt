@@ -1,3 +1,5 @@
+-- `entries::entry_of` meets its contract.
+-- Assumes nothing.
 use Rattle.entries.specs.Entries.{entryOf}
 use borrow.Author.Tests.{ne-eqb}
 use Rattle.entries.proofs.entry_of.Statement.{statement}

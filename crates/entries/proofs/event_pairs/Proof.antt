@@ -1,3 +1,5 @@
+-- `entries::event_pairs` meets its contract.
+-- Assumes nothing.
 use Rattle.entries.proofs.event_pairs.Statement.{statement}
 use Rattle.entries.proofs.event_pairs.Tie as tie
 

@@ -1,3 +1,5 @@
+-- `entries::in_range` meets its contract.
+-- Assumes nothing.
 use Rattle.entries.specs.Faults.{inRange}
 use borrow.Author.Tests.{ne-eqb}
 use Rattle.entries.proofs.in_range.Statement.{statement}

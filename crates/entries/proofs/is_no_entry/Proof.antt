@@ -1,3 +1,5 @@
+-- `entries::is_no_entry` meets its contract.
+-- Assumes nothing.
 use Rattle.entries.specs.Faults.{isNoEntry}
 use Rattle.laws.proofs.Choosing.{tests}
 use Rattle.entries.proofs.is_no_entry.Statement.{statement}

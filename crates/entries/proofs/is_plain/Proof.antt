@@ -1,3 +1,5 @@
+-- `entries::is_plain` meets its contract.
+-- Assumes nothing.
 use Rattle.entries.proofs.is_plain.Statement.{statement}
 use Rattle.entries.proofs.is_plain.Tie as tie
 

@@ -1,3 +1,5 @@
+-- `entries::is_queued` meets its contract.
+-- Assumes nothing.
 use Rattle.entries.specs.Faults.{isQueued}
 use Rattle.entries.proofs.is_queued.Statement.{statement}
 use Rattle.entries.proofs.is_queued.Tie as tie

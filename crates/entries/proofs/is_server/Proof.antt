@@ -1,3 +1,5 @@
+-- `entries::is_server` meets its contract.
+-- Assumes nothing.
 use Rattle.entries.specs.Faults.{isServer}
 use Rattle.entries.proofs.is_server.Statement.{statement}
 use Rattle.entries.proofs.is_server.Tie as tie

@@ -1,3 +1,5 @@
+-- `entries::is_time` meets its contract.
+-- Assumes nothing.
 use Rattle.laws.proofs.Choosing.{tests}
 use Rattle.entries.proofs.is_time.Statement.{statement}
 use Rattle.entries.proofs.is_time.Tie as tie

@@ -1,3 +1,5 @@
+-- `entries::kind_sound` meets its contract. The loop has tested the places below its counter (`allBelow`), and tests one more by `all-more`.
+-- Assumes nothing.
 use mathlib.Core.Path.{_≡_, sym, _∙_}
 use mathlib.Core.Bool.{true}
 use native.Mathlib.Omega.{arith}

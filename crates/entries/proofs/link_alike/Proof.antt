@@ -1,3 +1,5 @@
+-- `entries::link_alike` meets its contract.
+-- Assumes nothing.
 use Rattle.entries.proofs.link_alike.Statement.{statement}
 use Rattle.entries.proofs.link_alike.Tie as tie
 

@@ -1,3 +1,5 @@
+-- `entries::link_pairs` meets its contract.
+-- Assumes nothing.
 use Rattle.entries.proofs.link_pairs.Statement.{statement}
 use Rattle.entries.proofs.link_pairs.Tie as tie
 

@@ -1,3 +1,5 @@
+-- `entries::max_of` meets its contract.
+-- Assumes nothing.
 use Rattle.entries.specs.Entries.{maxOf}
 use borrow.Author.Tests.{ne-eqb}
 use borrow.Author.Needs.{needs}

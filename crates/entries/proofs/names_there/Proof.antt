@@ -1,3 +1,5 @@
+-- `entries::names_there` meets its contract.
+-- Assumes nothing.
 use Rattle.entries.specs.Faults.{namesThere}
 use borrow.Author.Tests.{ne-eqb}
 use Rattle.entries.proofs.names_there.Statement.{statement}

@@ -1,3 +1,5 @@
+-- `entries::operation_entry` meets its contract.
+-- Assumes nothing.
 use Rattle.entries.proofs.operation_entry.Statement.{statement}
 use Rattle.entries.proofs.operation_entry.Tie as tie
 

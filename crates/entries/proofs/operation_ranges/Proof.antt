@@ -1,3 +1,5 @@
+-- `entries::operation_ranges` meets its contract.
+-- Assumes nothing.
 use borrow.Author.Tests.{le-leb, lt-leb}
 use Rattle.entries.proofs.operation_ranges.Statement.{statement}
 use Rattle.entries.proofs.operation_ranges.Tie as tie

@@ -1,3 +1,5 @@
+-- `entries::pair_there` meets its contract.
+-- Assumes nothing.
 use Rattle.laws.proofs.Choosing.{tests}
 use Rattle.entries.proofs.pair_there.Statement.{statement}
 use Rattle.entries.proofs.pair_there.Tie as tie

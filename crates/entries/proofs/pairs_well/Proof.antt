@@ -1,3 +1,5 @@
+-- `entries::pairs_well` meets its contract.
+-- Assumes nothing.
 use Rattle.entries.specs.Faults.{pairsWell}
 use borrow.Author.Tests.{ne-eqb}
 use Rattle.entries.proofs.pairs_well.Statement.{statement}

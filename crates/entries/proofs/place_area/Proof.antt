@@ -1,3 +1,5 @@
+-- `entries::place_area` meets its contract.
+-- Assumes nothing.
 use Rattle.entries.proofs.place_area.Statement.{statement}
 use Rattle.entries.proofs.place_area.Tie as tie
 

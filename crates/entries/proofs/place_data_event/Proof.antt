@@ -1,3 +1,5 @@
+-- `entries::place_data_event` meets its contract.
+-- Assumes nothing.
 use Rattle.entries.proofs.place_data_event.Statement.{statement}
 use Rattle.entries.proofs.place_data_event.Tie as tie
 

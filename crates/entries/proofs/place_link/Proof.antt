@@ -1,3 +1,5 @@
+-- `entries::place_link` meets its contract.
+-- Assumes nothing.
 use Rattle.entries.proofs.place_link.Statement.{statement}
 use Rattle.entries.proofs.place_link.Tie as tie
 

@@ -1,3 +1,5 @@
+-- `entries::place_operation` meets its contract.
+-- Assumes nothing.
 use Rattle.entries.proofs.place_operation.Statement.{statement}
 use Rattle.entries.proofs.place_operation.Tie as tie
 

@@ -1,3 +1,5 @@
+-- `entries::place_provided` meets its contract.
+-- Assumes nothing.
 use Rattle.entries.proofs.place_provided.Statement.{statement}
 use Rattle.entries.proofs.place_provided.Tie as tie
 

@@ -1,3 +1,5 @@
+-- `entries::place_required` meets its contract.
+-- Assumes nothing.
 use Rattle.entries.proofs.place_required.Statement.{statement}
 use Rattle.entries.proofs.place_required.Tie as tie
 

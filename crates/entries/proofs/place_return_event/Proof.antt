@@ -1,3 +1,5 @@
+-- `entries::place_return_event` meets its contract.
+-- Assumes nothing.
 use Rattle.entries.proofs.place_return_event.Statement.{statement}
 use Rattle.entries.proofs.place_return_event.Tie as tie
 

@@ -1,3 +1,5 @@
+-- `entries::place_runnable` meets its contract.
+-- Assumes nothing.
 use Rattle.entries.proofs.place_runnable.Statement.{statement}
 use Rattle.entries.proofs.place_runnable.Tie as tie
 

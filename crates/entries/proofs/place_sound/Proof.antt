@@ -1,3 +1,5 @@
+-- `entries::place_sound` meets its contract.
+-- Assumes nothing.
 use Rattle.entries.specs.Faults.{placeSound}
 use borrow.Author.Tests.{lt-ltb, le-ltb}
 use Rattle.entries.proofs.place_sound.Statement.{statement}

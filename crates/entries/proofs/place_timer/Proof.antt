@@ -1,3 +1,5 @@
+-- `entries::place_timer` meets its contract.
+-- Assumes nothing.
 use Rattle.entries.proofs.place_timer.Statement.{statement}
 use Rattle.entries.proofs.place_timer.Tie as tie
 

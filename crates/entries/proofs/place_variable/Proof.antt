@@ -1,3 +1,5 @@
+-- `entries::place_variable` meets its contract.
+-- Assumes nothing.
 use Rattle.entries.proofs.place_variable.Statement.{statement}
 use Rattle.entries.proofs.place_variable.Tie as tie
 

@@ -1,3 +1,5 @@
+-- `entries::placed` meets its contract.
+-- Assumes nothing.
 use Rattle.entries.specs.Entries.{placed}
 use borrow.Author.Tests.{ne-eqb}
 use Rattle.entries.proofs.placed.Statement.{statement}

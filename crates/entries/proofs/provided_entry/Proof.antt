@@ -1,3 +1,5 @@
+-- `entries::provided_entry` meets its contract.
+-- Assumes nothing.
 use Rattle.entries.proofs.provided_entry.Statement.{statement}
 use Rattle.entries.proofs.provided_entry.Tie as tie
 

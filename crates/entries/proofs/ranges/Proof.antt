@@ -1,3 +1,5 @@
+-- `entries::ranges` meets its contract.
+-- Assumes nothing.
 use Rattle.laws.proofs.Choosing.{tests}
 use Rattle.entries.proofs.ranges.Statement.{statement}
 use Rattle.entries.proofs.ranges.Tie as tie

@@ -1,3 +1,5 @@
+-- `entries::rises` meets its contract.
+-- Assumes nothing.
 use Rattle.entries.specs.Faults.{rises}
 use Rattle.laws.proofs.Choosing.{tests}
 use Rattle.entries.proofs.rises.Statement.{statement}

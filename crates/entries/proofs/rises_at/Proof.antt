@@ -1,3 +1,5 @@
+-- `entries::rises_at` meets its contract.
+-- Assumes nothing.
 use Rattle.entries.specs.Faults.{risesAt}
 use borrow.Author.Tests.{eq-eqb, ne-eqb}
 use borrow.Author.Needs.{needs}

@@ -1,3 +1,5 @@
+-- `entries::runnable_entry` meets its contract.
+-- Assumes nothing.
 use Rattle.laws.proofs.Choosing.{bit-most}
 use native.Mathlib.Omega.{arith}
 use Rattle.entries.proofs.runnable_entry.Statement.{statement}

@@ -1,3 +1,5 @@
+-- `entries::runnable_pairs` meets its contract.
+-- Assumes nothing.
 use Rattle.laws.proofs.Choosing.{tests}
 use Rattle.entries.proofs.runnable_pairs.Statement.{statement}
 use Rattle.entries.proofs.runnable_pairs.Tie as tie

@@ -1,3 +1,5 @@
+-- `entries::runnable_ranges` meets its contract.
+-- Assumes nothing.
 use Rattle.laws.proofs.Choosing.{tests}
 use Rattle.entries.proofs.runnable_ranges.Statement.{statement}
 use Rattle.entries.proofs.runnable_ranges.Tie as tie

@@ -1,3 +1,5 @@
+-- `entries::variable_entry` meets its contract.
+-- Assumes nothing.
 use Rattle.entries.proofs.variable_entry.Statement.{statement}
 use Rattle.entries.proofs.variable_entry.Tie as tie
 

@@ -1,3 +1,5 @@
+-- `entries::variable_pairs` meets its contract.
+-- Assumes nothing.
 use Rattle.laws.proofs.Choosing.{tests}
 use Rattle.entries.proofs.variable_pairs.Statement.{statement}
 use Rattle.entries.proofs.variable_pairs.Tie as tie

@@ -1,3 +1,5 @@
+-- `gate::argues` meets its contract.
+-- Assumes nothing.
 use borrow.Author.Tests.{eq-eqb, ne-eqb}
 use Rattle.rules.specs.Refusals.{argues}
 use Rattle.gate.proofs.argues.Statement.{statement}

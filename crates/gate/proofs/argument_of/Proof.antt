@@ -1,3 +1,5 @@
+-- `gate::argument_of` meets its contract.
+-- Assumes nothing.
 use mathlib.Core.Path.{refl, sym}
 use borrow.Author.Needs.{needs}
 use Rattle.laws.proofs.Places.{past}

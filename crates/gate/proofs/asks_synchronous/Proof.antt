@@ -1,3 +1,5 @@
+-- `gate::asks_synchronous` meets its contract.
+-- Assumes nothing.
 use borrow.Author.Tests.{eq-eqb, ne-eqb}
 use Rattle.rules.specs.Refusals.{asksSynchronous}
 use Rattle.gate.proofs.asks_synchronous.Statement.{statement}

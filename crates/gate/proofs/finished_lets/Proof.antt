@@ -1,3 +1,5 @@
+-- `gate::finished_lets` meets its contract.
+-- Assumes nothing.
 use Rattle.gate.proofs.finished_lets.Statement.{statement}
 use Rattle.gate.proofs.finished_lets.Tie as tie
 

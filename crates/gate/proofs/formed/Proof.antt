@@ -1,3 +1,5 @@
+-- `gate::formed` meets its contract.
+-- Assumes nothing.
 use borrow.Author.Tests.{lt-ltb, le-ltb, eq-eqb, ne-eqb}
 use Rattle.rules.specs.Refusals.{formed}
 use Rattle.gate.proofs.formed.Statement.{statement}

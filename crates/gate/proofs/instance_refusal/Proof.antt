@@ -1,3 +1,5 @@
+-- `gate::instance_refusal` meets its contract.
+-- Assumes nothing.
 use Rattle.gate.specs.Owned.{ownedRefusal}
 use Rattle.rules.specs.Refusals.{instanceRefusal}
 use Rattle.gate.proofs.instance_refusal.Statement.{statement}

@@ -1,3 +1,5 @@
+-- `gate::life_lets` meets its contract.
+-- Assumes nothing.
 use Rattle.laws.specs.Choice.{allOf}
 use Rattle.laws.proofs.Choosing.{both-true}
 use Rattle.rules.specs.Refusals.{lifeLets}

@@ -1,3 +1,5 @@
+-- `gate::may_ask` meets its contract.
+-- Assumes nothing.
 use Rattle.gate.proofs.may_ask.Statement.{statement}
 use Rattle.gate.proofs.may_ask.Tie as tie
 

@@ -1,3 +1,5 @@
+-- `gate::owned_refusal` meets its contract.
+-- Assumes nothing.
 use mathlib.Core.Path.{ap}
 use Rattle.config.specs.declared.RunnableConf.{RunnableConf}
 use Rattle.gate.specs.Owned.{ownedRefusal}

@@ -1,3 +1,5 @@
+-- `gate::part_own` meets its contract.
+-- Assumes nothing.
 use borrow.Author.Tests.{eq-eqb, ne-eqb}
 use Rattle.rules.specs.Refusals.{partOwn}
 use Rattle.gate.proofs.part_own.Statement.{statement}

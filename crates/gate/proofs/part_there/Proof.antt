@@ -1,3 +1,5 @@
+-- `gate::part_there` meets its contract.
+-- Assumes nothing.
 use borrow.Author.Tests.{eq-eqb, ne-eqb}
 use Rattle.rules.specs.Refusals.{partThere}
 use Rattle.gate.proofs.part_there.Statement.{statement}

@@ -1,3 +1,5 @@
+-- `gate::queues_as` meets its contract.
+-- Assumes nothing.
 use borrow.Author.Tests.{lt-ltb, le-ltb, eq-eqb, ne-eqb}
 use Rattle.rules.specs.Refusals.{queuesAs}
 use Rattle.gate.proofs.queues_as.Statement.{statement}

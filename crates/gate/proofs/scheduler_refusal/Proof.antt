@@ -1,3 +1,5 @@
+-- `gate::scheduler_refusal` meets its contract.
+-- Assumes nothing.
 use borrow.Author.Tests.{eq-eqb, ne-eqb}
 use Rattle.rules.specs.Refusals.{schedulerRefusal}
 use Rattle.gate.proofs.scheduler_refusal.Statement.{statement}

@@ -1,3 +1,5 @@
+-- `gate::waiting_lets` meets its contract.
+-- Assumes nothing.
 use borrow.Author.Tests.{eq-eqb, ne-eqb}
 use Rattle.gate.proofs.waiting_lets.Statement.{statement}
 use Rattle.gate.proofs.waiting_lets.Tie as tie

@@ -1,3 +1,5 @@
+-- `machine::inner` meets its contract.
+-- Assumes nothing.
 use borrow.Author.Needs.{needs}
 use Rattle.rules.specs.Step.{claimedOf, innerOf}
 use Rattle.machine.proofs.inner.Statement.{statement}

@@ -1,3 +1,5 @@
+-- `machine::possible` meets its contract. The refusal comes first (`possible-is`), then there is one need for each code; what is left for the last arm can only be 18.
+-- Assumes nothing.
 use borrow.Author.Tests.{eq-eqb, ne-eqb}
 use mathlib.Core.Path.{_∙_, _≡_, sym}
 use Rattle.rules.specs.Step.{instanceActOf, schedulerActOf}

@@ -1,3 +1,5 @@
+-- `machine::refusal` meets its contract.
+-- Assumes nothing.
 use borrow.Author.Tests.{le-ltb, lt-ltb}
 use Rattle.machine.specs.Going.{refusalOf}
 use Rattle.machine.proofs.refusal.Statement.{statement}

@@ -1,3 +1,5 @@
+-- `reading::area_in` meets its contract.
+-- Assumes nothing.
 use Rattle.reading.proofs.area_in.Statement.{statement}
 use Rattle.reading.proofs.area_in.Tie as tie
 

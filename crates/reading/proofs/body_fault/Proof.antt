@@ -1,3 +1,5 @@
+-- `reading::body_fault` meets its contract.
+-- Assumes nothing.
 use Rattle.reading.specs.Reading.{bodyFault}
 use borrow.Author.Tests.{eq-eqb, ne-eqb}
 use Rattle.reading.proofs.body_fault.Statement.{statement}

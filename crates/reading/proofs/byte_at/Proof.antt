@@ -1,3 +1,5 @@
+-- `reading::byte_at` meets its contract.
+-- Assumes nothing.
 use denote.Ref.{now}
 use lib.ListN.{List·getD-eq-default}
 use mathlib.Core.Path.{sym}

@@ -1,3 +1,5 @@
+-- `reading::entry_in` meets its contract.
+-- Assumes nothing.
 use Rattle.reading.specs.Reading.{entryIn}
 use borrow.Author.Tests.{ne-eqb}
 use Rattle.reading.proofs.entry_in.Statement.{statement}

@@ -1,3 +1,5 @@
+-- `reading::head_of` meets its contract.
+-- Assumes nothing.
 use Rattle.reading.specs.Reading.{headOf}
 use borrow.Author.Tests.{lt-ltb, le-ltb}
 use borrow.Author.Needs.{needs}

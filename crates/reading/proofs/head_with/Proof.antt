@@ -1,3 +1,5 @@
+-- `reading::head_with` meets its contract.
+-- Assumes nothing.
 use Rattle.laws.proofs.Choosing.{tests}
 use Rattle.reading.proofs.head_with.Statement.{statement}
 use Rattle.reading.proofs.head_with.Tie as tie

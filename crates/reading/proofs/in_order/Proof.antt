@@ -1,3 +1,5 @@
+-- `reading::in_order` meets its contract.
+-- Assumes nothing.
 use Rattle.reading.specs.Reading.{inOrder}
 use Rattle.laws.proofs.Choosing.{tests}
 use Rattle.reading.proofs.in_order.Statement.{statement}

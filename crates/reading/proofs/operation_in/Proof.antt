@@ -1,3 +1,5 @@
+-- `reading::operation_in` meets its contract.
+-- Assumes nothing.
 use Rattle.reading.proofs.operation_in.Statement.{statement}
 use Rattle.reading.proofs.operation_in.Tie as tie
 

@@ -1,3 +1,5 @@
+-- `reading::pair_in` meets its contract.
+-- Assumes nothing.
 use Rattle.reading.proofs.pair_in.Statement.{statement}
 use Rattle.reading.proofs.pair_in.Tie as tie
 

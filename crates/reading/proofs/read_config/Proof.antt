@@ -1,3 +1,5 @@
+-- `reading::read_config` meets its contract. The loop knows what was read and what is ahead (`Ahead`); its measure is the bytes that are left.
+-- Assumes nothing.
 use Rattle.reading.proofs.Ahead.{Ahead, ahead-starts, turn-bad, turn-end, turn-behind, turn-fault, turn-room, turn-on}
 use Rattle.wire.proofs.Laws.{rest-is}
 use Rattle.reading.specs.Reading.{refusedAt}

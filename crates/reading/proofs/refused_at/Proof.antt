@@ -1,3 +1,5 @@
+-- `reading::refused_at` meets its contract.
+-- Assumes nothing.
 use Rattle.reading.specs.Reading.{refusedAt}
 use Rattle.reading.proofs.refused_at.Statement.{statement}
 use Rattle.reading.proofs.refused_at.Tie as tie

@@ -1,3 +1,5 @@
+-- `reading::runnable_in` meets its contract.
+-- Assumes nothing.
 use Rattle.reading.proofs.runnable_in.Statement.{statement}
 use Rattle.reading.proofs.runnable_in.Tie as tie
 

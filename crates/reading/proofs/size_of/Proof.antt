@@ -1,3 +1,5 @@
+-- `reading::size_of` meets its contract. One need for each tag; for any other none of the tests holds.
+-- Assumes nothing.
 use Rattle.reading.specs.Reading.{sizeOf}
 use borrow.Author.Tests.{ne-eqb}
 use Rattle.reading.proofs.size_of.Statement.{statement}

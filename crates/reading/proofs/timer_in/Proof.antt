@@ -1,3 +1,5 @@
+-- `reading::timer_in` meets its contract.
+-- Assumes nothing.
 use Rattle.reading.proofs.timer_in.Statement.{statement}
 use Rattle.reading.proofs.timer_in.Tie as tie
 

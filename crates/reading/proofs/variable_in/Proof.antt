@@ -1,3 +1,5 @@
+-- `reading::variable_in` meets its contract.
+-- Assumes nothing.
 use Rattle.reading.proofs.variable_in.Statement.{statement}
 use Rattle.reading.proofs.variable_in.Tie as tie
 

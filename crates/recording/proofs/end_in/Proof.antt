@@ -1,3 +1,5 @@
+-- `recording::end_in` meets its contract.
+-- Assumes nothing.
 use Rattle.laws.proofs.Choosing.{tests}
 use Rattle.recording.specs.Recording.{endIn}
 use Rattle.recording.proofs.end_in.Statement.{statement}

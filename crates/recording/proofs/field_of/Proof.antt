@@ -1,3 +1,5 @@
+-- `recording::field_of` meets its contract.
+-- Assumes nothing.
 use Rattle.laws.proofs.Choosing.{tests}
 use Rattle.recording.specs.Recording.{fieldOf}
 use borrow.Author.Needs.{needs}

@@ -1,3 +1,5 @@
+-- `recording::read_field` meets its contract.
+-- Assumes nothing.
 use mathlib.Core.List.{[]}
 use mathlib.Core.Path.{_≡_, sym, ap, _∙_}
 use native.Mathlib.Omega.{arith}

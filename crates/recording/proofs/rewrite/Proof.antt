@@ -1,3 +1,5 @@
+-- `recording::rewrite` meets its contract. The loop has copied the fields before its place (`Copying`).
+-- Assumes nothing.
 use borrow.Author.Needs.{needs}
 use native.Mathlib.Omega.{arith}
 use Prim.Native.Nat.{_-_}

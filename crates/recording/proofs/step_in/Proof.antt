@@ -1,3 +1,5 @@
+-- `recording::step_in` meets its contract.
+-- Assumes nothing.
 use Rattle.laws.proofs.Choosing.{tests}
 use Rattle.recording.specs.Recording.{stepIn}
 use borrow.Author.Needs.{needs}

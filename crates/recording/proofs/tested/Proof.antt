@@ -1,3 +1,5 @@
+-- `recording::tested` meets its contract.
+-- Assumes nothing.
 use Rattle.recording.specs.Recording.{tested}
 use borrow.Author.Needs.{needs}
 use Rattle.recording.proofs.tested.Statement.{statement}

@@ -1,3 +1,5 @@
+-- `recording::values_good` meets its contract.
+-- Assumes nothing.
 use Rattle.recording.specs.Recording.{valuesGood}
 use borrow.Author.Needs.{needs}
 use Rattle.recording.proofs.values_good.Statement.{statement}

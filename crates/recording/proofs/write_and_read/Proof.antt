@@ -1,3 +1,5 @@
+-- `recording::write_and_read` meets its contract.
+-- Assumes nothing.
 use Prim.Native.Nat.{_<_, _^_}
 use native.Mathlib.Omega.{arith}
 use mathlib.Core.Path.{_∙_}

@@ -1,3 +1,5 @@
+-- `recording::write_step` meets its contract.
+-- Assumes nothing.
 use mathlib.Core.Bool.{true, false}
 use mathlib.Core.Path.{_≡_, sym, _∙_}
 use Rattle.recording.specs.Recording.{valuesGood}

@@ -1,3 +1,5 @@
+-- `sound::area_filled` meets its contract.
+-- Assumes nothing.
 use borrow.Author.Tests.{lt-ltb, le-ltb}
 use Rattle.laws.specs.Row.{placeFilled}
 use Rattle.sound.proofs.area_filled.Statement.{statement}

@@ -1,3 +1,5 @@
+-- `sound::area_fits` meets its contract.
+-- Assumes nothing.
 use borrow.Author.Tests.{lt-ltb, le-ltb}
 use Rattle.rules.specs.Sound.{areaFits}
 use Rattle.sound.specs.Only.{onlyAreas}

@@ -1,3 +1,5 @@
+-- `sound::called_sound` meets its contract.
+-- Assumes nothing.
 use Rattle.rules.specs.Sound.{calledSound}
 use Rattle.sound.proofs.called_sound.Statement.{statement}
 use Rattle.sound.proofs.called_sound.Tie as tie

@@ -1,3 +1,5 @@
+-- `sound::calling_sound` meets its contract.
+-- Assumes nothing.
 use borrow.Author.Tests.{lt-ltb, le-ltb, le-leb, lt-leb}
 use Rattle.laws.specs.Choice.{allOf}
 use Rattle.laws.proofs.Choosing.{both-true}

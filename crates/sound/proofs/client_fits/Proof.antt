@@ -1,3 +1,5 @@
+-- `sound::client_fits` meets its contract.
+-- Assumes nothing.
 use borrow.Author.Tests.{eq-eqb, ne-eqb, lt-ltb, le-ltb}
 use Rattle.rules.specs.Sound.{clientFits}
 use Rattle.sound.specs.Only.{onlyOperations}

@@ -1,3 +1,5 @@
+-- `sound::client_sound` meets its contract.
+-- Assumes nothing.
 use Rattle.rules.specs.Sound.{clientSound}
 use Rattle.sound.proofs.client_sound.Statement.{statement}
 use Rattle.sound.proofs.client_sound.Tie as tie

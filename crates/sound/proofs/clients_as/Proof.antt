@@ -1,3 +1,5 @@
+-- `sound::clients_as` meets its contract.
+-- Assumes nothing.
 use borrow.Author.Needs.{needs}
 use Rattle.rules.specs.Sound.{clientsAs}
 use Rattle.sound.proofs.clients_as.Statement.{statement}

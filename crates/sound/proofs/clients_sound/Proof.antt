@@ -1,3 +1,5 @@
+-- `sound::clients_sound` meets its contract.
+-- Assumes nothing.
 use borrow.Author.Tests.{not-true, not-false}
 use Rattle.rules.specs.Sound.{clientsSound}
 use Rattle.sound.proofs.clients_sound.Statement.{statement}

@@ -1,3 +1,5 @@
+-- `sound::count_sound` meets its contract.
+-- Assumes nothing.
 use Rattle.rules.specs.Sound.{countSound}
 use Rattle.sound.proofs.count_sound.Statement.{statement}
 use Rattle.sound.proofs.count_sound.Tie as tie

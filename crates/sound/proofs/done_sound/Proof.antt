@@ -1,3 +1,5 @@
+-- `sound::done_sound` meets its contract.
+-- Assumes nothing.
 use borrow.Author.Tests.{eq-eqb, ne-eqb, lt-ltb, le-ltb}
 use Rattle.rules.specs.Sound.{doneSound}
 use Rattle.sound.specs.Only.{onlyOperations}

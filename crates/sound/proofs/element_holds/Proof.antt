@@ -1,3 +1,5 @@
+-- `sound::element_holds` meets its contract.
+-- Assumes nothing.
 use Rattle.sound.proofs.element_holds.Statement.{statement}
 use Rattle.sound.proofs.element_holds.Tie as tie
 

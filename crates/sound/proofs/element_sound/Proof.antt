@@ -1,3 +1,5 @@
+-- `sound::element_sound` meets its contract.
+-- Assumes nothing.
 use Rattle.rules.specs.Sound.{elementSound}
 use Rattle.sound.specs.Only.{onlyRequired}
 use Rattle.sound.proofs.element_sound.Statement.{statement}

@@ -1,3 +1,5 @@
+-- `sound::finishes_well` meets its contract.
+-- Assumes nothing.
 use borrow.Author.Needs.{needs}
 use Rattle.sound.proofs.finishes_well.Statement.{statement}
 use Rattle.sound.proofs.finishes_well.Tie as tie

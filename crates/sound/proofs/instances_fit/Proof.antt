@@ -1,3 +1,5 @@
+-- `sound::instances_fit` meets its contract.
+-- Assumes nothing.
 use borrow.Author.Needs.{needs}
 use Rattle.sound.proofs.instances_fit.Statement.{statement}
 use Rattle.sound.proofs.instances_fit.Tie as tie

@@ -1,3 +1,5 @@
+-- `sound::is_client` meets its contract.
+-- Assumes nothing.
 use borrow.Author.Tests.{eq-eqb, ne-eqb}
 use Rattle.rules.specs.Sound.{isClient}
 use Rattle.sound.proofs.is_client.Statement.{statement}

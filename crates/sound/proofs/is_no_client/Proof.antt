@@ -1,3 +1,5 @@
+-- `sound::is_no_client` meets its contract.
+-- Assumes nothing.
 use borrow.Author.Tests.{eq-eqb, ne-eqb}
 use Rattle.rules.specs.Sound.{isNoClient}
 use Rattle.sound.proofs.is_no_client.Statement.{statement}

@@ -1,3 +1,5 @@
+-- `sound::is_no_slot` meets its contract.
+-- Assumes nothing.
 use borrow.Author.Tests.{not-true, not-false, eq-eqb, ne-eqb}
 use Rattle.laws.specs.Choice.{allOf}
 use Rattle.laws.proofs.Choosing.{both-true}

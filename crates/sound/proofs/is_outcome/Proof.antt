@@ -1,3 +1,5 @@
+-- `sound::is_outcome` meets its contract.
+-- Assumes nothing.
 use borrow.Author.Tests.{eq-eqb, ne-eqb}
 use Rattle.rules.specs.Sound.{isOutcome}
 use Rattle.sound.proofs.is_outcome.Statement.{statement}

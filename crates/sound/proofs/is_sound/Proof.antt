@@ -1,3 +1,5 @@
+-- `sound::is_sound` meets its contract.
+-- Assumes nothing.
 use mathlib.Core.Path.{_≡_}
 use mathlib.Core.Bool.{true}
 use borrow.Author.Tests.{not-true, not-false, eq-eqb}

@@ -1,3 +1,5 @@
+-- `sound::is_stored` meets its contract.
+-- Assumes nothing.
 use borrow.Author.Tests.{eq-eqb, ne-eqb}
 use Rattle.rules.specs.Sound.{isStored}
 use Rattle.sound.proofs.is_stored.Statement.{statement}

@@ -1,3 +1,5 @@
+-- `sound::is_unqueued` meets its contract.
+-- Assumes nothing.
 use borrow.Author.Tests.{lt-ltb, le-ltb}
 use Rattle.sound.proofs.is_unqueued.Statement.{statement}
 use Rattle.sound.proofs.is_unqueued.Tie as tie

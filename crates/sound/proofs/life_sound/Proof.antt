@@ -1,3 +1,5 @@
+-- `sound::life_sound` meets its contract.
+-- Assumes nothing.
 use borrow.Author.Tests.{not-true, not-false, lt-ltb, le-ltb}
 use Rattle.laws.specs.Choice.{allOf}
 use Rattle.laws.proofs.Choosing.{both-true}

@@ -1,3 +1,5 @@
+-- `sound::numbered` meets its contract.
+-- Assumes nothing.
 use borrow.Author.Tests.{lt-ltb, le-ltb}
 use Rattle.rules.specs.Sound.{numbered}
 use Rattle.sound.proofs.numbered.Statement.{statement}

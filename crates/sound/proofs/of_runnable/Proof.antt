@@ -1,3 +1,5 @@
+-- `sound::of_runnable` meets its contract.
+-- Assumes nothing.
 use Rattle.rules.specs.Sound.{ofRunnable}
 use Rattle.sound.proofs.of_runnable.Statement.{statement}
 use Rattle.sound.proofs.of_runnable.Tie as tie

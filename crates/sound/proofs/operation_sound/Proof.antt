@@ -1,3 +1,5 @@
+-- `sound::operation_sound` meets its contract.
+-- Assumes nothing.
 use borrow.Author.Needs.{needs}
 use Prim.Native.Nat.{_≤_}
 use borrow.Author.Tests.{le-leb}

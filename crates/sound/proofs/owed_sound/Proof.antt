@@ -1,3 +1,5 @@
+-- `sound::owed_sound` meets its contract.
+-- Assumes nothing.
 use Rattle.rules.specs.Sound.{clientFits, owedSound}
 use Rattle.sound.specs.Only.{onlyOperations}
 use Rattle.sound.proofs.owed_sound.Statement.{statement}

@@ -1,3 +1,5 @@
+-- `sound::owes` meets its contract.
+-- Assumes nothing.
 use Rattle.sound.proofs.owes.Statement.{statement}
 use Rattle.sound.proofs.owes.Tie as tie
 

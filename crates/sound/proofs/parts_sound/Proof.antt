@@ -1,3 +1,5 @@
+-- `sound::parts_sound` meets its contract.
+-- Assumes nothing.
 use borrow.Author.Tests.{not-true, not-false}
 use Rattle.laws.specs.Choice.{allOf}
 use Rattle.laws.proofs.Choosing.{both-true}

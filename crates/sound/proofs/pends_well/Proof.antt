@@ -1,3 +1,5 @@
+-- `sound::pends_well` meets its contract.
+-- Assumes nothing.
 use borrow.Author.Needs.{needs}
 use borrow.Author.Tests.{lt-ltb, le-ltb}
 use Rattle.sound.proofs.pends_well.Statement.{statement}

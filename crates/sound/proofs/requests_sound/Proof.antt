@@ -1,3 +1,5 @@
+-- `sound::requests_sound` meets its contract.
+-- Assumes nothing.
 use borrow.Author.Tests.{le-leb, lt-leb}
 use Rattle.rules.specs.Sound.{clientFits, requestsSound}
 use Rattle.sound.specs.Only.{onlyOperations}

@@ -1,3 +1,5 @@
+-- `sound::served_as` meets its contract.
+-- Assumes nothing.
 use Rattle.rules.specs.Sound.{servedAs}
 use Rattle.sound.proofs.served_as.Statement.{statement}
 use Rattle.sound.proofs.served_as.Tie as tie

@@ -1,3 +1,5 @@
+-- `sound::served_sound` meets its contract.
+-- Assumes nothing.
 use Rattle.rules.specs.Sound.{servedSound}
 use Rattle.sound.proofs.served_sound.Statement.{statement}
 use Rattle.sound.proofs.served_sound.Tie as tie

@@ -1,3 +1,5 @@
+-- `sound::stack_sound` meets its contract.
+-- Assumes nothing.
 use borrow.Author.Tests.{le-leb, lt-leb}
 use Rattle.rules.specs.Sound.{areaFits, stackSound}
 use Rattle.sound.specs.Only.{onlyAreas}

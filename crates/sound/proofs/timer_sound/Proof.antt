@@ -1,3 +1,5 @@
+-- `sound::timer_sound` meets its contract.
+-- Assumes nothing.
 use Rattle.rules.specs.Sound.{timerSound}
 use Rattle.sound.specs.Only.{onlyTimers}
 use Rattle.sound.proofs.timer_sound.Statement.{statement}

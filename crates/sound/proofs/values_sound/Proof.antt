@@ -1,3 +1,5 @@
+-- `sound::values_sound` meets its contract.
+-- Assumes nothing.
 use borrow.Author.Tests.{le-leb, lt-leb}
 use Rattle.rules.specs.Sound.{valuesSound}
 use Rattle.sound.proofs.values_sound.Statement.{statement}

@@ -1,3 +1,5 @@
+-- `sound::variable_sound` meets its contract.
+-- Assumes nothing.
 use borrow.Author.Tests.{lt-ltb, le-ltb}
 use Rattle.rules.specs.Sound.{variableSound}
 use Rattle.sound.specs.Only.{onlyVariables}

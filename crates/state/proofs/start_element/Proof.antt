@@ -1,3 +1,5 @@
+-- `state::start_element` meets its contract.
+-- Assumes nothing.
 use borrow.Author.Tests.{eq-eqb, ne-eqb}
 use Rattle.state.specs.Parts.{noValues, noElement}
 use Rattle.state.specs.Start.{startElement}

@@ -1,3 +1,5 @@
+-- `state::start_runnable` meets its contract.
+-- Assumes nothing.
 use mathlib.Core.Path.{refl}
 use Rattle.state.specs.Parts.{noRequests}
 use Rattle.state.proofs.start_runnable.Statement.{statement}

@@ -1,3 +1,5 @@
+-- `state::start_variable` meets its contract.
+-- Assumes nothing.
 use borrow.Author.Needs.{needs}
 use Rattle.state.specs.Start.{startVariable}
 use Rattle.state.proofs.start_variable.Statement.{statement}

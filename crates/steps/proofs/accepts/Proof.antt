@@ -1,3 +1,5 @@
+-- `steps::accepts` meets its contract.
+-- Assumes nothing.
 use borrow.Author.Tests.{le-ltb, lt-ltb}
 use Rattle.steps.proofs.accepts.Statement.{statement}
 use Rattle.steps.proofs.accepts.Tie as tie

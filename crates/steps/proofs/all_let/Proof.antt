@@ -1,3 +1,5 @@
+-- `steps::all_let` meets its contract.
+-- Assumes nothing.
 use Rattle.steps.proofs.all_let.Statement.{statement}
 use Rattle.steps.proofs.all_let.Tie as tie
 

@@ -1,3 +1,5 @@
+-- `steps::answers` meets its contract.
+-- Assumes nothing.
 use Rattle.rules.specs.Steps.{answers}
 use Rattle.steps.proofs.answers.Statement.{statement}
 use Rattle.steps.proofs.answers.Tie as tie

@@ -1,3 +1,5 @@
+-- `steps::any_full` meets its contract.
+-- Assumes nothing.
 use Prim.Native.Nat.{_-_, _≤_}
 use borrow.Author.Needs.{needs}
 use mathlib.Core.Bool.{false}

@@ -1,3 +1,5 @@
+-- `steps::asking` meets its contract.
+-- Assumes nothing.
 use Rattle.steps.proofs.asking.Statement.{statement}
 use Rattle.steps.proofs.asking.Tie as tie
 

@@ -1,3 +1,5 @@
+-- `steps::call` meets its contract.
+-- Assumes nothing.
 use borrow.Author.Tests.{eq-eqb, ne-eqb}
 use Rattle.rules.specs.Steps.{callOf, called, callerAfter, requestsFull}
 use Rattle.steps.proofs.call.Statement.{statement}

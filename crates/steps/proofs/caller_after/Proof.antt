@@ -1,3 +1,5 @@
+-- `steps::caller_after` meets its contract.
+-- Assumes nothing.
 use borrow.Author.Needs.{needs}
 use Rattle.steps.proofs.caller_after.Statement.{statement}
 use Rattle.steps.proofs.caller_after.Tie as tie

@@ -1,3 +1,5 @@
+-- `steps::closing` meets its contract.
+-- Assumes nothing.
 use Rattle.rules.specs.Steps.{closing}
 use Rattle.steps.proofs.closing.Statement.{statement}
 use Rattle.steps.proofs.closing.Tie as tie

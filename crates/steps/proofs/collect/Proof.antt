@@ -1,3 +1,5 @@
+-- `steps::collect` meets its contract.
+-- Assumes nothing.
 use Rattle.rules.specs.Steps.{collectOf}
 use Rattle.steps.proofs.collect.Statement.{statement}
 use Rattle.steps.proofs.collect.Tie as tie

@@ -1,3 +1,5 @@
+-- `steps::end` meets its contract.
+-- Assumes nothing.
 use borrow.Author.Tests.{le-ltb, lt-ltb}
 use Rattle.rules.specs.Steps.{endOf}
 use Rattle.state.specs.Parts.{noSlot, noStack}

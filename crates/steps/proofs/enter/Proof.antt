@@ -1,3 +1,5 @@
+-- `steps::enter` meets its contract.
+-- Assumes nothing.
 use Rattle.rules.specs.Steps.{enterOf}
 use Rattle.steps.proofs.enter.Statement.{statement}
 use Rattle.steps.proofs.enter.Tie as tie

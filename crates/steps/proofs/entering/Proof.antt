@@ -1,3 +1,5 @@
+-- `steps::entering` meets its contract.
+-- Assumes nothing.
 use Rattle.steps.proofs.entering.Statement.{statement}
 use Rattle.steps.proofs.entering.Tie as tie
 

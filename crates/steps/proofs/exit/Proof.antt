@@ -1,3 +1,5 @@
+-- `steps::exit` meets its contract.
+-- Assumes nothing.
 use Rattle.rules.specs.Steps.{exitOf}
 use Rattle.steps.proofs.exit.Statement.{statement}
 use Rattle.steps.proofs.exit.Tie as tie

@@ -1,3 +1,5 @@
+-- `steps::exiting` meets its contract.
+-- Assumes nothing.
 use Rattle.steps.proofs.exiting.Statement.{statement}
 use Rattle.steps.proofs.exiting.Tie as tie
 

@@ -1,3 +1,5 @@
+-- `steps::fed_element` meets its contract.
+-- Assumes nothing.
 use borrow.Author.Tests.{le-ltb, lt-ltb}
 use Rattle.entries.specs.Faults.{isQueued}
 use Rattle.rules.specs.Steps.{accepts, fedElement, linked}

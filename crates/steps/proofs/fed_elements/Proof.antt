@@ -1,3 +1,5 @@
+-- `steps::fed_elements` meets its contract. The loop has been over the places below its counter (`eachBelow`), and takes one more by `each-put`.
+-- Assumes nothing.
 use Prim.Native.Nat.{_-_, _≤_}
 use borrow.Author.Needs.{needs}
 use lib.ListN.{length}

@@ -1,3 +1,5 @@
+-- `steps::feeds` meets its contract.
+-- Assumes nothing.
 use borrow.Author.Tests.{eq-eqb, ne-eqb}
 use Rattle.rules.specs.Steps.{linked}
 use Rattle.steps.specs.Rooms.{feedsBy}

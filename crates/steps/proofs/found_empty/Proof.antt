@@ -1,3 +1,5 @@
+-- `steps::found_empty` meets its contract.
+-- Assumes nothing.
 use Prim.Native.Nat.{_-_, _<_, _≤_}
 use borrow.Author.Needs.{needs}
 use borrow.Author.Tests.{lt-ltb}

@@ -1,3 +1,5 @@
+-- `steps::fresh` meets its contract.
+-- Assumes nothing.
 use mathlib.Core.Path.{refl}
 use Rattle.state.specs.Parts.{noStack}
 use Rattle.steps.proofs.fresh.Statement.{statement}

@@ -1,3 +1,5 @@
+-- `steps::hand_back` meets its contract.
+-- Assumes nothing.
 use Rattle.rules.specs.Steps.{closed, handBackOf}
 use Rattle.steps.proofs.hand_back.Statement.{statement}
 use Rattle.steps.proofs.hand_back.Tie as tie

@@ -1,3 +1,5 @@
+-- `steps::instance_of` meets its contract.
+-- Assumes nothing.
 use borrow.Author.Tests.{eq-eqb, ne-eqb}
 use Rattle.rules.specs.Steps.{instanceOf}
 use Rattle.steps.proofs.instance_of.Statement.{statement}

@@ -1,3 +1,5 @@
+-- `steps::invalidate` meets its contract.
+-- Assumes nothing.
 use Rattle.rules.specs.Steps.{invalidateOf}
 use Rattle.steps.proofs.invalidate.Statement.{statement}
 use Rattle.steps.proofs.invalidate.Tie as tie

@@ -1,3 +1,5 @@
+-- `steps::is_due` meets its contract.
+-- Assumes nothing.
 use borrow.Author.Tests.{eq-eqb, ne-eqb}
 use Rattle.rules.specs.Steps.{isDue}
 use Rattle.steps.proofs.is_due.Statement.{statement}

@@ -1,3 +1,5 @@
+-- `steps::is_full` meets its contract.
+-- Assumes nothing.
 use Rattle.rules.specs.Steps.{linked}
 use Rattle.steps.specs.Rooms.{isFullBy}
 use Rattle.steps.proofs.is_full.Statement.{statement}

@@ -1,3 +1,5 @@
+-- `steps::is_return` meets its contract.
+-- Assumes nothing.
 use borrow.Author.Tests.{eq-eqb, ne-eqb}
 use Rattle.steps.proofs.is_return.Statement.{statement}
 use Rattle.steps.proofs.is_return.Tie as tie

@@ -1,3 +1,5 @@
+-- `steps::is_returned` meets its contract.
+-- Assumes nothing.
 use Prim.Native.Nat.{_-_, _≤_, ℕ}
 use borrow.Author.Needs.{needs}
 use lib.Dec.{eqb}

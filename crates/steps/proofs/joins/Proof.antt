@@ -1,3 +1,5 @@
+-- `steps::joins` meets its contract.
+-- Assumes nothing.
 use borrow.Author.Tests.{eq-eqb, ne-eqb}
 use Rattle.steps.proofs.joins.Statement.{statement}
 use Rattle.steps.proofs.joins.Tie as tie

@@ -1,3 +1,5 @@
+-- `steps::leaving` meets its contract.
+-- Assumes nothing.
 use Rattle.steps.proofs.leaving.Statement.{statement}
 use Rattle.steps.proofs.leaving.Tie as tie
 

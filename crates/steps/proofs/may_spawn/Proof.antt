@@ -1,3 +1,5 @@
+-- `steps::may_spawn` meets its contract.
+-- Assumes nothing.
 use borrow.Author.Tests.{eq-eqb, ne-eqb}
 use Rattle.rules.specs.Steps.{maySpawn}
 use Rattle.steps.proofs.may_spawn.Statement.{statement}

@@ -1,3 +1,5 @@
+-- `steps::on_top` meets its contract.
+-- Assumes nothing.
 use borrow.Author.Tests.{le-ltb, lt-ltb}
 use Rattle.rules.specs.Steps.{onTop}
 use Rattle.steps.proofs.on_top.Statement.{statement}

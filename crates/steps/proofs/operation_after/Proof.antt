@@ -1,3 +1,5 @@
+-- `steps::operation_after` meets its contract.
+-- Assumes nothing.
 use Rattle.rules.specs.Steps.{operationAfter}
 use Rattle.steps.proofs.operation_after.Statement.{statement}
 use Rattle.steps.proofs.operation_after.Tie as tie

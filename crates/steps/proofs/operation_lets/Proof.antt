@@ -1,3 +1,5 @@
+-- `steps::operation_lets` meets its contract.
+-- Assumes nothing.
 use Rattle.rules.specs.Steps.{operationLets}
 use Rattle.steps.proofs.operation_lets.Statement.{statement}
 use Rattle.steps.proofs.operation_lets.Tie as tie

@@ -1,3 +1,5 @@
+-- `steps::poll` meets its contract.
+-- Assumes nothing.
 use Rattle.rules.specs.Steps.{pollOf}
 use Rattle.steps.proofs.poll.Statement.{statement}
 use Rattle.steps.proofs.poll.Tie as tie

@@ -1,3 +1,5 @@
+-- `steps::queueing` meets its contract.
+-- Assumes nothing.
 use Rattle.steps.proofs.queueing.Statement.{statement}
 use Rattle.steps.proofs.queueing.Tie as tie
 

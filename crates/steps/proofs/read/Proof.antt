@@ -1,3 +1,5 @@
+-- `steps::read` meets its contract.
+-- Assumes nothing.
 use Rattle.rules.specs.Steps.{readOf}
 use Rattle.steps.proofs.read.Statement.{statement}
 use Rattle.steps.proofs.read.Tie as tie

@@ -1,3 +1,5 @@
+-- `steps::read_variable` meets its contract.
+-- Assumes nothing.
 use Rattle.rules.specs.Steps.{readVariableOf}
 use Rattle.steps.proofs.read_variable.Statement.{statement}
 use Rattle.steps.proofs.read_variable.Tie as tie

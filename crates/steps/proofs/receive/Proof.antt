@@ -1,3 +1,5 @@
+-- `steps::receive` meets its contract.
+-- Assumes nothing.
 use borrow.Author.Tests.{eq-eqb, ne-eqb}
 use Rattle.rules.specs.Steps.{receiveOf}
 use Rattle.steps.proofs.receive.Statement.{statement}

@@ -1,3 +1,5 @@
+-- `steps::receiving` meets its contract.
+-- Assumes nothing.
 use Rattle.steps.proofs.receiving.Statement.{statement}
 use Rattle.steps.proofs.receiving.Tie as tie
 

@@ -1,3 +1,5 @@
+-- `steps::result` meets its contract.
+-- Assumes nothing.
 use Rattle.rules.specs.Steps.{resultOf}
 use Rattle.steps.proofs.result.Statement.{statement}
 use Rattle.steps.proofs.result.Tie as tie

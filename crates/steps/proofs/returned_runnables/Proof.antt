@@ -1,3 +1,5 @@
+-- `steps::returned_runnables` meets its contract. The loop has been over the places below its counter (`eachBelow`), and takes one more by `each-put`.
+-- Assumes nothing.
 use Prim.Native.Nat.{_-_, _≤_, ℕ}
 use borrow.Author.Needs.{needs}
 use lib.Dec.{eqb}

@@ -1,3 +1,5 @@
+-- `steps::runnable_after` meets its contract.
+-- Assumes nothing.
 use Rattle.steps.proofs.runnable_after.Statement.{statement}
 use Rattle.steps.proofs.runnable_after.Tie as tie
 

@@ -1,3 +1,5 @@
+-- `steps::runnable_lets` meets its contract.
+-- Assumes nothing.
 use borrow.Author.Tests.{eq-eqb, ne-eqb}
 use Rattle.rules.specs.Steps.{runnableLets}
 use Rattle.steps.proofs.runnable_lets.Statement.{statement}

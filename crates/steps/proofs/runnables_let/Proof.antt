@@ -1,3 +1,5 @@
+-- `steps::runnables_let` meets its contract. The loop has asked the runnables below its counter (`allBelow`), and asks one more by `all-more`.
+-- Assumes nothing.
 use Prim.Native.Nat.{_-_, _<_, _≤_, ℕ}
 use borrow.Author.Needs.{needs}
 use lib.ListN.{length}

@@ -1,3 +1,5 @@
+-- `steps::spawn` meets its contract.
+-- Assumes nothing.
 use borrow.Author.Needs.{needs}
 use mathlib.Core.Path.{_∙_, sym}
 use native.Mathlib.Omega.{arith}

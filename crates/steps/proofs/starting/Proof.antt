@@ -1,3 +1,5 @@
+-- `steps::starting` meets its contract.
+-- Assumes nothing.
 use borrow.Author.Tests.{eq-eqb, ne-eqb}
 use Rattle.rules.specs.Steps.{starting}
 use Rattle.steps.proofs.starting.Statement.{statement}

@@ -1,3 +1,5 @@
+-- `steps::tick` meets its contract.
+-- Assumes nothing.
 use borrow.Author.Tests.{eq-eqb, ne-eqb}
 use Rattle.rules.specs.Steps.{tickOf}
 use Rattle.steps.proofs.tick.Statement.{statement}

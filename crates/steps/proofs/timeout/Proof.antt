@@ -1,3 +1,5 @@
+-- `steps::timeout` meets its contract.
+-- Assumes nothing.
 use borrow.Author.Tests.{eq-eqb, ne-eqb}
 use Rattle.rules.specs.Steps.{closed, timeoutOf}
 use Rattle.steps.proofs.timeout.Statement.{statement}

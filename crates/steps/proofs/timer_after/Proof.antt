@@ -1,3 +1,5 @@
+-- `steps::timer_after` meets its contract.
+-- Assumes nothing.
 use Rattle.steps.proofs.timer_after.Statement.{statement}
 use Rattle.steps.proofs.timer_after.Tie as tie
 

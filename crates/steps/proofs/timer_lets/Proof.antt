@@ -1,3 +1,5 @@
+-- `steps::timer_lets` meets its contract.
+-- Assumes nothing.
 use mathlib.Core.Path.{refl}
 use Rattle.rules.specs.Steps.{timerLets}
 use Rattle.steps.proofs.timer_lets.Statement.{statement}

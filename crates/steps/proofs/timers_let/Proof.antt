@@ -1,3 +1,5 @@
+-- `steps::timers_let` meets its contract.
+-- Assumes nothing.
 use Prim.Native.Nat.{_-_, _≤_, ℕ}
 use borrow.Author.Needs.{needs}
 use mathlib.Core.Bool.{true}

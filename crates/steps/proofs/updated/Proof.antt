@@ -1,3 +1,5 @@
+-- `steps::updated` meets its contract.
+-- Assumes nothing.
 use Rattle.rules.specs.Steps.{updatedOf}
 use Rattle.steps.proofs.updated.Statement.{statement}
 use Rattle.steps.proofs.updated.Tie as tie

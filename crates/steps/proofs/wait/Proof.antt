@@ -1,3 +1,5 @@
+-- `steps::wait` meets its contract.
+-- Assumes nothing.
 use Rattle.rules.specs.Steps.{waitOf}
 use Rattle.steps.proofs.wait.Statement.{statement}
 use Rattle.steps.proofs.wait.Tie as tie

@@ -1,3 +1,5 @@
+-- `steps::within` meets its contract.
+-- Assumes nothing.
 use borrow.Author.Tests.{le-ltb, lt-ltb}
 use native.Mathlib.Omega.{arith}
 use Rattle.steps.proofs.within.Statement.{statement}

@@ -1,3 +1,5 @@
+-- `steps::woken_if` meets its contract.
+-- Assumes nothing.
 use borrow.Author.Needs.{needs}
 use Rattle.steps.proofs.woken_if.Statement.{statement}
 use Rattle.steps.proofs.woken_if.Tie as tie

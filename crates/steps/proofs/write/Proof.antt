@@ -1,3 +1,5 @@
+-- `steps::write` meets its contract.
+-- Assumes nothing.
 use lib.ListN.{length}
 use mathlib.Core.Path.{_≡_}
 use Rattle.laws.proofs.Places.{length-mapped}

@@ -1,3 +1,5 @@
+-- `steps::write_variable` meets its contract.
+-- Assumes nothing.
 use Rattle.rules.specs.Steps.{writeVariableOf}
 use Rattle.steps.proofs.write_variable.Statement.{statement}
 use Rattle.steps.proofs.write_variable.Tie as tie

@@ -1,3 +1,5 @@
+-- `trip::rewrite_config` meets its contract.
+-- Assumes nothing.
 use native.Mathlib.Omega.{arith}
 use denote.Ref.{now}
 use Rattle.trip.proofs.Again.{again-whole, again-refused}

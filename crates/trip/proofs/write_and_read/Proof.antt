@@ -1,3 +1,5 @@
+-- `trip::write_and_read` meets its contract.
+-- Assumes nothing.
 use Prim.Native.Nat.{ℕ, _<_, _^_}
 use mathlib.Core.Path.{sym, ap, _∙_}
 use lib.ListN.{getD}

@@ -1,3 +1,5 @@
+-- `wire::put` meets its contract. The loop has put the bytes below its counter (`paste`).
+-- Assumes nothing.
 use borrow.Author.Needs.{needs}
 use native.Mathlib.Omega.{arith}
 use native.Mathlib.Numerals.{add-one}

@@ -1,3 +1,5 @@
+-- `wire::write` meets its contract.
+-- Assumes nothing.
 use Prim.Native.Nat.{_+_, _<_, _≤_}
 use native.Mathlib.Omega.{arith}
 use lib.ListN.{length}

@@ -1,3 +1,5 @@
+-- `writing::field_size` meets its contract.
+-- Assumes nothing.
 use Rattle.laws.proofs.Choosing.{tests}
 use Rattle.writing.specs.Writing.{fieldSize}
 use Rattle.writing.proofs.field_size.Statement.{statement}

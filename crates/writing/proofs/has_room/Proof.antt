@@ -1,3 +1,5 @@
+-- `writing::has_room` meets its contract.
+-- Assumes nothing.
 use Rattle.writing.proofs.Texts.{fits-inside, fits-past}
 use Rattle.writing.proofs.has_room.Statement.{statement}
 use Rattle.writing.proofs.has_room.Tie as tie

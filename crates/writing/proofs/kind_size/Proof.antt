@@ -1,3 +1,5 @@
+-- `writing::kind_size` meets its contract.
+-- Assumes nothing.
 use native.Mathlib.Omega.{arith}
 use Rattle.writing.specs.Writing.{kindSize}
 use Rattle.writing.proofs.Texts.{small-product}

@@ -1,3 +1,5 @@
+-- `writing::write_entry` meets its contract.
+-- Assumes nothing.
 use Rattle.laws.proofs.Choosing.{tests}
 use Rattle.writing.specs.Writing.{entryBytes}
 use borrow.Author.Needs.{needs}

@@ -1,3 +1,5 @@
+-- `writing::write_kind` meets its contract. The loop has put the pieces below its counter, and all of them have room (`Putting`).
+-- Assumes nothing.
 use borrow.Author.Needs.{needs}
 use Prim.Native.Nat.{_-_, _<_}
 use mathlib.Core.Path.{_≡_, sym, _∙_}

@@ -1,3 +1,5 @@
+-- `config::Config::none` meets its contract.
+-- Assumes nothing.
 use Rattle.config.specs.Tables.{noConfig}
 use Rattle.config.proofs.Config.none.Statement.{statement}
 use Rattle.config.proofs.Config.none.Tie as tie

@@ -1,3 +1,5 @@
+-- `config::VariableConfs::add` meets its contract.
+-- Assumes nothing.
 use borrow.Author.Needs.{needs}
 use borrow.Author.Tests.{lt-ltb, le-ltb}
 use Rattle.config.specs.Tables.{addVariableConf}

@@ -1,3 +1,5 @@
+-- `state::Requests::rest` meets its contract.
+-- Assumes nothing.
 use borrow.Author.Needs.{needs}
 use Rattle.state.specs.Queues.{restRequests}
 use Rattle.state.proofs.Requests.rest.Statement.{statement}

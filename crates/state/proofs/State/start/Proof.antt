@@ -1,3 +1,5 @@
+-- `state::State::start` meets its contract.
+-- Assumes nothing.
 use borrow.Author.Needs.{needs}
 use Rattle.state.specs.Parts.{noStack, noSlot}
 use Rattle.state.specs.Tables.{noAreas, noOperations, noTimers, noSlots}

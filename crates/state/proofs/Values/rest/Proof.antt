@@ -1,3 +1,5 @@
+-- `state::Values::rest` meets its contract.
+-- Assumes nothing.
 use borrow.Author.Needs.{needs}
 use Rattle.state.specs.Queues.{restValues}
 use Rattle.state.proofs.Values.rest.Statement.{statement}

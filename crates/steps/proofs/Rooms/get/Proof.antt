@@ -1,3 +1,5 @@
+-- `steps::Rooms::get` meets its contract.
+-- Assumes nothing.
 use borrow.Author.Needs.{needs}
 use lib.ListN.{length}
 use mathlib.Core.Bool.{true}

@@ -1,3 +1,5 @@
+-- `steps::Rooms::of` meets its contract. The loop has noted the elements below its counter (`eachBelow`).
+-- Assumes nothing.
 use Prim.Native.Nat.{_-_, _≤_, ℕ, _<_}
 use borrow.Author.Needs.{needs}
 use lib.Dec.{ltb}

@@ -1,3 +1,5 @@
+-- `values::Value::is_good` meets its contract.
+-- Assumes nothing.
 use Rattle.laws.proofs.Choosing.{tests}
 use Rattle.values.specs.Values.{isGood}
 use Rattle.values.proofs.Value.is_good.Statement.{statement}

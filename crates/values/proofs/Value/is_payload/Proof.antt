@@ -1,3 +1,5 @@
+-- `values::Value::is_payload` meets its contract.
+-- Assumes nothing.
 use Rattle.laws.proofs.Choosing.{tests}
 use Rattle.values.specs.Values.{isPayload}
 use borrow.Author.Needs.{needs}

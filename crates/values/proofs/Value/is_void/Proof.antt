@@ -1,3 +1,5 @@
+-- `values::Value::is_void` meets its contract.
+-- Assumes nothing.
 use Rattle.laws.proofs.Choosing.{tests}
 use Rattle.values.specs.Values.{isVoid}
 use Rattle.values.proofs.Value.is_void.Statement.{statement}

@@ -1,3 +1,5 @@
+-- `values::Value::same` meets its contract.
+-- Assumes nothing.
 use Rattle.laws.proofs.Choosing.{tests}
 use Rattle.values.specs.Values.{sameValue}
 use Rattle.values.proofs.Value.same.Statement.{statement}
