@@ -78,10 +78,10 @@ module _ {M : Type 1} (𝓤 : URA M) (H : Heap 𝓤) (A : Atoms 𝓤) (W : Given
     lent-walk =
         qed W (‵ (fobs γ (coded .code h)) ∷ ‵ (fbor κ (Body (mem R) b o γ)) ∷ ‵ (flft κ q) ∷ []) ∵ enter ! C Λ (lentFn f name answer config pointee step state) (c ∷ vptr b o ∷ x ∷ []) _ $
         alloc1 ! (λ l₀. alloc1 ! (λ l₁. alloc1 ! (λ l₂. alloc1 ! (λ l₃. alloc1 ! (λ l₄. alloc1 ! (λ l₅. alloc0 ! $ params1 ! $ pass1 ! (init ! 8 refl c-fits) $ pass1 ! (init ! 6 refl (tt, tt)) $ pass1 ! (init ! 4 refl x-fits) $ pass0 ! $
-        -- [room for _5; …; room for _4; …; _3; …; _2; …; _1; …; room for _0; …; obs; the borrow; the token]
+        -- now held, in order: locals 5 and 4 without a value, 3, 2, 1, local 0 without one; then observation, borrow, token
         move ! (12 ∷ 13 ∷ 14 ∷ []) $ opens ! tt R {h = h} b o (λ vs. spelt ! R (Is R) (shows 𝓤 H A R) (λ d. val d ∷ []) tells fullShare h vs b o $
         move ! (1 ∷ []) $ peeks ! R (Is R) (shows 𝓤 H A R) h (val h ∷ []) (λ ish. move ! (1 ∷ 0 ∷ []) $
-        -- [the state's cell; what a state owns; the open borrow; obs; auth; room for _5; …; room for _4; …; _3; …; _2; …; _1; …; room for _0; …]
+        -- now held, in order: the lent cell, its contents, the borrow opened, observation, authority; then the locals from 5 down to 0
         assigns ! (of-opd ! (load ! (from ! (hop ! (look ! 11 refl) (stop !))) (look-raw ! 0 refl))) (from ! (stop !)) (init ! 5 refl (fits h ish)) $
         use0 W (raw (C f (c ∷ val h ∷ x ∷ []) Q)) (asked ish) $
         calls-from ! fm (raw (C f (c ∷ val h ∷ x ∷ []) Q)) (c ∷ val h ∷ x ∷ []) Q (id⊢ 𝓤 (C f (c ∷ val h ∷ x ∷ []) Q)) (and-then ! (load ! (from ! (stop !)) (look ! 14 refl)) (and-then ! (load ! (from ! (stop !)) (look ! 6 refl)) (and-then ! (load ! (from ! (stop !)) (look ! 10 refl)) (no-more !)))) (λ w.
@@ -93,7 +93,7 @@ module _ {M : Type 1} (𝓤 : URA M) (H : Heap 𝓤) (A : Atoms 𝓤) (W : Given
         assigns ! (of-opd ! (load ! (from ! (fld ! refl (stop !))) (look-in ! 7 (sub ! 0 refl (whole !))))) (from ! (stop !)) (init ! 15 refl (said-fits r (k .1))) $
         -- the borrow is closed at the new state
         owned ! R (Is R) makes (left r) _ (left-is r (k .1)) $ move ! (1 ∷ 0 ∷ 3 ∷ 4 ∷ 5 ∷ []) $ closes ! tt R (left r) (val (left r) ∷ []) b o $
-        -- [obs; the borrow; the token; …; _5; …; _4; …; _3; …; _2; …; _1; …; _0; …]
+        -- now held, in order: observation, borrow and token again, then the locals from 5 down to 0
         returns ! (look ! 14 refl) $ forget ! 4 refl $ forget ! 6 refl $ forget ! 8 refl $ forget ! 10 refl $ forget ! 12 refl $ forget ! 14 refl $
         move ! (14 ∷ 15 ∷ []) $ free1 ! $ move ! (12 ∷ 13 ∷ []) $ free1 ! $ move ! (10 ∷ 11 ∷ []) $ free1 ! $ move ! (8 ∷ 9 ∷ []) $ free1 ! $ move ! (6 ∷ 7 ∷ []) $ free1 ! $ move ! (4 ∷ 5 ∷ []) $ free1 ! $ free0 ! $
         keep ! (0 ∷ 1 ∷ 2 ∷ []) $ by ! (ends r (k .1)))))))))))))

@@ -16,7 +16,7 @@ use Rattle.config.specs.Tables.{maxRunnableConfs, maxOperationConfs, operationC
 use Rattle.entries.specs.Faults.{isServer}
 use Rattle.state.specs.Tables.{maxSlots}
 
--- a request: the call step that queued it, and its operation ("How tight the contracts are", demand 3)
+-- a request, by its call's name and the operation called ("How tight the contracts are", demand 3)
 pub record Request : Type 0 where
   pub at : ℕ
   pub on : ℕ

@@ -70,7 +70,7 @@ EndsOnce =
     (cfg : Config) (rs : List Step) (st : State) → configSound cfg ≡ true → Run cfg rs st
     → (k : ℕ) → endsOf k (historyOf cfg rs .endings) ≤ 1
 
--- what an ending names is a started call on that operation, and it is by its timeout or by an instance spawned for that very call ("How tight the contracts are", demand 3)
+-- an ending is of a call that was started on its operation; if it was no timeout, then the instance that ended it had been spawned for this call ("How tight the contracts are", demand 3)
 abbrev pub EndsProperly : Type 0
 EndsProperly =
     (cfg : Config) (rs : List Step) (st : State) → configSound cfg ≡ true → Run cfg rs st

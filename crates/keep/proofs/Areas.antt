@@ -1,5 +1,5 @@
 -- After every step a taken area lies in all the stacks together once, a free one not at all: what each kind of change does, and then step by step.
--- While an area is free every stack has room for it, so none grows past its end.
+-- No stack grows past its end: an area can be entered only while it is free, and then there is a place left for it (`free-room`).
 -- Assumes nothing.
 use Prim.Native.Nat.{ℕ, _+_, _-_, _≤_, _<_}
 use mathlib.Core.Bool.{Bool, true, false}
@@ -102,7 +102,7 @@ pub held-slot : (cfg : Config) (t : Areas) (ss : Slots) (i : ℕ) (x : Slot) →
 unfolding holders
 held-slot cfg t ss i x e h = record { there = h .there; once = λ a b. sum-same _ _ maxSlots (λ k l. slot-kept (λ y. timesIn a (y .stack)) ss i x (e a) k) ∙ h .once a b }
 
--- a free area has room on every stack
+-- as long as an area is free, no stack is full
 pub free-room : (cfg : Config) (st : State) (i a : ℕ) → Sound cfg st → i < maxSlots → a < maxAreaConfs → areaIn (st .areas) a .taken ≡ false → slotIn (st .slots) i .stack .held < maxAreaConfs
 unfolding holders timesIn
 free-room cfg st i a s l m f =

@@ -138,7 +138,7 @@ module _ {A : Type 0} (d : A) (l : List A) where
       go (yes e) = getD-at (drop 1 l) d [] d j (length-drop 1 l ∙ omega (arith, e))
       go (no n) = List·getD-eq-default (drop 1 l ++ (d ∷ [])) d (omega (arith, length-append (drop 1 l) (d ∷ []), length-drop 1 l, n))
 
--- what a loop has made of l after k turns: place j is place j + 1 of l, for each j below k
+-- a row on its way to being moved up by one: the first k places have their new entries
 unfoldable pub halfway : {A : Type 0} → List A → ℕ → List A
 halfway l k = take k (drop 1 l) ++ drop k l
 

@@ -15,7 +15,7 @@ unfoldable pub anyBelow : (ℕ → Bool) → ℕ → Bool
 anyBelow p zero = false
 anyBelow p (suc n) = either (anyBelow p n) (p n)
 
--- the sum of what stands at the places below n
+-- the values of f at all numbers below n, added up
 unfoldable pub sumBelow : (ℕ → ℕ) → ℕ → ℕ
 sumBelow f zero = 0
 sumBelow f (suc n) = sumBelow f n + f n

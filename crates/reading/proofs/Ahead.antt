@@ -61,7 +61,7 @@ field-frame t last {tag} {size} e =
 
 -- ---- the loop
 
--- cfg holds the fields before at, the text from at on is ahead, and its first field has the place place
+-- before at everything was read, into cfg; what is left of the text begins at at, with the field whose place is place
 pub record Ahead (s : List ℕ) (cfg : Config) (at last place : ℕ) : Type 0 where
   pub inside : at ≤ length s
   pub from-one : 1 ≤ place

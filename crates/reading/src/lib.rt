@@ -17,7 +17,7 @@ pub struct Reading {
     pub config: Config,
 }
 
-// The field at the front of a text: its tag and the length of its body, the end, or a number of refusal.
+// What a text begins with: a part's tag and how long its body is, the end, or why it is no field.
 pub enum Head {
     Field(u8, usize),
     End,

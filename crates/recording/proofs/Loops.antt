@@ -15,11 +15,11 @@ use Rattle.values.specs.declared.Step.{Step}
 use Rattle.wire.specs.Bytes.{putAt, wroteBytes, Written}
 use Rattle.wire.specs.declared.Wrote.{Wrote}
 use Rattle.wire.specs.declared.Wrote.the-variants.{To, Refused as NotWritten}
-use Rattle.wire.proofs.Laws.{grown, drop-put}
+use Rattle.wire.proofs.Laws.{grown, drop-put, Bytes}
 use Rattle.recording.specs.Recording.{valuesGood, fieldOf, bytesOf, endBytes, stepTo, stepWritten, writeAndReadOf}
 use Rattle.recording.specs.Whole.{Whole, isEnd, isSound, rewriteTo, rewriteWritten}
 use Rattle.recording.specs.declared.Field.the-variants.{Step as IsStep, End, Refused}
-use Rattle.recording.proofs.OneField.{step-told, step-reads, step-bytes, end-bytes, Bytes}
+use Rattle.recording.proofs.OneField.{step-told, step-reads, step-bytes, end-bytes}
 use Rattle.recording.proofs.Texts.{whole-step, whole-end, whole-refused, bytes-drop}
 
 -- ---- reading: what is ahead decides

@@ -13,7 +13,7 @@ use Rattle.laws.proofs.Choosing.{pick-on, pick-off, pick-has}
 use Rattle.values.specs.declared.Step.{Step}
 use Rattle.wire.specs.Bytes.{lengthOf, numberOf}
 use Rattle.wire.proofs.Laws.{be32-bytes, bytes32-be, be32-fits, front-read}
-pub use Rattle.wire.proofs.Laws.{Bytes}
+use Rattle.wire.proofs.Laws.{Bytes}
 use Rattle.recording.specs.Recording.{valuesGood, tested, stepAt, stepIn, endIn, fieldOf, bytesOf, endBytes, Recorded}
 use Rattle.recording.specs.declared.Field.{Field}
 use Rattle.recording.specs.declared.Field.the-variants.{Step as IsStep, End, Refused}

@@ -10,11 +10,12 @@ use lib.ListN.{length, drop, length-drop}
 use lib.Seq.{getD-drop}
 use Rattle.laws.proofs.Choosing.{clash}
 use Rattle.values.specs.declared.Step.{Step}
+use Rattle.wire.proofs.Laws.{Bytes}
 use Rattle.recording.specs.Recording.{fieldOf, bytesOf, endBytes}
 use Rattle.recording.specs.Whole.{Whole, onField, wholeFrom, wholeOf, stepsIn, isEnd, isSound, textOf, EachRecorded}
 use Rattle.recording.specs.declared.Field.{Field}
 use Rattle.recording.specs.declared.Field.the-variants.{Step as IsStep, End, Refused}
-use Rattle.recording.proofs.OneField.{step-told, step-reads, end-reads, step-bytes, end-bytes, step-recorded, Bytes}
+use Rattle.recording.proofs.OneField.{step-told, step-reads, end-reads, step-bytes, end-bytes, step-recorded}
 
 -- ---- reading goes field by field, whatever the bound on the fields
 

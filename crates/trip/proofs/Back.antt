@@ -1,4 +1,4 @@
--- The text of a sound configuration reads as that configuration.
+-- Written and read back, a sound configuration is the same.
 -- Reading it places the parts one by one in their order, so that at any time a part of the configuration stands: the kinds below the one that is read, and its first parts.
 -- The faults of the next part rest on what stands already, and the whole configuration has none.
 -- Assumes nothing.
