@@ -12,11 +12,11 @@ use borrow.Author.Tests.{le-leb, lt-leb, leb-true}
 use Rattle.laws.specs.Choice.{pick}
 use Rattle.laws.proofs.Choosing.{clash, pick-on}
 use Rattle.values.specs.declared.Step.{Step}
-use Rattle.wire.specs.Bytes.{putAt, wroteBytes, Written}
+use Rattle.wire.specs.Bytes.{endBytes, putAt, wroteBytes, Written}
 use Rattle.wire.specs.declared.Wrote.{Wrote}
 use Rattle.wire.specs.declared.Wrote.the-variants.{To, Refused as NotWritten}
 use Rattle.wire.proofs.Laws.{grown, drop-put, Bytes}
-use Rattle.recording.specs.Recording.{valuesGood, fieldOf, bytesOf, endBytes, stepTo, stepWritten, writeAndReadOf}
+use Rattle.recording.specs.Recording.{valuesGood, fieldOf, bytesOf, stepTo, stepWritten, writeAndReadOf}
 use Rattle.recording.specs.Whole.{Whole, isEnd, isSound, rewriteTo, rewriteWritten}
 use Rattle.recording.specs.declared.Field.the-variants.{Step as IsStep, End, Refused}
 use Rattle.recording.proofs.OneField.{step-told, step-reads, step-bytes, end-bytes}

@@ -11,10 +11,10 @@ use borrow.Author.Tests.{eqb-true, ltb-false, le-ltb}
 use Rattle.laws.specs.Choice.{pick}
 use Rattle.laws.proofs.Choosing.{pick-on, pick-off, pick-has}
 use Rattle.values.specs.declared.Step.{Step}
-use Rattle.wire.specs.Bytes.{lengthOf, numberOf}
+use Rattle.wire.specs.Bytes.{endBytes, lengthOf, numberOf}
 use Rattle.wire.proofs.Laws.{be32-bytes, bytes32-be, be32-fits, front-read}
 use Rattle.wire.proofs.Laws.{Bytes}
-use Rattle.recording.specs.Recording.{valuesGood, tested, stepAt, stepIn, endIn, fieldOf, bytesOf, endBytes, Recorded}
+use Rattle.recording.specs.Recording.{valuesGood, tested, stepAt, stepIn, endIn, fieldOf, bytesOf, Recorded}
 use Rattle.recording.specs.declared.Field.{Field}
 use Rattle.recording.specs.declared.Field.the-variants.{Step as IsStep, End, Refused}
 

@@ -11,7 +11,8 @@ use lib.Seq.{getD-drop}
 use Rattle.laws.proofs.Choosing.{clash}
 use Rattle.values.specs.declared.Step.{Step}
 use Rattle.wire.proofs.Laws.{Bytes}
-use Rattle.recording.specs.Recording.{fieldOf, bytesOf, endBytes}
+use Rattle.wire.specs.Bytes.{endBytes}
+use Rattle.recording.specs.Recording.{fieldOf, bytesOf}
 use Rattle.recording.specs.Whole.{Whole, onField, wholeFrom, wholeOf, stepsIn, isEnd, isSound, textOf, EachRecorded}
 use Rattle.recording.specs.declared.Field.{Field}
 use Rattle.recording.specs.declared.Field.the-variants.{Step as IsStep, End, Refused}

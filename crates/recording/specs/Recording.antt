@@ -68,10 +68,6 @@ valueBytes v = v .kind ∷ bytes32 (v .number)
 abbrev pub bytesOf : Step → List ℕ
 bytesOf s = 0x40 ∷ 0 ∷ 13 ∷ s .code ∷ s .who ∷ s .what ∷ (valueBytes (s .argument) ++ valueBytes (s .claim))
 
--- the three bytes of the end field ("The files")
-abbrev pub endBytes : List ℕ
-endBytes = 0x7f ∷ 0 ∷ 0 ∷ []
-
 -- the answer to writing a step: 18, then 27 ("Numbers of refusal", writing)
 abbrev pub stepTo : List ℕ → ℕ → Step → Wrote
 stepTo b at s = pick (valuesGood s) (wroteTo b at 16) (NotWritten 18)

@@ -6,12 +6,12 @@ use mathlib.Core.List.{List, [], _∷_, _++_}
 use lib.ListN.{length, drop}
 use Rattle.laws.specs.Choice.{pick}
 use Rattle.values.specs.declared.Step.{Step}
-use Rattle.wire.specs.Bytes.{wroteTo, wroteBytes}
+use Rattle.wire.specs.Bytes.{endBytes, wroteTo, wroteBytes}
 use Rattle.wire.specs.declared.Wrote.{Wrote}
 use Rattle.wire.specs.declared.Wrote.the-variants.{Refused as NotWritten}
 use Rattle.recording.specs.declared.Field.{Field}
 use Rattle.recording.specs.declared.Field.the-variants.{Step as IsStep, End, Refused}
-use Rattle.recording.specs.Recording.{fieldOf, bytesOf, endBytes, Recorded}
+use Rattle.recording.specs.Recording.{fieldOf, bytesOf, Recorded}
 
 -- a text read to its first field that is no step: the steps before it, and that field ("The files", recording)
 pub record Whole : Type 0 where

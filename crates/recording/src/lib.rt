@@ -4,8 +4,8 @@ use values::Value;
 use wire::Wrote;
 ghost use mathlib.Core.Path.{_≡_};
 ghost use lib.ListN.{drop};
-ghost use Rattle.wire.specs.Bytes.{Written};
-ghost use Rattle.recording.specs.Recording.{valuesGood, tested, stepIn, endIn, fieldOf, endBytes, stepTo, stepWritten, writeAndReadOf};
+ghost use Rattle.wire.specs.Bytes.{endBytes, Written};
+ghost use Rattle.recording.specs.Recording.{valuesGood, tested, stepIn, endIn, fieldOf, stepTo, stepWritten, writeAndReadOf};
 ghost use Rattle.recording.specs.Whole.{isSound, rewriteTo, rewriteWritten};
 
 // What stands next in a recording: a step and the size of its field, the end, or a refusal and how many places past the field asked for it stands.

@@ -15,7 +15,7 @@ use Rattle.laws.specs.Choice.{pick, both}
 use Rattle.laws.proofs.Choosing.{both-left, both-right, pick-on, pick-off, pick-has, clash}
 use Rattle.config.specs.declared.Config.{Config}
 use Rattle.config.specs.Tables.{noConfig}
-use Rattle.wire.specs.Bytes.{lengthOf, wroteTo, wroteBytes, build}
+use Rattle.wire.specs.Bytes.{endBytes, lengthOf, wroteTo, wroteBytes, build}
 use Rattle.wire.specs.declared.Wrote.{Wrote}
 use Rattle.wire.specs.declared.Wrote.the-variants.{Refused as NotWritten}
 use Rattle.wire.proofs.Laws.{Bytes, front-read, build-same}
@@ -32,7 +32,7 @@ use Rattle.reading.specs.declared.Head.{Head}
 use Rattle.reading.specs.declared.Head.the-variants.{Field, End, Bad}
 use Rattle.reading.proofs.Ahead.{Framed, field-frame}
 use Rattle.reading.proofs.Adding.{Adds, adds, back-read}
-use Rattle.writing.specs.Writing.{entryBytes, kindBytes, blockOf, partsBytes, editionBytes, endBytes, textOf, configTo, configWritten}
+use Rattle.writing.specs.Writing.{entryBytes, kindBytes, blockOf, partsBytes, editionBytes, textOf, configTo, configWritten}
 use Rattle.reading.proofs.Sound.{read-sound}
 use Rattle.trip.specs.Trip.{rewriteTo, rewriteWritten}
 use Rattle.trip.proofs.Growing.{no-part, parts-grow}

@@ -17,7 +17,7 @@ use Rattle.laws.specs.Choice.{pick}
 use Rattle.laws.proofs.Choosing.{pick-on}
 use Rattle.config.specs.declared.Config.{Config}
 use Rattle.config.specs.Tables.{noConfig, noVariableConf}
-use Rattle.wire.specs.Bytes.{putAt, wroteTo, build}
+use Rattle.wire.specs.Bytes.{endBytes, putAt, wroteTo, build}
 use Rattle.wire.specs.declared.Wrote.{Wrote}
 use Rattle.wire.specs.declared.Wrote.the-variants.{To, Refused as NotWritten}
 use Rattle.entries.specs.declared.Entry.{Entry}
@@ -29,7 +29,7 @@ use Rattle.reading.specs.declared.Head.{Head}
 use Rattle.reading.specs.declared.Head.the-variants.{Field}
 use Rattle.reading.proofs.Adding.{Adds, adds, back-read}
 use Rattle.reading.proofs.Kept.{fault-kept}
-use Rattle.writing.specs.Writing.{entryBytes, partBytes, kindBytes, blockOf, partsBytes, editionBytes, endBytes, textOf, configTo, configWritten}
+use Rattle.writing.specs.Writing.{entryBytes, partBytes, kindBytes, blockOf, partsBytes, editionBytes, textOf, configTo, configWritten}
 use Rattle.trip.specs.Trip.{writeAndReadOf as readBack}
 use Rattle.trip.proofs.EachEntry.{entry-back, part-shaped, part-fits, frame-head, entry-leads}
 use Rattle.trip.proofs.Standing.{Stands, stands-start, stands-grow, stands-next, stands-all}

@@ -31,6 +31,10 @@ numberOf a b c d = a * 16777216 + b * 65536 + c * 256 + d
 abbrev pub bytes32 : ℕ → List ℕ
 bytes32 n = n / 256 / 256 / 256 % 256 ∷ n / 256 / 256 % 256 ∷ n / 256 % 256 ∷ n % 256 ∷ []
 
+-- the end field, which both files have: its tag, and no body ("The files", tag 7F)
+abbrev pub endBytes : List ℕ
+endBytes = 0x7f ∷ 0 ∷ 0 ∷ []
+
 -- a buffer with xs from a place on; before them and behind them it is as it was ("Numbers of refusal", writing)
 abbrev pub putAt : List ℕ → ℕ → List ℕ → List ℕ
 putAt b at xs = (take at b ++ xs) ++ drop (at + length xs) b

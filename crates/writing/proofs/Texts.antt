@@ -12,13 +12,13 @@ use borrow.Author.Tests.{le-leb, lt-leb, leb-true, leb-false}
 use Rattle.laws.specs.Choice.{pick}
 use Rattle.laws.proofs.Looping.{sum-same}
 use Rattle.config.specs.declared.Config.{Config}
-use Rattle.wire.specs.Bytes.{wroteTo, wroteBytes, Written}
+use Rattle.wire.specs.Bytes.{endBytes, wroteTo, wroteBytes, Written}
 use Rattle.wire.specs.declared.Wrote.{Wrote}
 use Rattle.wire.specs.declared.Wrote.the-variants.{To, Refused}
 use Rattle.entries.specs.declared.Entry.{Entry}
 use Rattle.entries.specs.Entries.{countOf, entryOf}
 use Rattle.entries.specs.Faults.{configSound}
-use Rattle.writing.specs.Writing.{runnableBytes, variableBytes, areaBytes, operationBytes, timerBytes, pairBytes, entryBytes, fieldSize, partBytes, kindBytes, kindSize, editionBytes, endBytes, partsBytes, partsSize, blockOf, textOf, configTo, configWritten}
+use Rattle.writing.specs.Writing.{runnableBytes, variableBytes, areaBytes, operationBytes, timerBytes, pairBytes, entryBytes, fieldSize, partBytes, kindBytes, kindSize, editionBytes, partsBytes, partsSize, blockOf, textOf, configTo, configWritten}
 use Rattle.writing.proofs.Pieces.{Put, put-none, put-same, put-more, put-written, short-written, build-sum, build-size}
 
 -- ---- the length of a text

@@ -7,7 +7,7 @@ use lib.Dec.{eqb}
 use Rattle.laws.specs.Choice.{pick}
 use Rattle.laws.specs.Loop.{sumBelow}
 use Rattle.config.specs.declared.Config.{Config}
-use Rattle.wire.specs.Bytes.{bytes32, wroteTo, wroteBytes, build}
+use Rattle.wire.specs.Bytes.{endBytes, bytes32, wroteTo, wroteBytes, build}
 use Rattle.wire.specs.declared.Wrote.{Wrote}
 use Rattle.wire.specs.declared.Wrote.the-variants.{Refused}
 use Rattle.entries.specs.declared.Entry.{Entry}
@@ -73,10 +73,6 @@ kindSize cfg tag = countOf cfg tag * fieldSize tag
 -- the edition is 1 ("The files", tag 01)
 abbrev pub editionBytes : List ℕ
 editionBytes = 0x01 ∷ 0 ∷ 1 ∷ 1 ∷ []
-
--- nothing follows the end ("The files", tag 7F)
-abbrev pub endBytes : List ℕ
-endBytes = 0x7f ∷ 0 ∷ 0 ∷ []
 
 -- the fields of the kind at place j among the ten, whose tags are 10 to 19 ("The files", the table)
 unfoldable pub blockOf : Config → ℕ → List ℕ

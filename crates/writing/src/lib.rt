@@ -5,8 +5,8 @@ use wire::Wrote;
 ghost use mathlib.Core.Path.{_≡_};
 ghost use Prim.Native.Nat.{_+_};
 ghost use lib.Dec.{leb};
-ghost use Rattle.wire.specs.Bytes.{Written};
-ghost use Rattle.writing.specs.Writing.{runnableBytes, variableBytes, areaBytes, operationBytes, timerBytes, pairBytes, fieldSize, entryBytes, kindSize, kindBytes, partsSize, partsBytes, editionBytes, endBytes, configTo, configWritten};
+ghost use Rattle.wire.specs.Bytes.{endBytes, Written};
+ghost use Rattle.writing.specs.Writing.{runnableBytes, variableBytes, areaBytes, operationBytes, timerBytes, pairBytes, fieldSize, entryBytes, kindSize, kindBytes, partsSize, partsBytes, editionBytes, configTo, configWritten};
 
 // The fields of the kinds, each written from a place on.
 fn write_runnable(buf: &mut [u8], at: usize, e: Entry) -> Wrote
