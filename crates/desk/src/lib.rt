@@ -6,6 +6,7 @@ ghost use Rattle.desk.specs.Got.{Fits};
 use judging::Line;
 use libc::STDIN_FILENO;
 use libc::STDOUT_FILENO;
+use wire::Wrote;
 
 // How many bytes came before the end of the input, or that a read failed.
 pub enum Got {
@@ -86,31 +87,12 @@ fn repeat(config: &[u8], recording: &[u8], times: u32) -> Line
     judging::line_of(config, recording)
 }
 
-// Prints the line.
-pub fn print(line: Line) {
-    match line {
-        Line::Accepted(n) => count(b"accepted ", n),
-        Line::Refused(place, k) => place_and_number(b"refused ", place, k),
-        Line::Unfinished(n) => count(b"unfinished ", n),
-        Line::Configuration(place, k) => place_and_number(b"configuration ", place, k),
-        Line::TooLong => words(b"input too long\n"),
-    }
-}
-
-fn words(text: &[u8]) {
-    io::write_all(STDOUT_FILENO, text);
-}
-
-fn count(word: &[u8], n: usize) {
-    words(word);
-    io::print_decimal(STDOUT_FILENO, n as u64);
-    words(b"\n");
-}
-
-fn place_and_number(word: &[u8], place: usize, k: u8) {
-    words(word);
-    io::print_decimal(STDOUT_FILENO, place as u64);
-    words(b" ");
-    io::print_decimal(STDOUT_FILENO, k as u64);
-    words(b"\n");
+// Prints the line, in one write; whether all of it went out.
+pub fn print(line: Line) -> bool {
+    let mut text = [0u8; 64];
+    let w = printing::put_printed(&mut text, 0, line);
+    let Wrote::To(n) = w else {
+        return false;
+    };
+    io::write_all(STDOUT_FILENO, &text[..n])
 }

@@ -1,0 +1,2 @@
+-- The judge's line as the bytes that are printed.
+pub mod Printed
