@@ -1,4 +1,4 @@
-// What the programs share: an input read to its end, and never half of it; and a line printed.
+// What the programs share: an input read to its end, and never half of it; and a line printed in one write.
 ghost use mathlib.Core.Path.{_≡_};
 ghost use lib.ListN.{length};
 ghost use Rattle.judging.specs.Line.{lineOf};
@@ -60,6 +60,29 @@ pub fn read_file(name: &[u8], buf: &mut [u8]) -> Got
     got
 }
 
+// Reads what a name stands for: standard input for `-`, else the file, which has to be there.
+pub fn read_named(name: &[u8], buf: &mut [u8]) -> Got
+    ensures { λ r. ⌜ Fits r (length (now (buf .exit))) ⌝ }
+{
+    if is_dash(name) {
+        return read_whole(STDIN_FILENO, buf);
+    }
+    let fd = os::open_read(name);
+    if fd < 0 {
+        return Got::Failed;
+    }
+    let got = read_whole(fd, buf);
+    libc::close(fd);
+    got
+}
+
+fn is_dash(name: &[u8]) -> bool {
+    if name.len() == 1 {
+        return name[0] == b'-';
+    }
+    false
+}
+
 // Reads rte.cfg and a recording on standard input, judges it as often as is said, once at least, and prints the last line. On a read that fails it prints none, and says what failed on standard error.
 pub fn run(config: &mut [u8], recording: &mut [u8], times: u32) {
     let c = read_file(b"rte.cfg", config);
@@ -92,6 +115,24 @@ pub fn print(line: Line) -> bool {
     let mut text = [0u8; 64];
     let w = printing::put_printed(&mut text, 0, line);
     let Wrote::To(n) = w else {
+        return false;
+    };
+    io::write_all(STDOUT_FILENO, &text[..n])
+}
+
+// Prints the line behind a name, a colon and a space, in one write; whether all of it went out.
+pub fn print_named(name: &[u8], line: Line) -> bool {
+    let mut text = [0u8; 4200];
+    let w = wire::write(&mut text, 0, name);
+    let Wrote::To(k) = w else {
+        return false;
+    };
+    let v = wire::write(&mut text, k, b": ");
+    let Wrote::To(m) = v else {
+        return false;
+    };
+    let u = printing::put_printed(&mut text, m, line);
+    let Wrote::To(n) = u else {
         return false;
     };
     io::write_all(STDOUT_FILENO, &text[..n])
