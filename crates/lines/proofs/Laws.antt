@@ -3,20 +3,20 @@
 use Prim.Native.Nat.{ℕ, zero, suc, _+_, _-_, _*_, _/_, _%_, _^_, _<_, _≤_}
 use mathlib.Core.Bool.{Bool, true, false}
 use mathlib.Core.List.{List, [], _∷_, _++_, append-assoc}
-use mathlib.Core.Path.{_≡_, refl, sym, ap, ap₂, _∙_}
+use mathlib.Core.Path.{_≡_, refl, sym, ap, _∙_}
 use native.Mathlib.Nat.{pow-suc, pow-le-pow-right, one-le-pow}
 use native.Mathlib.Numerals.{add-one}
 use native.Mathlib.Omega.{arith}
 use lib.Dec.{ltb, leb}
-use lib.ListN.{length, take, drop, getD, length-take, length-append}
-use lib.Seq.{drop-cons, drop-length, take-at, take-all, getD-take, length-take-le}
+use lib.ListN.{length, take, drop, getD, length-append}
+use lib.Seq.{drop-cons, drop-length, take-at, take-all, length-take-le}
 use borrow.Author.Tests.{lt-ltb, le-ltb, le-leb, ltb-true, ltb-false, leb-true, leb-false}
 use Rattle.io.specs.Digits.{digits, Fewest}
 use Rattle.laws.specs.Choice.{pick}
 use Rattle.wire.specs.Bytes.{putAt, Written}
 use Rattle.wire.specs.declared.Wrote.{Wrote}
 use Rattle.wire.specs.declared.Wrote.the-variants.{To, Refused}
-use Rattle.writing.proofs.Pieces.{Put, put-same, put-more, put-written, short-written}
+use Rattle.writing.proofs.Pieces.{Put, put-same, put-more, short-written}
 use Rattle.lines.specs.Lines.{spelled, decimalOf, numberBytes, tailOf, lineBytes}
 
 -- ---- digits

@@ -1,9 +1,9 @@
 -- `lines::put_tail` meets its contract. What is put and what is ahead make up the whole (`Ahead`).
 -- Assumes nothing.
-use Prim.Native.Nat.{_+_, _-_, _*_, _<_, _≤_}
-use mathlib.Core.Path.{_≡_, sym, ap, _∙_}
+use Prim.Native.Nat.{_-_, _<_}
+use mathlib.Core.Path.{_≡_, _∙_}
 use native.Mathlib.Omega.{arith}
-use lib.ListN.{length, take, getD}
+use lib.ListN.{length, take}
 use lib.Seq.{length-take-le, getD-take}
 use denote.Ref.{now}
 use borrow.Author.Needs.{needs}

@@ -1,0 +1,9 @@
+-- A verdict on one part.
+-- Assumes nothing.
+use Prim.Native.Nat.{ℕ, _≤_}
+use Rattle.judging.specs.declared.Verdict.{Verdict}
+use Rattle.judging.specs.Judging.{placeIn}
+
+-- its place lies in the part or just behind it ("Judging")
+abbrev pub Near : Verdict → Type 0
+Near v = placeIn v ≤ 65538

@@ -1,0 +1,2 @@
+-- Judging a recording in parts, and what is claimed of it.
+pub mod Parts
