@@ -1,6 +1,6 @@
 -- A verdict on one part.
 -- Assumes nothing.
-use Prim.Native.Nat.{ℕ, _≤_}
+use Prim.Native.Nat.{_≤_}
 use Rattle.judging.specs.declared.Verdict.{Verdict}
 use Rattle.judging.specs.Judging.{placeIn}
 

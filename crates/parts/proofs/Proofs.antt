@@ -5,20 +5,28 @@ use mathlib.Core.Bool.{Bool, true, false}
 use mathlib.Core.List.{List, [], _∷_, _++_, append-assoc, append-nil}
 use mathlib.Core.Path.{_≡_, refl, sym, ap, ap₂, _∙_}
 use native.Mathlib.Omega.{arith}
+use lib.Dec.{ltb}
 use lib.ListN.{length, drop, length-append, length-drop}
 use lib.Seq.{drop-append-le}
-use Rattle.laws.specs.Choice.{pick}
+use Rattle.laws.specs.Choice.{pick, either}
 use Rattle.config.specs.declared.Config.{Config}
 use Rattle.state.specs.declared.State.{State}
+use Rattle.state.specs.Start.{startOf}
 use Rattle.rules.specs.Sound.{soundOf}
 use Rattle.rules.specs.Step.{stepOf}
+use Rattle.reading.specs.declared.Outcome.{Outcome}
+use Rattle.reading.specs.declared.Outcome.the-variants.{Whole, Refused as NotRead}
+use Rattle.reading.specs.Reading.{configOf}
 use Rattle.keep.proofs.Keeps.{kept-step}
 use Rattle.judging.specs.declared.Verdict.{Verdict}
 use Rattle.judging.specs.declared.Verdict.the-variants.{Accepted, Refused, Unfinished}
 use Rattle.judging.specs.declared.Judged.{Judged}
+use Rattle.judging.specs.declared.Line.{Line}
+use Rattle.judging.specs.declared.Line.the-variants.{TooLong, Unfinished as UnfinishedLine}
+use Rattle.judging.specs.Line.{maxConfig, maxRecording, allowed, judgedLine, outcomeLine, readLine, lineOf}
 use Rattle.judging.specs.Judging.{judged, judgeFrom, judgeOf, restOf, placeIn}
 use Rattle.judging.proofs.Laws.{judged-stays, judged-goes-on, unfinished-accepted, unfinished-refused}
-use Rattle.parts.specs.Parts.{later, laterVerdict, wholeOf, sure, onUnfinished, inParts, joined, PartsAsOne}
+use Rattle.parts.specs.Parts.{later, laterVerdict, wholeOf, sure, onUnfinished, inParts, joined, longLine, PartsAsOne, LongIsLine}
 use Rattle.parts.proofs.Laws.{judged-later, judged-finishes, judged-front, rest-drop, judged-keeps, judged-within}
 
 -- ---- steps counted before steps counted before
@@ -134,3 +142,53 @@ judged-near cfg st t a = go (soundOf cfg st) refl
     go : (b : Bool) → soundOf cfg st ≡ b → (pick b (judgeFrom (stepOf cfg) a t 0 st) (judged (Refused 0 1) 0 st) .count ≤ a) × (placeIn (pick b (judgeFrom (stepOf cfg) a t 0 st) (judged (Refused 0 1) 0 st) .verdict) ≤ a + 2)
     go true e = let w = judged-within (stepOf cfg) a t 0 st in (omega (arith, w .0), omega (arith, w .1))
     go false e = (omega arith, omega arith)
+
+-- ---- the line
+
+-- a verdict within some allowance is the verdict without limits
+whole-as-allowed : (cfg : Config) (st : State) (t : List ℕ) (a : ℕ) → (judgeOf cfg st t a .verdict ≡ Unfinished → ⊥) → wholeOf cfg st t ≡ judgeOf cfg st t a
+unfolding wholeOf judgeOf
+whole-as-allowed cfg st t a not = go (soundOf cfg st) refl not
+  where
+    stays : (judgeFrom (stepOf cfg) a t 0 st .verdict ≡ Unfinished → ⊥) → judgeFrom (stepOf cfg) (length t) t 0 st ≡ judgeFrom (stepOf cfg) a t 0 st
+    stays ends =
+        let e : a + length t ≡ length t + a = omega arith in
+        sym (judged-stays (stepOf cfg) (length t) a t 0 st (judged-finishes (stepOf cfg) (length t) t 0 st (omega arith)))
+        ∙ ap (λ (x : ℕ). judgeFrom (stepOf cfg) x t 0 st) (sym e) ∙ judged-stays (stepOf cfg) a (length t) t 0 st ends
+
+    go : (b : Bool) → soundOf cfg st ≡ b → (pick b (judgeFrom (stepOf cfg) a t 0 st) (judged (Refused 0 1) 0 st) .verdict ≡ Unfinished → ⊥)
+        → pick b (judgeFrom (stepOf cfg) (length t) t 0 st) (judged (Refused 0 1) 0 st) ≡ pick b (judgeFrom (stepOf cfg) a t 0 st) (judged (Refused 0 1) 0 st)
+    go true e ends = stays ends
+    go false e ends = refl
+
+-- a line that is not unfinished comes from a verdict that is not
+line-ends : (j : Judged) → ((n : ℕ) → judgedLine j ≡ UnfinishedLine n → ⊥) → j .verdict ≡ Unfinished → ⊥
+unfolding judgedLine
+line-ends j not u = not (j .count) (rw u)
+
+outcome-same : (o : Outcome) (x y : Line) → (o ≡ Whole → x ≡ y) → outcomeLine o x ≡ outcomeLine o y
+outcome-same Whole x y e = e refl
+outcome-same (NotRead k p) x y e = refl
+
+pub long-is-line : LongIsLine
+unfolding longLine lineOf readLine
+long-is-line c t short ends = go (ltb maxConfig (length c)) (ltb maxRecording (length t)) refl refl short ends
+  where
+    cfg : Config
+    cfg = configOf c .config
+
+    whole : Line
+    whole = outcomeLine (configOf c .outcome) (judgedLine (wholeOf cfg (startOf cfg) t))
+
+    allow : Line
+    allow = outcomeLine (configOf c .outcome) (judgedLine (judgeOf cfg (startOf cfg) t allowed))
+
+    same : ((n : ℕ) → allow ≡ UnfinishedLine n → ⊥) → whole ≡ allow
+    same not = outcome-same (configOf c .outcome) _ _
+        (λ e. ap judgedLine (whole-as-allowed cfg (startOf cfg) t allowed (line-ends (judgeOf cfg (startOf cfg) t allowed) (λ n q. not n (rw e q)))))
+
+    go : (a b : Bool) → ltb maxConfig (length c) ≡ a → ltb maxRecording (length t) ≡ b → (pick (either a b) TooLong allow ≡ TooLong → ⊥) → ((n : ℕ) → pick (either a b) TooLong allow ≡ UnfinishedLine n → ⊥)
+        → pick a TooLong whole ≡ pick (either a b) TooLong allow
+    go true b p q s e = refl
+    go false true p q s e = absurd (s refl)
+    go false false p q s e = same e

@@ -16,9 +16,9 @@ use Rattle.judging.specs.declared.Verdict.{Verdict}
 use Rattle.judging.specs.declared.Verdict.the-variants.{Accepted, Refused, Unfinished}
 use Rattle.judging.specs.declared.Judged.{Judged}
 use Rattle.judging.specs.declared.Line.{Line}
-use Rattle.judging.specs.declared.Line.the-variants.{TooLong}
+use Rattle.judging.specs.declared.Line.the-variants.{TooLong, Unfinished as UnfinishedLine}
 use Rattle.judging.specs.Judging.{judged, judgeOf}
-use Rattle.judging.specs.Line.{maxConfig, judgedLine, outcomeLine}
+use Rattle.judging.specs.Line.{maxConfig, judgedLine, outcomeLine, lineOf}
 
 -- a verdict with n steps before it: places move by n ("Judging")
 abbrev pub laterVerdict : ℕ → Verdict → Verdict
@@ -70,3 +70,7 @@ longLine c t = pick (ltb maxConfig (length c)) TooLong (outcomeLine (configOf c 
 abbrev pub PartsAsOne : Type 0
 PartsAsOne = (cfg : Config) (st : State) (n : ℕ) (held : List ℕ) (ps : List (List ℕ)) → soundOf cfg st ≡ true → EachLong ps
     → inParts cfg st n held ps ≡ later n (wholeOf cfg st (held ++ joined ps))
+
+-- THE CLAIM for the line: wherever the judge itself gives a verdict, the line for a recording of any length is the judge's
+abbrev pub LongIsLine : Type 0
+LongIsLine = (c t : List ℕ) → (lineOf c t ≡ TooLong → ⊥) → ((n : ℕ) → lineOf c t ≡ UnfinishedLine n → ⊥) → longLine c t ≡ lineOf c t

@@ -1,7 +1,5 @@
 -- `long::judge_last` meets its contract.
 -- Assumes nothing.
-use Prim.Native.Nat.{_-_, _/_}
-use mathlib.Core.Path.{_≡_}
 use native.Mathlib.Omega.{arith}
 use lib.ListN.{length}
 use denote.Ref.{now}

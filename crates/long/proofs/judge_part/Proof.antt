@@ -6,7 +6,6 @@ use native.Mathlib.Omega.{arith}
 use lib.ListN.{length}
 use denote.Ref.{now}
 use borrow.Author.Needs.{needs}
-use Rattle.parts.specs.Parts.{wholeOf}
 use Rattle.parts.proofs.Proofs.{judged-near}
 use Rattle.long.proofs.judge_part.Statement.{statement}
 use Rattle.long.proofs.judge_part.Tie as tie
