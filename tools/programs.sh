@@ -34,7 +34,7 @@ stamp_of() {
         cd "$top" || exit 1
         {
             printf '%s\n' "$kit_id"
-            find crates.txt crates \( -name '*.rt' -o -name '*.antt' -o -name crates.txt \) -print0 | LC_ALL=C sort -z | xargs -0 sha256sum
+            find -L crates.txt crates \( -name '*.rt' -o -name '*.antt' -o -name crates.txt \) -print0 | LC_ALL=C sort -z | xargs -0 sha256sum
         } | sha256sum | cut -c1-64
     )
 }
@@ -122,7 +122,7 @@ run() { # ARGUMENTS
 
 # Says nothing and stops where a line could not go out anyway.
 need_output() {
-    { : >&1; } 2>/dev/null || die "$UNWRITTEN" 'standard output is closed'
+    { true >&1; } 2>/dev/null || die "$UNWRITTEN" 'standard output is closed'
 }
 
 # Prints a text whole, or ends with a status of its own.

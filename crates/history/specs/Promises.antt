@@ -1,7 +1,7 @@
 -- The promises, as types, in the order of demand 3. They are proved in proofs/, by citing; nothing else stands here.
 -- `Run cfg rs st` says that every step of rs, in turn from the start state, is accepted with the answer it claims, and that st is the state reached.
 -- Assumes nothing.
-use Prim.Native.Nat.{ℕ, _+_, _≤_, _<_}
+use Prim.Native.Nat.{ℕ, _≤_, _<_}
 use mathlib.Core.Bool.{true, false}
 use mathlib.Core.List.{List, [], _∷_, _++_, List·Memᴰ}
 use mathlib.Core.Logic.{_↔_}

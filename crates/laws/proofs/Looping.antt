@@ -45,11 +45,6 @@ all-fails p (suc n) k l h =
     (λ m. rw (all-fails p n k m h))
     (eq-or-lt-of-le (le-of-suc-le-suc l))
 
-pub all-same : (p q : ℕ → Bool) (n : ℕ) → ((k : ℕ) → k < n → p k ≡ q k) → allBelow p n ≡ allBelow q n
-unfolding allBelow
-all-same p q zero h = refl
-all-same p q (suc n) h = rw (all-same p q n (λ k l. h k (omega arith)), h n (omega arith))
-
 -- ---- any
 
 pub any-none : (p : ℕ → Bool) → anyBelow p 0 ≡ false
@@ -121,11 +116,6 @@ pub sum-add : (f g : ℕ → ℕ) (n : ℕ) → sumBelow (λ (k : ℕ). f k + g 
 unfolding sumBelow
 sum-add f g zero = refl
 sum-add f g (suc n) = omega (arith, sum-add f g n)
-
-pub sum-most : (f g : ℕ → ℕ) (n : ℕ) → ((k : ℕ) → k < n → f k ≤ g k) → sumBelow f n ≤ sumBelow g n
-unfolding sumBelow
-sum-most f g zero h = omega arith
-sum-most f g (suc n) h = omega (arith, sum-most f g n (λ k l. h k (omega arith)), h n (omega arith))
 
 -- a sum of terms each at most m
 pub sum-bound : (f : ℕ → ℕ) (m n : ℕ) → ((k : ℕ) → k < n → f k ≤ m) → sumBelow f n ≤ n * m

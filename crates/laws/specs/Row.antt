@@ -1,6 +1,6 @@
 -- Rows of places: an array of a state, whatever stands in it. A row is read by getD, with a blank past its end, and changed by set, which changes nothing there.
 -- Assumes nothing.
-use Prim.Native.Nat.{ℕ, zero, suc, _+_}
+use Prim.Native.Nat.{ℕ, zero, suc}
 use mathlib.Core.Bool.{Bool}
 use mathlib.Core.List.{List, [], _∷_, _++_}
 use lib.Dec.{ltb, eqb}

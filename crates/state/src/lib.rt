@@ -1,7 +1,7 @@
 // The state of a control unit at its real size: seven tables, and the queues and stacks inside their parts.
 // A table is read by `get`, which gives the blank part past its end, and changed by `with`, which changes nothing there.
 ghost use mathlib.Core.Path.{_≡_};
-ghost use Rattle.state.specs.Tables.{runnableIn, variableIn, areaIn, elementIn, operationIn, timerIn, slotIn, withRunnable, withVariable, withArea, withElement, withOperation, withTimer, withSlot, noRunnables, noVariables, noAreas, noElements, noOperations, noTimers, noSlots};
+ghost use Rattle.state.specs.Tables.{runnableIn, variableIn, areaIn, elementIn, operationIn, timerIn, slotIn, withRunnable, withVariable, withArea, withElement, withOperation, withTimer, withSlot};
 ghost use Rattle.state.specs.Queues.{upOne, pushRequest, firstRequest, restRequests, pushValue, firstValue, restValues, pushArea, topArea, popArea};
 ghost use Rattle.state.specs.Start.{startRunnable, startVariable, startElement, startRunnables, startVariables, startElements, startOf};
 ghost use Rattle.laws.specs.Row.{shifted};

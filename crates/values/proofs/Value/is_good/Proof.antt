@@ -4,8 +4,6 @@ use Rattle.laws.proofs.Choosing.{tests}
 use Rattle.values.specs.Values.{isGood}
 use Rattle.values.proofs.Value.is_good.Statement.{statement}
 use Rattle.values.proofs.Value.is_good.Tie as tie
-use Rattle.values.proofs.Value.is_good.Reads as reads
-use Rattle.values.proofs.Value.is_good.Lts as lts
 
 -- src/lib.rt:50:13
 returns : tie.Need-returns

@@ -5,9 +5,6 @@ use Rattle.values.specs.Values.{isPayload}
 use borrow.Author.Needs.{needs}
 use Rattle.values.proofs.Value.is_payload.Statement.{statement}
 use Rattle.values.proofs.Value.is_payload.Tie as tie
-use Rattle.values.proofs.Value.is_payload.Reads as reads
-use Rattle.values.proofs.Value.is_payload.Lts as lts
-use Rattle.values.proofs.Value.is_void.Reads as is-void-reads
 
 -- src/lib.rt:40:13
 returns : tie.Need-returns

@@ -4,8 +4,6 @@ use Rattle.laws.proofs.Choosing.{tests}
 use Rattle.values.specs.Values.{isVoid}
 use Rattle.values.proofs.Value.is_void.Statement.{statement}
 use Rattle.values.proofs.Value.is_void.Tie as tie
-use Rattle.values.proofs.Value.is_void.Reads as reads
-use Rattle.values.proofs.Value.is_void.Lts as lts
 
 -- src/lib.rt:30:13
 returns : tie.Need-returns

@@ -4,8 +4,6 @@ use Rattle.laws.proofs.Choosing.{tests}
 use Rattle.values.specs.Values.{sameValue}
 use Rattle.values.proofs.Value.same.Statement.{statement}
 use Rattle.values.proofs.Value.same.Tie as tie
-use Rattle.values.proofs.Value.same.Reads as reads
-use Rattle.values.proofs.Value.same.Lts as lts
 
 -- src/lib.rt:62:13
 returns : tie.Need-returns
