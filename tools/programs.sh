@@ -57,7 +57,7 @@ progress() { # NAME CRATES
     done_crates=0
     while IFS= read -r line; do
         case $line in
-        'rt: '*' proved'*)
+        'rt: '*' proved ('*)
             done_crates=$((done_crates + 1))
             if [ -t 2 ]; then
                 crate=${line#rt: }
@@ -75,7 +75,7 @@ build() { # NAME
     command -v flock >/dev/null || die "$UNBUILT" 'there is no flock, which keeps two builds apart. Nothing was judged'
     exec 9<"$top"
     if ! flock -n 9; then
-        say 'another build runs in this folder; waiting for it'
+        if [ -t 2 ]; then say 'another build runs in this folder; waiting for it'; fi
         flock 9 || die "$UNBUILT" 'the lock could not be had. Nothing was judged'
     fi
     program=$top/target/run/$stamp/$1
