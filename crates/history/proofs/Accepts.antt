@@ -23,10 +23,14 @@ use Rattle.state.specs.declared.Stepped.{Stepped}
 use Rattle.state.specs.Tables.{maxSlots, runnableIn, operationIn, slotIn}
 use Rattle.rules.specs.Sound.{soundOf}
 use Rattle.rules.specs.Refusals.{instanceRefusal, schedulerRefusal}
-use Rattle.rules.specs.Steps.{refused, took, requestsFull, called, callOf, closed, answers, handBackOf, timeoutOf, endOf, maySpawn, lowestEmpty, spawned, spawnOf}
+use Rattle.rules.specs.Steps.{refused, took, requestsFull, called, callOf, closed, answers, handBackOf, timeoutOf, endOf, maySpawn, lowestEmpty, spawned, spawnOf, operationsLet, timersLet, runnablesLet, waitOf}
 use Rattle.rules.specs.Step.{instanceActOf, schedulerActOf, instanceStepOf, schedulerStepOf, possibleOf, onAnswer, claimedOf, innerOf, stepOf}
-use Rattle.keep.proofs.Says.{Acting, readsVariable, writesVariable, enters, exits, reads, writes, updates, invalidates, receives, sends, calls, results, handsBack, Scheduling, ticks, waits, acting, scheduling, Let, LetRun, let-told, run-told, says-call, says-hand-back, says-end, says-spawn, says-timeout}
+use Rattle.keep.specs.Facts.{Sound}
+use Rattle.keep.proofs.Told.{told}
+use Rattle.keep.proofs.Says.{Acting, readsVariable, writesVariable, enters, exits, reads, writes, updates, invalidates, receives, sends, calls, results, handsBack, Scheduling, ticks, waits, acting, scheduling, Let, LetRun, let-told, run-told, says-call, says-hand-back, says-end, says-spawn, says-timeout, says-wait}
 use Rattle.keep.proofs.Says as says
+use Rattle.history.specs.History.{timeOf}
+use Rattle.history.proofs.Tied.{Alike}
 use Rattle.history.proofs.Passes as pass
 use Rattle.history.proofs.Deeds.{Quiet, Deed, emptied, finished, passes, starts, returns, lates, ends, serves, spawns, timesOut}
 
@@ -70,6 +74,11 @@ quiet s n c h = record {
     bad : (m : ℕ) → either (ltb m 11) (either (eqb m 12) (ltb 16 m)) ≡ false → n ≡ m → ⊥
     bad m f e = clash _ h (rw e f)
 
+-- and lets no time pass
+untimed : (s : Step) (n : ℕ) → eqb n 18 ≡ false → s .code ≡ n → timeOf s ≡ 0
+unfolding timeOf
+untimed s n f c = rw (c, f)
+
 given : {v w : Value} → Taken v ≡ Taken w → w ≡ v
 given h = cc
 
@@ -96,7 +105,7 @@ module _ (cfg : Config) (st : State) (s : Step) where
       go : (x y w : Bool) → operationIn (st .operations) (s .what) .calling ≡ x → eqb (operationIn (st .operations) (s .what) .number) 65535 ≡ y
           → requestsFull cfg (st .runnables) (operationConfIn (cfg .operations) (s .what) .server) ≡ w
           → chosen x y w .answer ≡ Taken (s .claim) → Deed cfg st s (chosen x y w .state)
-      go true y w a b d k = passes (pass.alike-same st) (open-still (given k))
+      go true y w a b d k = passes (rw (untimed s 11 refl c) (pass.alike-same st)) (open-still (given k))
       go false true w a b d k = absurd (never k)
       go false false true a b d k = absurd (never k)
       go false false false a b d k = starts c (given k) (says-call cfg st (s .who) (s .what) (s .argument) z a b d) refl
@@ -159,33 +168,53 @@ module _ (cfg : Config) (st : State) (s : Step) where
       go true a k = timesOut c (says-timeout cfg st (s .what) z a) refl
       go false a k = absurd (never k)
 
+  -- ---- the wait, and the steps that pass
+
+  deed-wait : Sound cfg st → s .code ≡ 18 → waitOf cfg st (s .argument .number) .answer ≡ Taken (s .claim) → Deed cfg st s (waitOf cfg st (s .argument .number) .state)
+  unfolding waitOf timeOf
+  deed-wait g c h = go (both (operationsLet cfg (st .operations) t) (both (timersLet cfg (st .timers) t) (runnablesLet cfg (st .runnables) t))) refl h
+    where
+      t : ℕ
+      t = s .argument .number
+
+      chosen : Bool → Stepped
+      chosen x = pick x (took voidV (pass.later cfg st t)) (refused 13 st)
+
+      go : (x : Bool) → both (operationsLet cfg (st .operations) t) (both (timersLet cfg (st .timers) t) (runnablesLet cfg (st .runnables) t)) ≡ x → chosen x .answer ≡ Taken (s .claim)
+          → Deed cfg st s (chosen x .state)
+      go true a k = passes (rw c (pass.wait-alike cfg st t g (says-wait cfg st t a))) (quiet s 18 c refl)
+      go false a k = absurd (never k)
+
+  calm : {st′ : State} (n : ℕ) → either (ltb n 11) (either (eqb n 12) (ltb 16 n)) ≡ true → eqb n 18 ≡ false → s .code ≡ n → Alike 0 st st′ → Deed cfg st s st′
+  calm n q f c a = passes (rw (untimed s n f c) a) (quiet s n c q)
+
   -- ---- by code
 
   deed-acting : {n : ℕ} → Acting n → s .code ≡ n → Let cfg st n (s .who) (s .what) (s .argument) → instanceActOf cfg st n (s .who) (s .what) (s .argument) .answer ≡ Taken (s .claim)
       → Deed cfg st s (instanceActOf cfg st n (s .who) (s .what) (s .argument) .state)
   unfolding instanceActOf
-  deed-acting readsVariable c z h = passes (pass.read-variable-alike st (s .what)) (quiet s 1 c refl)
-  deed-acting writesVariable c z h = passes (pass.write-variable-alike st (s .what) (s .argument)) (quiet s 2 c refl)
-  deed-acting enters c z h = passes (pass.enter-alike st (s .who) (s .what)) (quiet s 3 c refl)
-  deed-acting exits c z h = passes (pass.exit-alike st (s .who) (s .what)) (quiet s 4 c refl)
-  deed-acting reads c z h = passes (pass.read-alike st (s .what)) (quiet s 5 c refl)
-  deed-acting writes c z h = passes (pass.write-alike cfg st (s .what) (s .argument)) (quiet s 6 c refl)
-  deed-acting updates c z h = passes (pass.updated-alike st (s .what)) (quiet s 7 c refl)
-  deed-acting invalidates c z h = passes (pass.invalidate-alike cfg st (s .what)) (quiet s 8 c refl)
-  deed-acting receives c z h = passes (pass.receive-alike st (s .what)) (quiet s 9 c refl)
-  deed-acting sends c z h = passes (pass.send-alike cfg st (s .what) (s .argument)) (quiet s 10 c refl)
+  deed-acting readsVariable c z h = calm 1 refl refl c (pass.read-variable-alike st (s .what))
+  deed-acting writesVariable c z h = calm 2 refl refl c (pass.write-variable-alike st (s .what) (s .argument))
+  deed-acting enters c z h = calm 3 refl refl c (pass.enter-alike st (s .who) (s .what))
+  deed-acting exits c z h = calm 4 refl refl c (pass.exit-alike st (s .who) (s .what))
+  deed-acting reads c z h = calm 5 refl refl c (pass.read-alike st (s .what))
+  deed-acting writes c z h = calm 6 refl refl c (pass.write-alike cfg st (s .what) (s .argument))
+  deed-acting updates c z h = calm 7 refl refl c (pass.updated-alike st (s .what))
+  deed-acting invalidates c z h = calm 8 refl refl c (pass.invalidate-alike cfg st (s .what))
+  deed-acting receives c z h = calm 9 refl refl c (pass.receive-alike st (s .what))
+  deed-acting sends c z h = calm 10 refl refl c (pass.send-alike cfg st (s .what) (s .argument))
   deed-acting calls c z h = deed-call c z h
-  deed-acting results c z h = passes (pass.result-alike cfg st (s .who) (s .what)) (quiet s 12 c refl)
+  deed-acting results c z h = calm 12 refl refl c (pass.result-alike cfg st (s .who) (s .what))
   deed-acting handsBack c z h = deed-back c z h
   deed-acting says.ends c z h = deed-end c z h
 
-  deed-scheduling : {n : ℕ} → Scheduling n → s .code ≡ n → LetRun cfg n (s .what) → schedulerActOf cfg st n (s .what) (s .argument) .answer ≡ Taken (s .claim)
+  deed-scheduling : {n : ℕ} → Sound cfg st → Scheduling n → s .code ≡ n → LetRun cfg n (s .what) → schedulerActOf cfg st n (s .what) (s .argument) .answer ≡ Taken (s .claim)
       → Deed cfg st s (schedulerActOf cfg st n (s .what) (s .argument) .state)
   unfolding schedulerActOf
-  deed-scheduling says.spawns c z h = deed-spawn c z h
-  deed-scheduling says.timesOut c z h = deed-timeout c z h
-  deed-scheduling ticks c z h = passes (pass.tick-alike cfg st (s .what)) (quiet s 17 c refl)
-  deed-scheduling waits c z h = passes (pass.wait-alike cfg st (s .argument .number)) (quiet s 18 c refl)
+  deed-scheduling g says.spawns c z h = deed-spawn c z h
+  deed-scheduling g says.timesOut c z h = deed-timeout c z h
+  deed-scheduling g ticks c z h = calm 17 refl refl c (pass.tick-alike cfg st (s .what))
+  deed-scheduling g waits c z h = deed-wait g c h
 
   deed-instance : 1 ≤ s .code → s .code < 15 → instanceStepOf cfg st s .answer ≡ Taken (s .claim) → Deed cfg st s (instanceStepOf cfg st s .state)
   unfolding instanceStepOf
@@ -198,20 +227,20 @@ module _ (cfg : Config) (st : State) (s : Step) where
       go true e k = deed-acting (acting (s .code) l m) refl (let-told cfg st s (eqb-true _ _ e)) k
       go false e k = absurd (never k)
 
-  deed-scheduler : 15 ≤ s .code → s .code < 19 → schedulerStepOf cfg st s .answer ≡ Taken (s .claim) → Deed cfg st s (schedulerStepOf cfg st s .state)
+  deed-scheduler : Sound cfg st → 15 ≤ s .code → s .code < 19 → schedulerStepOf cfg st s .answer ≡ Taken (s .claim) → Deed cfg st s (schedulerStepOf cfg st s .state)
   unfolding schedulerStepOf
-  deed-scheduler l m h = go (eqb (schedulerRefusal cfg s) 0) refl h
+  deed-scheduler g l m h = go (eqb (schedulerRefusal cfg s) 0) refl h
     where
       chosen : Bool → Stepped
       chosen x = pick x (schedulerActOf cfg st (s .code) (s .what) (s .argument)) (refused (schedulerRefusal cfg s) st)
 
       go : (x : Bool) → eqb (schedulerRefusal cfg s) 0 ≡ x → chosen x .answer ≡ Taken (s .claim) → Deed cfg st s (chosen x .state)
-      go true e k = deed-scheduling (scheduling (s .code) l m) refl (run-told cfg s (eqb-true _ _ e)) k
+      go true e k = deed-scheduling g (scheduling (s .code) l m) refl (run-told cfg s (eqb-true _ _ e)) k
       go false e k = absurd (never k)
 
-  deed-possible : possibleOf cfg st s .answer ≡ Taken (s .claim) → Deed cfg st s (possibleOf cfg st s .state)
+  deed-possible : Sound cfg st → possibleOf cfg st s .answer ≡ Taken (s .claim) → Deed cfg st s (possibleOf cfg st s .state)
   unfolding possibleOf
-  deed-possible h = go (ltb (s .code) 1) (ltb (s .code) 15) (ltb (s .code) 19) refl refl refl h
+  deed-possible g h = go (ltb (s .code) 1) (ltb (s .code) 15) (ltb (s .code) 19) refl refl refl h
     where
       chosen : Bool → Bool → Bool → Stepped
       chosen x y w = pick x (refused 2 st) (pick y (instanceStepOf cfg st s) (pick w (schedulerStepOf cfg st s) (refused 2 st)))
@@ -219,10 +248,10 @@ module _ (cfg : Config) (st : State) (s : Step) where
       go : (x y w : Bool) → ltb (s .code) 1 ≡ x → ltb (s .code) 15 ≡ y → ltb (s .code) 19 ≡ w → chosen x y w .answer ≡ Taken (s .claim) → Deed cfg st s (chosen x y w .state)
       go true y w a b c k = absurd (never k)
       go false true w a b c k = deed-instance (ltb-false _ _ a) (ltb-true _ _ b) k
-      go false false true a b c k = deed-scheduler (ltb-false _ _ b) (ltb-true _ _ c) k
+      go false false true a b c k = deed-scheduler g (ltb-false _ _ b) (ltb-true _ _ c) k
       go false false false a b c k = absurd (never k)
 
   pub deed : stepOf cfg st s .answer ≡ Taken (s .claim) → Deed cfg st s (stepOf cfg st s .state)
   deed h =
-      let e = accepted cfg st s (s .claim) h .1 in
-      rw e (deed-possible (rw e at h))
+      let e = accepted cfg st s (s .claim) h in
+      rw (e .1) (deed-possible (told cfg st (e .0)) (rw (e .1) at h))

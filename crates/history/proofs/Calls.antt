@@ -57,9 +57,9 @@ operation-both P os ks o x k b c p h = set-both P (os .at) ks o x noOperation k 
 
 -- ---- the open call of o ends
 
-module _ (os : Operations) (latest : List ℕ) (es : List Ending) (p o : ℕ) (w : How) (x : Operation) where
+module _ (os : Operations) (latest : List ℕ) (es : List Ending) (p o a : ℕ) (w : How) (x : Operation) where
   pub calls-close : Calls os latest es p → operationIn os o .calling ≡ true → Proper (getD latest o 0) w → x .calling ≡ false → x .done ≡ given w
-      → Calls (withOperation os o x) latest (record { on = o; call = getD latest o 0; how = w } ∷ es) (p + 1)
+      → Calls (withOperation os o x) latest (record { on = o; call = getD latest o 0; at = a; how = w } ∷ es) (p + 1)
   calls-close h e pr c g = record {
     size = h .size;
     state = operation-each (λ j y. 0 < getD latest j 0 → endsOf (getD latest j 0) (new ∷ es) + bit (y .calling) ≡ 1) os o x inside
@@ -80,7 +80,7 @@ module _ (os : Operations) (latest : List ℕ) (es : List Ending) (p o : ℕ) (w
   }
     where
       new : Ending
-      new = record { on = o; call = getD latest o 0; how = w }
+      new = record { on = o; call = getD latest o 0; at = a; how = w }
 
       inside : o < length (os .at)
       inside = calling-inside os o e

@@ -20,7 +20,7 @@ use Rattle.state.specs.Parts.{noSlot}
 use Rattle.state.specs.Tables.{runnableIn, slotIn, withRunnable, withSlot, withRunnables, withSlots}
 use Rattle.rules.specs.Steps.{called, closed, answers, finishing, leaving, isDue, lowestEmpty, spawned}
 use Rattle.keep.specs.Facts.{Sound, CanCall, CanHandBack, CanEnd, CanSpawn, CanTimeout}
-use Rattle.history.specs.History.{noRequest, byTimeout, byInstance, History, passed, begins, closes, takes, takesOldest, takenBy, observe}
+use Rattle.history.specs.History.{noRequest, byTimeout, byInstance, History, passed, begins, closes, takes, takesOldest, takenBy, observe, timeOf}
 use Rattle.history.proofs.Tied.{Alike, Tied, tied-alike}
 use Rattle.history.proofs.Ties.{tied-call, tied-timeout, tied-answer, tied-late, tied-server, tied-plain, tied-end}
 
@@ -43,7 +43,7 @@ abbrev pub finished : State → State → ℕ → State
 finished st m i = withSlots m (withSlot (st .slots) i (finishing (slotIn (st .slots) i)))
 
 pub data Deed (cfg : Config) (st : State) (s : Step) (st′ : State) : Type 0 where
-  passes : Alike st st′ → Quiet s → Deed cfg st s st′
+  passes : Alike (timeOf s) st st′ → Quiet s → Deed cfg st s st′
   starts : s .code ≡ 11 → s .claim ≡ okV → CanCall cfg st (s .who) (s .what) (s .argument) → st′ ≡ called cfg st (s .who) (s .what) (s .argument) → Deed cfg st s st′
   returns :
       s .code ≡ 13 → s .claim ≡ numberV 1 → CanHandBack cfg st (s .who) (s .argument) → answers (st .operations) (slotIn (st .slots) (s .who) .owed .client) ≡ true

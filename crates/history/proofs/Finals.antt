@@ -1,7 +1,7 @@
 -- From the facts of a reached state and its history to what the promises say of them.
 -- Areas: a count of one is one holder, which holds it once, and no other (`holder`); a count of none is none (`no-holder`). Queued values: `values-told`.
 -- Results: an operation Done with a Number holds what its last ending gave (`number-from`), that ending counts (`last-counts`) and so it is the only one of its
--- call (`done-final`); a result answered by a Number was of such an operation (`result-told`). Timeouts, and spawns of servers: `timed`, `serves-one`, `took-oldest`.
+-- call (`done-final`); a result answered by a Number was of such an operation (`result-told`). Timeouts, hand backs that end a call, and spawns of servers: `timed`, `back`, `serves-one`, `took-oldest`.
 -- Assumes nothing.
 use Prim.Native.Nat.{ℕ, _+_, _≤_, _<_}
 use mathlib.Core.Bool.{Bool, true, false, not}
@@ -36,6 +36,7 @@ use Rattle.history.specs.History.{noRequest, How, byTimeout, byInstance,
 use Rattle.history.proofs.Tied.{given, delivered, AllProper, Tied}
 use Rattle.history.proofs.Deeds.{Deed, passes, starts, returns, lates, ends, serves, spawns, timesOut, serves-adds}
 use Rattle.history.proofs.Accepts.{never}
+use Rattle.history.proofs.Ended.{Answered, answered}
 
 -- ---- areas
 
@@ -149,7 +150,7 @@ result-told cfg st s n c h =
     given-number cfg st (s .who) (s .what) n
     (subst (λ k. instanceActOf cfg st k (s .who) (s .what) (s .argument) .answer ≡ Taken (numberV n)) c (act-told cfg st s (numberV n) (omega (arith, c)) (omega (arith, c)) h))
 
--- ---- timeouts, and spawns of servers
+-- ---- timeouts, hand backs that end a call, and spawns of servers
 
 pub timed : (cfg : Config) (st : State) (s : Step) (st′ : State) → s .code ≡ 16 → Deed cfg st s st′ → CanTimeout cfg st (s .what)
 timed cfg st s st′ q (passes a z) = absurd (z .timeout q)
@@ -160,6 +161,16 @@ timed cfg st s st′ q (ends c z e) = absurd (omega (arith, c, q))
 timed cfg st s st′ q (serves c k y z e) = absurd (omega (arith, c, q))
 timed cfg st s st′ q (spawns c k y z e) = absurd (omega (arith, c, q))
 timed cfg st s st′ q (timesOut c z e) = z
+
+pub back : (cfg : Config) (st : State) (s : Step) (st′ : State) (h : History) → s .code ≡ 13 → s .claim ≡ numberV 1 → Deed cfg st s st′ → Tied st h → Answered st h (s .who)
+back cfg st s st′ h q v (passes a z) t = absurd (z .back q)
+back cfg st s st′ h q v (starts c k z e) t = absurd (omega (arith, c, q))
+back cfg st s st′ h q v (returns c k z a e) t = answered st h (s .who) (z .serving) a t
+back cfg st s st′ h q v (lates c k z e) t = absurd (omega (arith, ap (λ (x : Value). x .number) (sym v ∙ k)))
+back cfg st s st′ h q v (ends c z e) t = absurd (omega (arith, c, q))
+back cfg st s st′ h q v (serves c k y z e) t = absurd (omega (arith, c, q))
+back cfg st s st′ h q v (spawns c k y z e) t = absurd (omega (arith, c, q))
+back cfg st s st′ h q v (timesOut c z e) t = absurd (omega (arith, c, q))
 
 -- the slot that a spawn answers is one of the thirty-two
 spawn-inside : (cfg : Config) (st : State) (s : Step) (st′ : State) → s .code ≡ 15 → Deed cfg st s st′ → s .claim .number < 32

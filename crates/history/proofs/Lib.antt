@@ -10,7 +10,10 @@ pub mod Deeds
 pub mod Start
 pub mod Named
 pub mod Fifo
+pub mod Timed
+pub mod Ended
 pub mod Accepts
 pub mod Reached
 pub mod Finals
 pub mod Proofs
+pub mod Together

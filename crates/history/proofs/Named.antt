@@ -83,7 +83,7 @@ module _ (rs : List Step) (h : History) (s : Step) (n : Named rs h) where
   }
 
   named-closes : (o : ℕ) (w : How) → 0 < latestOn h o → Named (rs ++ (s ∷ [])) (closes h o w)
-  named-closes o w q = record { place = next; latest = keeps; endings = all-cons (rs ++ (s ∷ [])) (record { on = o; call = latestOn h o; how = w }) (h .endings) (keeps o q) all-keep }
+  named-closes o w q = record { place = next; latest = keeps; endings = all-cons (rs ++ (s ∷ [])) _ (h .endings) (keeps o q) all-keep }
 
   named-takes : (i : ℕ) → Named (rs ++ (s ∷ [])) (takes h i noRequest)
   named-takes i = record { place = next; latest = keeps; endings = all-keep }

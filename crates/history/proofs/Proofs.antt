@@ -3,7 +3,7 @@
 -- a recording is read off the run before it (`halves`).
 -- Assumes nothing.
 use mathlib.Core.Bool.{Bool, true, false}
-use mathlib.Core.List.{[], _∷_, _++_}
+use mathlib.Core.List.{_∷_, _++_}
 use mathlib.Core.Path.{_≡_, refl, sym, _∙_, ap}
 use native.Mathlib.Nat.{add-zero}
 use native.Mathlib.Omega.{arith}
@@ -19,42 +19,43 @@ use Rattle.state.specs.Tables.{operationIn}
 use Rattle.keep.proofs.Configured.{runnables-most, server-there}
 use Rattle.keep.proofs.Clients.{requests-told}
 use Rattle.history.specs.History.{noRequest, History, historyOf, takenBy, allQueued, allSpawns}
-use Rattle.history.specs.Promises.{StaysSound, TakenHasOne, FreeHasNone, RequestsFit, ValuesFit, EndsOnce, EndsProperly, TimeoutAtZero, NumberIsFinal, DoneIsFinal, OpenIsUnended, LatestStarted, QueuesFollowed, FirstInFirstOut, SpawnTakesNext}
+use Rattle.history.specs.Promises.{OfRuns, OfSteps, StaysSound, TakenHasOne, FreeHasNone, RequestsFit, ValuesFit, EndsOnce, EndsProperly, TimeoutAtZero, TimeoutInTime, BackInTime, OpenInTime, CountIsRest, NumberIsFinal, DoneIsFinal, OpenIsUnended, LatestStarted, QueuesFollowed, FirstInFirstOut, SpawnTakesNext}
 use Rattle.history.proofs.Tied.{Tied}
 use Rattle.history.proofs.Runs.{halves, first, history-one}
 use Rattle.history.proofs.Accepts.{accepted, deed}
 use Rattle.history.proofs.Named.{started-at, proper-at}
-use Rattle.history.proofs.Reached.{sound-along, sound-at, tied-at, named-at, fifo-at, ends-grow}
-use Rattle.history.proofs.Finals.{holder, no-holder, values-told, done-final, result-told, timed, serves-one, took-oldest}
+use Rattle.history.proofs.Ended.{ended-at}
+use Rattle.history.proofs.Reached.{sound-along, sound-at, tied-at, named-at, fifo-at, timed-at, ended-along, ends-grow}
+use Rattle.history.proofs.Finals.{holder, no-holder, values-told, done-final, result-told, timed, back, serves-one, took-oldest}
 
 -- ---- states
 
-pub stays-sound : StaysSound
+pub stays-sound : OfRuns StaysSound
 stays-sound = sound-along
 
 -- ---- areas and queues
 
-pub taken-has-one : TakenHasOne
+pub taken-has-one : OfRuns TakenHasOne
 taken-has-one cfg rs st c e a b t = holder cfg st a (sound-at cfg rs st c e) b t
 
-pub free-has-none : FreeHasNone
+pub free-has-none : OfRuns FreeHasNone
 free-has-none cfg rs st c e a b t = no-holder cfg st a (sound-at cfg rs st c e) b t
 
-pub requests-fit : RequestsFit
+pub requests-fit : OfRuns RequestsFit
 requests-fit cfg rs st c e r b = requests-told cfg st r (sound-at cfg rs st c e) b .0
 
-pub values-fit : ValuesFit
+pub values-fit : OfRuns ValuesFit
 values-fit cfg rs st c e q b = values-told cfg st q (sound-at cfg rs st c e) b
 
 -- ---- calls
 
-pub ends-once : EndsOnce
+pub ends-once : OfRuns EndsOnce
 ends-once cfg rs st c e k = tied-at cfg rs st e .calls .once k
 
-pub ends-properly : EndsProperly
-ends-properly cfg rs st c e x m = (started-at rs x _ (named-at cfg rs st e .endings) m, proper-at x _ (tied-at cfg rs st e .calls .proper) m)
+pub ends-properly : OfRuns EndsProperly
+ends-properly cfg rs st c e x m = (started-at rs x _ (named-at cfg rs st e .endings) m, proper-at x _ (tied-at cfg rs st e .calls .proper) m, ended-at cfg rs x _ (ended-along cfg rs st e) m)
 
-pub timeout-at-zero : TimeoutAtZero
+pub timeout-at-zero : OfSteps TimeoutAtZero
 timeout-at-zero cfg before after s st c e q =
     let m = halves cfg (startOf cfg) st before (s ∷ after) e in
     let z = timed cfg (m .mid) s _ q (deed cfg (m .mid) s (first cfg (m .mid) st s after (m .after))) in
@@ -62,20 +63,32 @@ timeout-at-zero cfg before after s st c e q =
     let b = t .calls .begun (s .what) (z .calling) in
     (m .mid, m .before, z .calling, z .zero, named-at cfg before (m .mid) (m .before) .latest (s .what) b, omega (arith, rw (z .calling) at (t .calls .state (s .what) b)))
 
-pub number-is-final : NumberIsFinal
-number-is-final cfg before after s n st c e q k =
+pub timeout-in-time : OfSteps TimeoutInTime
+timeout-in-time cfg before after s st c e q =
+    let m = halves cfg (startOf cfg) st before (s ∷ after) e in
+    let z = timed cfg (m .mid) s _ q (deed cfg (m .mid) s (first cfg (m .mid) st s after (m .after))) in
+    omega (arith, timed-at cfg before (m .mid) (m .before) .rest (s .what) (z .calling), z .zero)
+
+pub back-in-time : OfSteps BackInTime
+back-in-time cfg before after s st c e q v =
+    let m = halves cfg (startOf cfg) st before (s ∷ after) e in
+    let w = back cfg (m .mid) s _ (historyOf cfg before) q v (deed cfg (m .mid) s (first cfg (m .mid) st s after (m .after))) (tied-at cfg before (m .mid) (m .before)) in
+    rw (w .latest) (omega (arith, timed-at cfg before (m .mid) (m .before) .rest (takenBy (historyOf cfg before) (s .who) .on) (w .calling)))
+
+pub number-is-final : OfSteps NumberIsFinal
+number-is-final cfg before after s st c e n q k =
     let m = halves cfg (startOf cfg) st before (s ∷ after) e in
     let a = first cfg (m .mid) st s after (m .after) in
     let r = result-told cfg (m .mid) s n q (ap (λ (x : Stepped). x .answer) (sym (accepted cfg (m .mid) s (s .claim) a .1)) ∙ a ∙ ap Taken k) in
     let f = done-final (m .mid) (historyOf cfg before) (s .what) n (tied-at cfg before (m .mid) (m .before)) (r .0) (r .1) in
     (f .0, f .1, f .2, omega (arith, f .3, ends-grow cfg before (s ∷ after) (f .0 .call), ends-once cfg (before ++ (s ∷ after)) st c e (f .0 .call)))
 
-pub done-is-final : DoneIsFinal
+pub done-is-final : OfRuns DoneIsFinal
 done-is-final cfg rs st c e o n b x y = done-final st (historyOf cfg rs) o n (tied-at cfg rs st e) x y
 
 -- ---- that the history misses and invents nothing
 
-pub open-is-unended : OpenIsUnended
+pub open-is-unended : OfRuns OpenIsUnended
 open-is-unended cfg rs st c e o b = (
   λ q. (t .calls .begun o q, omega (arith, rw q at (t .calls .state o (t .calls .begun o q)))),
   λ p. on (operationIn (st .operations) o .calling) (omega (arith, p .1, t .calls .state o (p .0))),
@@ -88,24 +101,30 @@ open-is-unended cfg rs st c e o b = (
     on true q = refl
     on false q = absurd (omega arith)
 
-pub latest-started : LatestStarted
+pub open-in-time : OfRuns OpenInTime
+open-in-time cfg rs st c e o b p q = omega (arith, timed-at cfg rs st e .rest o (open-is-unended cfg rs st c e o b .1 (p, q)))
+
+pub count-is-rest : OfRuns CountIsRest
+count-is-rest cfg rs st c e o q = timed-at cfg rs st e .rest o q
+
+pub latest-started : OfRuns LatestStarted
 latest-started cfg rs st c e o b q = named-at cfg rs st e .latest o q
 
-pub queues-followed : QueuesFollowed
+pub queues-followed : OfRuns QueuesFollowed
 queues-followed cfg rs st c e r b = tied-at cfg rs st e .queues .each r .size
 
-pub first-in-first-out : FirstInFirstOut
+pub first-in-first-out : OfRuns FirstInFirstOut
 unfolding isServer
 first-in-first-out cfg rs st c e r b q = fifo-at cfg rs st r (lt-ltb 0 _ q) (omega (arith, b, runnables-most cfg c)) e .queue
 
-pub spawn-takes-next : SpawnTakesNext
+pub spawn-takes-next : OfSteps SpawnTakesNext
 unfolding isServer
-spawn-takes-next cfg before s st c e q b =
-    let m = halves cfg (startOf cfg) st before (s ∷ []) e in
+spawn-takes-next cfg before after s st c e q b =
+    let m = halves cfg (startOf cfg) st before (s ∷ after) e in
     let y : isServer cfg (s .what) ≡ true = lt-ltb 0 _ b in
     let t = tied-at cfg before (m .mid) (m .before) in
     let f = fifo-at cfg before (m .mid) (s .what) y (omega (arith, server-there cfg c (s .what) y, runnables-most cfg c)) (m .before) in
-    let d = deed cfg (m .mid) s (first cfg (m .mid) st s [] (m .after)) in (
+    let d = deed cfg (m .mid) s (first cfg (m .mid) st s after (m .after)) in (
       omega (arith, serves-one cfg (m .mid) s _ q y d, t .queues .each (s .what) .size, ap length (f .queue), length-drop (allSpawns (s .what) before) (allQueued cfg (s .what) 0 before)),
       ap (λ (h : History). takenBy h (s .claim .number)) (history-one cfg before s)
           ∙ took-oldest cfg (m .mid) s _ (historyOf cfg before) q y d t

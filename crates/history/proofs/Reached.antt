@@ -1,5 +1,6 @@
 -- What holds of every run and the state that it reaches, each by the one induction over the recording (`along`): the state is sound (`sound-at`) and tied to the
--- history (`tied-at`), the history's places are started calls (`named-at`), and each server's queue is first in, first out (`fifo-at`).
+-- history (`tied-at`), the history's places are started calls (`named-at`), each server's queue is first in, first out (`fifo-at`), the counts of open calls are
+-- what is left of their time (`timed-at`), and each ending stands at its step, in time (`ended-along`).
 -- Endings are only added: a call has ended at least as often after more steps (`ends-grow`).
 -- Assumes nothing.
 use Prim.Native.Nat.{ℕ, _≤_, _<_}
@@ -29,6 +30,8 @@ use Rattle.history.proofs.Accepts.{accepted, deed}
 use Rattle.history.proofs.Start.{tied-start}
 use Rattle.history.proofs.Named.{Named, named-start, named-deed}
 use Rattle.history.proofs.Fifo.{Fifo, fifo-start, fifo-deed}
+use Rattle.history.proofs.Timed.{Timed, timed-start, timed-deed}
+use Rattle.history.proofs.Ended.{AllEnded, ended-start, ended-deed}
 
 -- ---- by induction over the recording
 
@@ -60,6 +63,24 @@ fifo-at cfg rs st r y b e =
     rw (history-one cfg before s)
     (fifo-deed cfg m s (stepOf cfg m s .state) r before (historyOf cfg before) (deed cfg m s a) (tied-at cfg before m k) (named-at cfg before m k .place) y b f))
     (fifo-start cfg r) rs st e
+
+pub timed-at : (cfg : Config) (rs : List Step) (st : State) → Run cfg rs st → Timed cfg (st .operations) (historyOf cfg rs .latest) rs
+unfolding historyOf historyFrom
+timed-at cfg rs st e =
+    along cfg (λ before m. Timed cfg (m .operations) (historyOf cfg before .latest) before)
+    (λ before s m r t a.
+    rw (history-one cfg before s)
+    (timed-deed cfg m s (stepOf cfg m s .state) before (historyOf cfg before) (told cfg m (accepted cfg m s (s .claim) a .0)) (deed cfg m s a) (tied-at cfg before m r) (named-at cfg before m r) t))
+    (timed-start cfg) rs st e
+
+pub ended-along : (cfg : Config) (rs : List Step) (st : State) → Run cfg rs st → AllEnded cfg rs (historyOf cfg rs .endings)
+unfolding historyOf historyFrom
+ended-along cfg rs st e =
+    along cfg (λ before m. AllEnded cfg before (historyOf cfg before .endings))
+    (λ before s m r l a.
+    rw (history-one cfg before s)
+    (ended-deed cfg m s (stepOf cfg m s .state) before (deed cfg m s a) (tied-at cfg before m r) (named-at cfg before m r) (timed-at cfg before m r) l))
+    (ended-start cfg) rs st e
 
 -- ---- endings are only added
 

@@ -3,7 +3,7 @@
 -- client on an instance stands the request that its spawn took. `Tag` says what a client and a request beside it share: one operation and, while that is
 -- Calling under the client's number, its latest call. Here alone numbers meet places, and by equality only. `Calls`: how operations and the endings stand.
 -- The tie reads of an operation its number, whether it is Calling and what it holds, of a runnable its requests, of a slot what it owes. States that agree
--- in those (`Alike`) are tied to the same history, one step later (`tied-alike`).
+-- in those (`Alike`) are tied to the same history, one step later (`tied-alike`). `Alike` also says how much time lies between the two.
 -- Assumes nothing.
 use Prim.Native.Nat.{ℕ, _+_, _≤_, _<_}
 use mathlib.Core.Bool.{true, false}
@@ -85,17 +85,19 @@ pub record Tied (st : State) (h : History) : Type 0 where
 
 -- ---- tables that agree in what is read of them
 
-pub record SameCalls (os os′ : Operations) : Type 0 where
+pub record SameCalls (t : ℕ) (os os′ : Operations) : Type 0 where
   pub number : (o : ℕ) → operationIn os′ o .number ≡ operationIn os o .number
   pub calling : (o : ℕ) → operationIn os′ o .calling ≡ operationIn os o .calling
   pub done : (o : ℕ) → operationIn os′ o .done ≡ operationIn os o .done
+  -- every open call has t less on its count
+  pub count : (o : ℕ) → operationIn os o .calling ≡ true → operationIn os′ o .count + t ≡ operationIn os o .count
 
-pub record Alike (st st′ : State) : Type 0 where
-  pub operations : SameCalls (st .operations) (st′ .operations)
+pub record Alike (t : ℕ) (st st′ : State) : Type 0 where
+  pub operations : SameCalls t (st .operations) (st′ .operations)
   pub requests : (r : ℕ) → runnableIn (st′ .runnables) r .requests ≡ runnableIn (st .runnables) r .requests
   pub owed : (k : ℕ) → slotIn (st′ .slots) k .owed ≡ slotIn (st .slots) k .owed
 
-pub calls-alike : (os os′ : Operations) (latest : List ℕ) (es : List Ending) (p : ℕ) → SameCalls os os′ → Calls os latest es p → Calls os′ latest es (p + 1)
+pub calls-alike : {t : ℕ} (os os′ : Operations) (latest : List ℕ) (es : List Ending) (p : ℕ) → SameCalls t os os′ → Calls os latest es p → Calls os′ latest es (p + 1)
 calls-alike os os′ latest es p a h = record {
   size = h .size;
   state = λ o. rw (a .calling o) (h .state o);
@@ -109,8 +111,8 @@ calls-alike os os′ latest es p a h = record {
   ended = λ o. rw (a .calling o) (h .ended o);
 }
 
-tag-alike : (os os′ : Operations) (latest : List ℕ) (c : Client) (q : Request) → SameCalls os os′ → Tag os latest c q → Tag os′ latest c q
-tag-alike os os′ latest c q a t = record { same = t .same; newest = rw (a .calling (c .operation), a .number (c .operation)) (t .newest) }
+tag-alike : {t : ℕ} (os os′ : Operations) (latest : List ℕ) (c : Client) (q : Request) → SameCalls t os os′ → Tag os latest c q → Tag os′ latest c q
+tag-alike os os′ latest c q a g = record { same = g .same; newest = rw (a .calling (c .operation), a .number (c .operation)) (g .newest) }
 
 -- each request carried over to other operations and calls
 pub queues-map : (os os′ : Operations) (latest latest′ : List ℕ) (rs : Runnables) (ws : List (List Request))
@@ -139,7 +141,7 @@ pub served-alike : (os : Operations) (latest : List ℕ) (ss ss′ : Slots) (ts 
 served-alike os latest ss ss′ ts a h = record { size = h .size; each = λ k. rw (a k) (h .each k) }
 
 -- a step that starts, takes and ends no call
-pub tied-alike : (st st′ : State) (h : History) → Alike st st′ → Tied st h → Tied st′ (passed h)
+pub tied-alike : {n : ℕ} (st st′ : State) (h : History) → Alike n st st′ → Tied st h → Tied st′ (passed h)
 tied-alike st st′ h a t = record {
   queues =
       queues-map (st .operations) (st′ .operations) (h .latest) (h .latest) (st′ .runnables) (h .queued) (λ r j q b. tag-alike (st .operations) (st′ .operations) (h .latest) _ q (a .operations))

@@ -94,7 +94,7 @@ tied-closed cfg st h o w v e p g t = record {
       queues-alike _ (h .latest) (st .runnables) _ (h .queued) (returned-kept (λ y. y .requests) (λ y. refl) cfg o (st .runnables))
       (queues-close (st .operations) (h .latest) o x (calling-inside (st .operations) o e) (st .runnables) (h .queued) refl (t .queues));
   served = served-close (st .operations) (h .latest) o x (calling-inside (st .operations) o e) (st .slots) (h .taken) refl (t .served);
-  calls = calls-close (st .operations) (h .latest) (h .endings) (h .place) o w x (t .calls) e p refl (sym g);
+  calls = calls-close (st .operations) (h .latest) (h .endings) (h .place) o _ w x (t .calls) e p refl (sym g);
 }
   where
     x : Operation

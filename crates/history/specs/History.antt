@@ -1,7 +1,7 @@
 -- The calls of a recording, as its steps and their answers show them under its configuration. No state of the machine is used here, and no number of an operation.
 -- The name of a call is where its step stands in the recording, from 1 on, and 0 names none; an accepted step has the answer that it claims.
 -- Assumes nothing.
-use Prim.Native.Nat.{ℕ, zero, suc, _+_}
+use Prim.Native.Nat.{ℕ, zero, suc, _+_, _≤_}
 use mathlib.Core.List.{List, [], _∷_, _++_}
 use mathlib.Core.Option.{Option, none, some}
 use mathlib.Core.Path.{_≡_}
@@ -10,7 +10,7 @@ use lib.ListN.{getD, set, drop, replicate}
 use Rattle.laws.specs.Choice.{pick, both, bit}
 use Rattle.values.specs.declared.Value.{Value}
 use Rattle.values.specs.declared.Step.{Step}
-use Rattle.values.specs.Values.{okV, sameValue}
+use Rattle.values.specs.Values.{numberV, okV, sameValue}
 use Rattle.config.specs.declared.Config.{Config}
 use Rattle.config.specs.Tables.{maxRunnableConfs, maxOperationConfs, operationConfIn}
 use Rattle.entries.specs.Faults.{isServer}
@@ -30,10 +30,11 @@ pub data How : Type 0 where
   byTimeout : How
   byInstance : ℕ → Value → How
 
--- an ending: the operation, the call that it ended, and how ("How tight the contracts are", demand 3)
+-- an ending: the operation, the call that it ended, where the step stands that ended it, and how ("How tight the contracts are", demand 3)
 pub record Ending : Type 0 where
   pub on : ℕ
   pub call : ℕ
+  pub at : ℕ
   pub how : How
 
 -- what is known after some steps of a recording ("How tight the contracts are", demand 3)
@@ -88,7 +89,7 @@ closes h o w = record {
   queued = h .queued;
   taken = h .taken;
   latest = h .latest;
-  endings = record { on = o; call = latestOn h o; how = w } ∷ h .endings;
+  endings = record { on = o; call = latestOn h o; at = h .place + 1; how = w } ∷ h .endings;
 }
 
 -- the slot i has an instance that took q ("How tight the contracts are", demand 3)
@@ -147,6 +148,31 @@ Started [] k o = ⊥
 Started (s ∷ rs) zero o = ⊥
 Started (s ∷ rs) (suc zero) o = (s .code ≡ 11) × (s .what ≡ o) × (s .claim ≡ okV)
 Started (s ∷ rs) (suc (suc k)) o = Started rs (suc k) o
+
+-- the step s ended the call k of o so, when this was known: a timeout on o, or a hand back answered 1 by an instance that had taken the request of this very call ("How tight the contracts are", demand 3)
+abbrev pub EndedBy : History → Step → ℕ → ℕ → How → Type 0
+EndedBy h s o k byTimeout = (s .code ≡ 16) × (s .what ≡ o)
+EndedBy h s o k (byInstance j v) = (s .code ≡ 13) × (s .claim ≡ numberV 1) × (s .argument ≡ v) × (takenBy h (s .who) ≡ record { at = k; on = o })
+
+-- ---- time, as the waits of a recording tell it
+
+-- the time that a step lets pass: a wait its argument, any other none ("The eighteen steps", Wait)
+unfoldable pub timeOf : Step → ℕ
+timeOf s = pick (eqb (s .code) 18) (s .argument .number) 0
+
+-- the time that steps let pass together ("The eighteen steps", Wait)
+unfoldable pub timeIn : List Step → ℕ
+timeIn [] = 0
+timeIn (s ∷ rs) = timeOf s + timeIn rs
+
+-- the time since the place k of a recording ("The eighteen steps", Wait)
+abbrev pub timeSince : ℕ → List Step → ℕ
+timeSince k rs = timeIn (drop k rs)
+
+-- how long a call lasted that ended so, with this timeout: exactly that long, or no longer ("The eighteen steps", 16 and Wait)
+abbrev pub InTime : ℕ → ℕ → How → Type 0
+InTime t top byTimeout = t ≡ top
+InTime t top (byInstance j v) = t ≤ top
 
 -- ---- requests followed in a second way: all that were ever queued at r, and how many were taken there
 

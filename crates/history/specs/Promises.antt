@@ -1,7 +1,8 @@
--- The promises, as types, in the order of demand 3. They are proved in proofs/, by citing; nothing else stands here.
+-- The promises, as types, in the order of demand 3: of accepted steps and the state that they reach (`OfRuns`), or of a step with the steps before and after it
+-- (`OfSteps`). They are proved in proofs/, by citing; nothing else stands here.
 -- `Run cfg rs st` says that every step of rs, in turn from the start state, is accepted with the answer it claims, and that st is the state reached.
 -- Assumes nothing.
-use Prim.Native.Nat.{ℕ, _≤_, _<_}
+use Prim.Native.Nat.{ℕ, _+_, _≤_, _<_}
 use mathlib.Core.Bool.{true, false}
 use mathlib.Core.List.{List, [], _∷_, _++_, List·Memᴰ}
 use mathlib.Core.Logic.{_↔_}
@@ -13,14 +14,14 @@ use Rattle.values.specs.declared.Step.{Step}
 use Rattle.values.specs.declared.Answer.{Answer}
 use Rattle.values.specs.Values.{numberV, refusalIn, valueIn}
 use Rattle.config.specs.declared.Config.{Config}
-use Rattle.config.specs.Tables.{maxRunnableConfs, maxAreaConfs, maxRequiredConfs, maxOperationConfs, runnableConfIn, requiredConfIn}
+use Rattle.config.specs.Tables.{maxRunnableConfs, maxAreaConfs, maxRequiredConfs, maxOperationConfs, runnableConfIn, requiredConfIn, operationConfIn}
 use Rattle.entries.specs.Faults.{configSound}
 use Rattle.state.specs.declared.State.{State}
 use Rattle.state.specs.Tables.{maxSlots, runnableIn, areaIn, elementIn, operationIn, slotIn}
 use Rattle.state.specs.Start.{startOf}
 use Rattle.rules.specs.Sound.{timesIn, soundOf}
 use Rattle.rules.specs.Step.{stepOf}
-use Rattle.history.specs.History.{noRequest, byInstance, Ending, historyOf, queuedAt, takenBy, latestOn, endsOf, lastOn, Proper, Started, allQueued, allSpawns}
+use Rattle.history.specs.History.{noRequest, byInstance, Ending, historyOf, queuedAt, takenBy, latestOn, endsOf, lastOn, Proper, Started, EndedBy, timeSince, InTime, allQueued, allSpawns}
 
 -- an answer says that the step was taken, with this value: by the number and the value that stand for it; no refusal has the number 0 (`never-zero` in crate keep) ("Numbers of refusal")
 abbrev pub Answers : Answer → Value → Type 0
@@ -35,97 +36,124 @@ Accepted cfg st (s ∷ rs) st′ = Answers (stepOf cfg st s .answer) (s .claim) 
 abbrev pub Run : Config → List Step → State → Type 0
 Run cfg rs st = Accepted cfg (startOf cfg) rs st
 
+-- a promise of accepted steps and the state that they reach: it holds of every run from the start state of a sound configuration ("Judging")
+abbrev pub OfRuns : (Config → List Step → State → Type 0) → Type 0
+OfRuns P = (cfg : Config) (rs : List Step) (st : State) → configSound cfg ≡ true → Run cfg rs st → P cfg rs st
+
+-- a promise of a step with the steps before and after it: it holds wherever the step stands in such a run ("Judging")
+abbrev pub OfSteps : (Config → List Step → Step → List Step → Type 0) → Type 0
+OfSteps P = (cfg : Config) (before after : List Step) (s : Step) (st : State) → configSound cfg ≡ true → Run cfg (before ++ (s ∷ after)) st → P cfg before s after
+
+-- ---- the promises
+
 -- every state that accepted steps reach is sound: no step was refused because an earlier one had spoilt the state ("A sound state")
-abbrev pub StaysSound : Type 0
-StaysSound = (cfg : Config) (rs : List Step) (st : State) → configSound cfg ≡ true → Run cfg rs st → soundOf cfg st ≡ true
+abbrev pub StaysSound : Config → List Step → State → Type 0
+StaysSound cfg rs st = soundOf cfg st ≡ true
 
 -- a taken area has exactly one holder: an instance whose stack has it, once, and no other stack has it ("A sound state", areas)
-abbrev pub TakenHasOne : Type 0
-TakenHasOne =
-    (cfg : Config) (rs : List Step) (st : State) → configSound cfg ≡ true → Run cfg rs st
-    → (a : ℕ) → a < maxAreaConfs → areaIn (st .areas) a .taken ≡ true
+abbrev pub TakenHasOne : Config → List Step → State → Type 0
+TakenHasOne cfg rs st =
+    (a : ℕ) → a < maxAreaConfs → areaIn (st .areas) a .taken ≡ true
     → (i : ℕ) × (i < maxSlots) × (slotIn (st .slots) i .used ≡ true) × (timesIn a (slotIn (st .slots) i .stack) ≡ 1) × ((j : ℕ) → j < maxSlots → (j ≡ i → ⊥) → timesIn a (slotIn (st .slots) j .stack) ≡ 0)
 
 -- a free area is in no stack ("A sound state", areas)
-abbrev pub FreeHasNone : Type 0
-FreeHasNone =
-    (cfg : Config) (rs : List Step) (st : State) → configSound cfg ≡ true → Run cfg rs st
-    → (a : ℕ) → a < maxAreaConfs → areaIn (st .areas) a .taken ≡ false → (i : ℕ) → i < maxSlots → timesIn a (slotIn (st .slots) i .stack) ≡ 0
+abbrev pub FreeHasNone : Config → List Step → State → Type 0
+FreeHasNone cfg rs st = (a : ℕ) → a < maxAreaConfs → areaIn (st .areas) a .taken ≡ false → (i : ℕ) → i < maxSlots → timesIn a (slotIn (st .slots) i .stack) ≡ 0
 
 -- no queue of requests passes its capacity ("A sound state", queue lengths)
-abbrev pub RequestsFit : Type 0
-RequestsFit =
-    (cfg : Config) (rs : List Step) (st : State) → configSound cfg ≡ true → Run cfg rs st
-    → (r : ℕ) → r < maxRunnableConfs → runnableIn (st .runnables) r .requests .queued ≤ runnableConfIn (cfg .runnables) r .capacity
+abbrev pub RequestsFit : Config → List Step → State → Type 0
+RequestsFit cfg rs st = (r : ℕ) → r < maxRunnableConfs → runnableIn (st .runnables) r .requests .queued ≤ runnableConfIn (cfg .runnables) r .capacity
 
 -- no queue of values passes its capacity ("A sound state", queue lengths)
-abbrev pub ValuesFit : Type 0
-ValuesFit =
-    (cfg : Config) (rs : List Step) (st : State) → configSound cfg ≡ true → Run cfg rs st
-    → (q : ℕ) → q < maxRequiredConfs → elementIn (st .elements) q .queue .queued ≤ requiredConfIn (cfg .required) q .capacity
+abbrev pub ValuesFit : Config → List Step → State → Type 0
+ValuesFit cfg rs st = (q : ℕ) → q < maxRequiredConfs → elementIn (st .elements) q .queue .queued ≤ requiredConfIn (cfg .required) q .capacity
 
 -- each started call ends at most once ("How tight the contracts are", demand 3)
-abbrev pub EndsOnce : Type 0
-EndsOnce =
-    (cfg : Config) (rs : List Step) (st : State) → configSound cfg ≡ true → Run cfg rs st
-    → (k : ℕ) → endsOf k (historyOf cfg rs .endings) ≤ 1
+abbrev pub EndsOnce : Config → List Step → State → Type 0
+EndsOnce cfg rs st = (k : ℕ) → endsOf k (historyOf cfg rs .endings) ≤ 1
 
--- an ending is of a call that was started on its operation; if it was no timeout, then the instance that ended it had been spawned for this call ("How tight the contracts are", demand 3)
-abbrev pub EndsProperly : Type 0
-EndsProperly =
-    (cfg : Config) (rs : List Step) (st : State) → configSound cfg ≡ true → Run cfg rs st
-    → (e : Ending) → List·Memᴰ e (historyOf cfg rs .endings) → Started rs (e .call) (e .on) × Proper (e .call) (e .how)
+-- where an ending stands: at its place is the step that ended the call, behind the call's own step; and how long the call lasted ("How tight the contracts are", demand 3)
+pub record Ended (cfg : Config) (rs : List Step) (e : Ending) : Type 0 where
+  pub before : List Step
+  pub step : Step
+  pub after : List Step
+  pub whole : rs ≡ before ++ (step ∷ after)
+  pub place : e .at ≡ length before + 1
+  pub call : Started before (e .call) (e .on)
+  pub by : EndedBy (historyOf cfg before) step (e .on) (e .call) (e .how)
+  pub time : InTime (timeSince (e .call) before) (operationConfIn (cfg .operations) (e .on) .timeout) (e .how)
+
+-- an ending is of a call that was started on its operation, and stands where a step ended it; if it was no timeout, then the instance that ended it had been spawned for this call ("How tight the contracts are", demand 3)
+abbrev pub EndsProperly : Config → List Step → State → Type 0
+EndsProperly cfg rs st =
+    (e : Ending) → List·Memᴰ e (historyOf cfg rs .endings) → Started rs (e .call) (e .on) × Proper (e .call) (e .how) × Ended cfg rs e
 
 -- a timeout is taken at count zero of an open operation, whose latest call was started and has not ended ("How tight the contracts are", demand 3)
-abbrev pub TimeoutAtZero : Type 0
-TimeoutAtZero =
-    (cfg : Config) (before after : List Step) (s : Step) (st : State) → configSound cfg ≡ true → Run cfg (before ++ (s ∷ after)) st → s .code ≡ 16
+abbrev pub TimeoutAtZero : Config → List Step → Step → List Step → Type 0
+TimeoutAtZero cfg before s after =
+    s .code ≡ 16
     → (m : State) × Run cfg before m × (operationIn (m .operations) (s .what) .calling ≡ true) × (operationIn (m .operations) (s .what) .count ≡ 0)
     × Started before (latestOn (historyOf cfg before) (s .what)) (s .what) × (endsOf (latestOn (historyOf cfg before) (s .what)) (historyOf cfg before .endings) ≡ 0)
 
+-- and when exactly its timeout has passed since that call ("The eighteen steps", 16 and Wait)
+abbrev pub TimeoutInTime : Config → List Step → Step → List Step → Type 0
+TimeoutInTime cfg before s after =
+    s .code ≡ 16 → timeSince (latestOn (historyOf cfg before) (s .what)) before ≡ operationConfIn (cfg .operations) (s .what) .timeout
+
+-- a hand back that ends a call comes while no more than its timeout has passed since that call ("The eighteen steps", Hand back and Wait)
+abbrev pub BackInTime : Config → List Step → Step → List Step → Type 0
+BackInTime cfg before s after =
+    s .code ≡ 13 → s .claim ≡ numberV 1
+    → timeSince (takenBy (historyOf cfg before) (s .who) .at) before ≤ operationConfIn (cfg .operations) (takenBy (historyOf cfg before) (s .who) .on) .timeout
+
+-- at every moment no more than its timeout has passed since a call that has no ending yet ("The eighteen steps", Wait)
+abbrev pub OpenInTime : Config → List Step → State → Type 0
+OpenInTime cfg rs st =
+    (o : ℕ) → o < maxOperationConfs → 0 < latestOn (historyOf cfg rs) o → endsOf (latestOn (historyOf cfg rs) o) (historyOf cfg rs .endings) ≡ 0
+    → timeSince (latestOn (historyOf cfg rs) o) rs ≤ operationConfIn (cfg .operations) o .timeout
+
 -- who gets a Number as a result gets what an instance handed back that was spawned for the latest call that ended there; and nowhere in the whole recording, before or after, does that call end again, by a timeout or otherwise ("How tight the contracts are", demand 3)
-abbrev pub NumberIsFinal : Type 0
-NumberIsFinal =
-    (cfg : Config) (before after : List Step) (s : Step) (n : ℕ) (st : State) → configSound cfg ≡ true → Run cfg (before ++ (s ∷ after)) st → s .code ≡ 12 → s .claim ≡ numberV n
+abbrev pub NumberIsFinal : Config → List Step → Step → List Step → Type 0
+NumberIsFinal cfg before s after =
+    (n : ℕ) → s .code ≡ 12 → s .claim ≡ numberV n
     → (e : Ending) × (lastOn (s .what) (historyOf cfg before .endings) ≡ some e) × (e .how ≡ byInstance (e .call) (numberV n)) × (endsOf (e .call) (historyOf cfg (before ++ (s ∷ after)) .endings) ≡ 1)
 
 -- the same of the state reached: an operation Done with a Number ("How tight the contracts are", demand 3)
-abbrev pub DoneIsFinal : Type 0
-DoneIsFinal =
-    (cfg : Config) (rs : List Step) (st : State) → configSound cfg ≡ true → Run cfg rs st
-    → (o n : ℕ) → o < maxOperationConfs → operationIn (st .operations) o .calling ≡ false → operationIn (st .operations) o .done ≡ numberV n
+abbrev pub DoneIsFinal : Config → List Step → State → Type 0
+DoneIsFinal cfg rs st =
+    (o n : ℕ) → o < maxOperationConfs → operationIn (st .operations) o .calling ≡ false → operationIn (st .operations) o .done ≡ numberV n
     → (e : Ending) × (lastOn o (historyOf cfg rs .endings) ≡ some e) × (e .how ≡ byInstance (e .call) (numberV n)) × (endsOf (e .call) (historyOf cfg rs .endings) ≡ 1)
 
 -- ---- that the history misses and invents nothing
 
 -- an operation is open exactly if its latest call has no ending yet ("How tight the contracts are", demand 3)
-abbrev pub OpenIsUnended : Type 0
-OpenIsUnended =
-    (cfg : Config) (rs : List Step) (st : State) → configSound cfg ≡ true → Run cfg rs st
-    → (o : ℕ) → o < maxOperationConfs
+abbrev pub OpenIsUnended : Config → List Step → State → Type 0
+OpenIsUnended cfg rs st =
+    (o : ℕ) → o < maxOperationConfs
     → (operationIn (st .operations) o .calling ≡ true) ↔ ((0 < latestOn (historyOf cfg rs) o) × (endsOf (latestOn (historyOf cfg rs) o) (historyOf cfg rs .endings) ≡ 0))
 
 -- the latest call of an operation, where it has one, was started on it ("How tight the contracts are", demand 3)
-abbrev pub LatestStarted : Type 0
-LatestStarted =
-    (cfg : Config) (rs : List Step) (st : State) → configSound cfg ≡ true → Run cfg rs st
-    → (o : ℕ) → o < maxOperationConfs → 0 < latestOn (historyOf cfg rs) o → Started rs (latestOn (historyOf cfg rs) o) o
+abbrev pub LatestStarted : Config → List Step → State → Type 0
+LatestStarted cfg rs st = (o : ℕ) → o < maxOperationConfs → 0 < latestOn (historyOf cfg rs) o → Started rs (latestOn (historyOf cfg rs) o) o
+
+-- the count of an open operation is what is left of its timeout, by the waits since its latest call ("The eighteen steps", Call and Wait)
+abbrev pub CountIsRest : Config → List Step → State → Type 0
+CountIsRest cfg rs st =
+    (o : ℕ) → operationIn (st .operations) o .calling ≡ true
+    → timeSince (latestOn (historyOf cfg rs) o) rs + operationIn (st .operations) o .count ≡ operationConfIn (cfg .operations) o .timeout
 
 -- the followed queues are as long as the machine's ("How tight the contracts are", demand 3)
-abbrev pub QueuesFollowed : Type 0
-QueuesFollowed =
-    (cfg : Config) (rs : List Step) (st : State) → configSound cfg ≡ true → Run cfg rs st
-    → (r : ℕ) → r < maxRunnableConfs → length (queuedAt (historyOf cfg rs) r) ≡ runnableIn (st .runnables) r .requests .queued
+abbrev pub QueuesFollowed : Config → List Step → State → Type 0
+QueuesFollowed cfg rs st = (r : ℕ) → r < maxRunnableConfs → length (queuedAt (historyOf cfg rs) r) ≡ runnableIn (st .runnables) r .requests .queued
 
 -- what waits at a server is all that was ever queued there, less the oldest, one for each spawn ("How tight the contracts are", demand 3)
-abbrev pub FirstInFirstOut : Type 0
-FirstInFirstOut =
-    (cfg : Config) (rs : List Step) (st : State) → configSound cfg ≡ true → Run cfg rs st
-    → (r : ℕ) → r < cfg .runnables .n → 0 < runnableConfIn (cfg .runnables) r .capacity → queuedAt (historyOf cfg rs) r ≡ drop (allSpawns r rs) (allQueued cfg r 0 rs)
+abbrev pub FirstInFirstOut : Config → List Step → State → Type 0
+FirstInFirstOut cfg rs st =
+    (r : ℕ) → r < cfg .runnables .n → 0 < runnableConfIn (cfg .runnables) r .capacity → queuedAt (historyOf cfg rs) r ≡ drop (allSpawns r rs) (allQueued cfg r 0 rs)
 
 -- and so a spawn finds a request there, and the n-th one takes the n-th that was queued ("How tight the contracts are", demand 3)
-abbrev pub SpawnTakesNext : Type 0
-SpawnTakesNext =
-    (cfg : Config) (before : List Step) (s : Step) (st : State) → configSound cfg ≡ true → Run cfg (before ++ (s ∷ [])) st → s .code ≡ 15 → 0 < runnableConfIn (cfg .runnables) (s .what) .capacity
+abbrev pub SpawnTakesNext : Config → List Step → Step → List Step → Type 0
+SpawnTakesNext cfg before s after =
+    s .code ≡ 15 → 0 < runnableConfIn (cfg .runnables) (s .what) .capacity
     → (allSpawns (s .what) before < length (allQueued cfg (s .what) 0 before))
     × (takenBy (historyOf cfg (before ++ (s ∷ []))) (s .claim .number) ≡ getD (allQueued cfg (s .what) 0 before) (allSpawns (s .what) before) noRequest)

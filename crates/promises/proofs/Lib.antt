@@ -2,3 +2,4 @@
 pub mod Counted
 pub mod Stopped
 pub mod FromBytes
+pub mod Top

@@ -1,0 +1,124 @@
+-- Every ending stands at its place, behind its call, and in time (`AllEnded`): it was made there, by a step that the history before it explains.
+-- A hand back that ends a call is by an instance that took the request of the latest call on an operation that is Calling (`answered`). While it is, the time since
+-- that call is no more than the timeout, and with nothing left on the count, as at a timeout, it is the timeout (`Timed`). Every deed keeps what stands (`ended-more`).
+-- Assumes nothing.
+use Prim.Native.Nat.{ℕ, _+_}
+use mathlib.Core.Bool.{true}
+use mathlib.Core.List.{List, [], _∷_, _++_, append-assoc, List·Memᴰ, List·Memᴰ·cases-cons, List·Memᴰ·not-nil}
+use mathlib.Core.Logic.{⊎-elim}
+use mathlib.Core.Path.{_≡_, refl, sym, _∙_, ap}
+use native.Mathlib.Omega.{arith}
+use borrow.Author.Tests.{eqb-true}
+use Rattle.laws.proofs.Choosing.{both-left, both-right}
+use Rattle.values.specs.declared.Step.{Step}
+use Rattle.config.specs.declared.Config.{Config}
+use Rattle.state.specs.declared.Client.{Client}
+use Rattle.state.specs.declared.State.{State}
+use Rattle.state.specs.Tables.{operationIn, slotIn}
+use Rattle.rules.specs.Steps.{answers}
+use Rattle.history.specs.History.{Ending, History, nothing, historyOf, takenBy, latestOn, observe}
+use Rattle.history.specs.Promises.{Ended}
+use Rattle.history.proofs.Tied.{Tag, Tied}
+use Rattle.history.proofs.Named.{Named}
+use Rattle.history.proofs.Deeds.{Deed, passes, starts, returns, lates, ends, serves, spawns, timesOut, passes-adds, starts-adds, returns-adds, lates-adds, ends-adds, serves-adds, spawns-adds, timeout-adds}
+use Rattle.history.proofs.Timed.{Timed}
+
+-- ---- every ending stands at its step, in time
+
+-- each ending of a list
+unfoldable pub AllEnded : Config → List Step → List Ending → Type 0
+AllEnded cfg rs [] = Unit {0}
+AllEnded cfg rs (e ∷ es) = Ended cfg rs e × AllEnded cfg rs es
+
+ended-more : (cfg : Config) (rs xs : List Step) (e : Ending) → Ended cfg rs e → Ended cfg (rs ++ xs) e
+ended-more cfg rs xs e h = record {
+  before = h .before;
+  step = h .step;
+  after = h .after ++ xs;
+  whole = ap (λ l. l ++ xs) (h .whole) ∙ append-assoc (h .before) (h .step ∷ h .after) xs;
+  place = h .place;
+  call = h .call;
+  by = h .by;
+  time = h .time;
+}
+
+all-more : (cfg : Config) (rs xs : List Step) (es : List Ending) → AllEnded cfg rs es → AllEnded cfg (rs ++ xs) es
+unfolding AllEnded
+all-more cfg rs xs [] h = tt
+all-more cfg rs xs (e ∷ es) h = (ended-more cfg rs xs e (h .0), all-more cfg rs xs es (h .1))
+
+all-cons : (cfg : Config) (rs : List Step) (e : Ending) (es : List Ending) → Ended cfg rs e → AllEnded cfg rs es → AllEnded cfg rs (e ∷ es)
+unfolding AllEnded
+all-cons cfg rs e es p h = (p, h)
+
+pub ended-start : (cfg : Config) → AllEnded cfg [] (nothing .endings)
+unfolding nothing AllEnded
+ended-start cfg = tt
+
+pub ended-at : (cfg : Config) (rs : List Step) (e : Ending) (l : List Ending) → AllEnded cfg rs l → List·Memᴰ e l → Ended cfg rs e
+unfolding AllEnded
+ended-at cfg rs e [] p m = absurd (List·Memᴰ·not-nil m)
+ended-at cfg rs e (x ∷ xs) p m = ⊎-elim (λ q. rw q (p .0)) (λ q. ended-at cfg rs e xs (p .1) q) (List·Memᴰ·cases-cons m)
+
+-- the client of a hand back that ends a call: its operation is Calling, and the request taken is the latest call's
+pub record Answered (st : State) (h : History) (i : ℕ) : Type 0 where
+  pub calling : operationIn (st .operations) (takenBy h i .on) .calling ≡ true
+  pub latest : takenBy h i .at ≡ latestOn h (takenBy h i .on)
+
+pub answered : (st : State) (h : History) (i : ℕ) → slotIn (st .slots) i .owed .serving ≡ true → answers (st .operations) (slotIn (st .slots) i .owed .client) ≡ true → Tied st h → Answered st h i
+unfolding answers
+answered st h i v a t =
+    let c : Client = slotIn (st .slots) i .owed .client in
+    let tag : Tag (st .operations) (h .latest) c (takenBy h i) = t .served .each i v in
+    let open-still = both-left (operationIn (st .operations) (c .operation) .calling) _ a in
+    let its-number = sym (eqb-true _ _ (both-right (operationIn (st .operations) (c .operation) .calling) _ a)) in
+    record { calling = rw (tag .same) open-still; latest = rw (tag .same) (tag .newest open-still its-number) }
+
+pub ended-deed : (cfg : Config) (st : State) (s : Step) (st′ : State) (rs : List Step) → Deed cfg st s st′ → Tied st (historyOf cfg rs) → Named rs (historyOf cfg rs)
+    → Timed cfg (st .operations) (historyOf cfg rs .latest) rs → AllEnded cfg rs (historyOf cfg rs .endings) → AllEnded cfg (rs ++ (s ∷ [])) (observe cfg (historyOf cfg rs) s .endings)
+ended-deed cfg st s st′ rs d t n k l = go d
+  where
+    h : History
+    h = historyOf cfg rs
+
+    kept : AllEnded cfg (rs ++ (s ∷ [])) (h .endings)
+    kept = all-more cfg rs (s ∷ []) (h .endings) l
+
+    go : Deed cfg st s st′ → AllEnded cfg (rs ++ (s ∷ [])) (observe cfg h s .endings)
+    go (passes a q) = rw (passes-adds cfg h s q) kept
+    go (starts c q z e) = rw (starts-adds cfg h s c q) kept
+    go (returns c q z a e) =
+        let w = answered st h (s .who) (z .serving) a t in
+        let o = takenBy h (s .who) .on in
+        rw (returns-adds cfg h s c q)
+        (all-cons cfg (rs ++ (s ∷ [])) _ (h .endings)
+        (record {
+          before = rs;
+          step = s;
+          after = [];
+          whole = refl;
+          place = ap (λ m. m + 1) (n .place);
+          call = n .latest o (t .calls .begun o (w .calling));
+          by = (c, q, refl, λ i. record { at = w .latest i; on = o });
+          time = omega (arith, k .rest o (w .calling));
+        })
+        kept)
+    go (lates c q z e) = rw (lates-adds cfg h s c q) kept
+    go (ends c z e) = rw (ends-adds cfg h s c) kept
+    go (serves c q y z e) = rw (serves-adds cfg h s c y) kept
+    go (spawns c q y z e) = rw (spawns-adds cfg h s c y) kept
+    go (timesOut c z e) =
+        let o = s .what in
+        rw (timeout-adds cfg h s c)
+        (all-cons cfg (rs ++ (s ∷ [])) _ (h .endings)
+        (record {
+          before = rs;
+          step = s;
+          after = [];
+          whole = refl;
+          place = ap (λ m. m + 1) (n .place);
+          call = n .latest o (t .calls .begun o (z .calling));
+          by = (c, refl);
+          time = omega (arith, k .rest o (z .calling), z .zero);
+        })
+        kept)

@@ -1,0 +1,46 @@
+-- All promises together: a run has its moments, each of them reached by a run (`halves`), and its steps.
+-- Assumes nothing.
+use mathlib.Core.List.{List}
+use mathlib.Core.Path.{subst}
+use Rattle.values.specs.declared.Step.{Step}
+use Rattle.state.specs.Start.{startOf}
+use Rattle.history.specs.Promises.{Run, OfRuns, OfSteps}
+use Rattle.history.specs.Together.{AtMoment, AtStep, Demand3}
+use Rattle.history.proofs.Runs.{halves}
+use Rattle.history.proofs.Proofs.{stays-sound, taken-has-one, free-has-none, requests-fit, values-fit, ends-once, ends-properly, timeout-at-zero, timeout-in-time, back-in-time, open-in-time, number-is-final, done-is-final, open-is-unended, latest-started, count-is-rest, queues-followed, first-in-first-out, spawn-takes-next}
+
+pub at-moment : OfRuns AtMoment
+at-moment cfg rs st c e = record {
+  run = e;
+  sound = stays-sound cfg rs st c e;
+  taken = taken-has-one cfg rs st c e;
+  free = free-has-none cfg rs st c e;
+  requests = requests-fit cfg rs st c e;
+  values = values-fit cfg rs st c e;
+  once = ends-once cfg rs st c e;
+  properly = ends-properly cfg rs st c e;
+  time = open-in-time cfg rs st c e;
+  done = done-is-final cfg rs st c e;
+  unended = open-is-unended cfg rs st c e;
+  latest = latest-started cfg rs st c e;
+  rest = count-is-rest cfg rs st c e;
+  queues = queues-followed cfg rs st c e;
+  fifo = first-in-first-out cfg rs st c e;
+}
+
+pub at-step : OfSteps AtStep
+at-step cfg before after s st c e = record {
+  zero = timeout-at-zero cfg before after s st c e;
+  timeout = timeout-in-time cfg before after s st c e;
+  back = back-in-time cfg before after s st c e;
+  number = number-is-final cfg before after s st c e;
+  spawn = spawn-takes-next cfg before after s st c e;
+}
+
+pub demand3 : OfRuns (λ cfg rs st. Demand3 cfg rs)
+demand3 cfg rs st c e = record {
+  moments = λ before after w.
+      let m = halves cfg (startOf cfg) st before after (subst (λ (l : List Step). Run cfg l st) w e) in
+      (m .mid, at-moment cfg before (m .mid) c (m .before));
+  steps = λ before after s w. at-step cfg before after s st c (subst (λ (l : List Step). Run cfg l st) w e);
+}
