@@ -20,19 +20,19 @@ use Rattle.config.specs.Tables.{runnableConfIn, operationConfIn}
 use Rattle.entries.specs.Faults.{isServer}
 use Rattle.state.specs.declared.State.{State}
 use Rattle.state.specs.declared.Stepped.{Stepped}
-use Rattle.state.specs.Tables.{maxSlots, runnableIn, operationIn, slotIn}
+use Rattle.state.specs.Tables.{maxSlots, runnableIn, areaIn, operationIn, slotIn}
 use Rattle.rules.specs.Sound.{soundOf}
 use Rattle.rules.specs.Refusals.{instanceRefusal, schedulerRefusal}
-use Rattle.rules.specs.Steps.{refused, took, requestsFull, called, callOf, closed, answers, handBackOf, timeoutOf, endOf, maySpawn, lowestEmpty, spawned, spawnOf, operationsLet, timersLet, runnablesLet, waitOf}
+use Rattle.rules.specs.Steps.{refused, took, enterOf, onTop, exitOf, requestsFull, called, callOf, closed, answers, handBackOf, timeoutOf, endOf, maySpawn, lowestEmpty, spawned, spawnOf, operationsLet, timersLet, runnablesLet, waitOf}
 use Rattle.rules.specs.Step.{instanceActOf, schedulerActOf, instanceStepOf, schedulerStepOf, possibleOf, onAnswer, claimedOf, innerOf, stepOf}
 use Rattle.keep.specs.Facts.{Sound}
 use Rattle.keep.proofs.Told.{told}
-use Rattle.keep.proofs.Says.{Acting, readsVariable, writesVariable, enters, exits, reads, writes, updates, invalidates, receives, sends, calls, results, handsBack, Scheduling, ticks, waits, acting, scheduling, Let, LetRun, let-told, run-told, says-call, says-hand-back, says-end, says-spawn, says-timeout, says-wait}
+use Rattle.keep.proofs.Says.{Acting, readsVariable, writesVariable, reads, writes, updates, invalidates, receives, sends, calls, results, handsBack, Scheduling, ticks, waits, acting, scheduling, Let, LetRun, let-told, run-told, says-enter, says-exit, says-call, says-hand-back, says-end, says-spawn, says-timeout, says-wait}
 use Rattle.keep.proofs.Says as says
 use Rattle.history.specs.History.{timeOf}
-use Rattle.history.proofs.Tied.{Alike}
+use Rattle.history.proofs.Passes.{entered, exited, Calm, calm-same}
 use Rattle.history.proofs.Passes as pass
-use Rattle.history.proofs.Deeds.{Quiet, Deed, emptied, finished, passes, starts, returns, lates, ends, serves, spawns, timesOut}
+use Rattle.history.proofs.Deeds.{Quiet, enters, exits, stays, Deed, emptied, finished, passes, starts, returns, lates, ends, serves, spawns, timesOut}
 
 -- ---- the step before its claim
 
@@ -105,7 +105,7 @@ module _ (cfg : Config) (st : State) (s : Step) where
       go : (x y w : Bool) → operationIn (st .operations) (s .what) .calling ≡ x → eqb (operationIn (st .operations) (s .what) .number) 65535 ≡ y
           → requestsFull cfg (st .runnables) (operationConfIn (cfg .operations) (s .what) .server) ≡ w
           → chosen x y w .answer ≡ Taken (s .claim) → Deed cfg st s (chosen x y w .state)
-      go true y w a b d k = passes (rw (untimed s 11 refl c) (pass.alike-same st)) (open-still (given k))
+      go true y w a b d k = passes (rw (untimed s 11 refl c) (pass.alike-same st)) (open-still (given k)) (stays (λ e. omega (arith, c, e)) (λ e. omega (arith, c, e)) (calm-same st .unmoved))
       go false true w a b d k = absurd (never k)
       go false false true a b d k = absurd (never k)
       go false false false a b d k = starts c (given k) (says-call cfg st (s .who) (s .what) (s .argument) z a b d) refl
@@ -168,7 +168,33 @@ module _ (cfg : Config) (st : State) (s : Step) where
       go true a k = timesOut c (says-timeout cfg st (s .what) z a) refl
       go false a k = absurd (never k)
 
-  -- ---- the wait, and the steps that pass
+  -- ---- enter, exit and wait, and the steps that pass
+
+  deed-enter : s .code ≡ 3 → Let cfg st 3 (s .who) (s .what) (s .argument) → enterOf st (s .who) (s .what) .answer ≡ Taken (s .claim) → Deed cfg st s (enterOf st (s .who) (s .what) .state)
+  unfolding enterOf
+  deed-enter c z h = go (areaIn (st .areas) (s .what) .taken) refl h
+    where
+      chosen : Bool → Stepped
+      chosen x = pick x (refused 6 st) (took voidV (entered st (s .who) (s .what)))
+
+      go : (x : Bool) → areaIn (st .areas) (s .what) .taken ≡ x → chosen x .answer ≡ Taken (s .claim) → Deed cfg st s (chosen x .state)
+      go true a k = absurd (never k)
+      go false a k =
+          passes (rw (untimed s 3 refl c) (pass.enter-alike st (s .who) (s .what))) (quiet s 3 c refl)
+          (enters c (says-enter cfg st (s .who) (s .what) (s .argument) z a) refl)
+
+  deed-exit : s .code ≡ 4 → Let cfg st 4 (s .who) (s .what) (s .argument) → exitOf st (s .who) (s .what) .answer ≡ Taken (s .claim) → Deed cfg st s (exitOf st (s .who) (s .what) .state)
+  unfolding exitOf
+  deed-exit c z h = go (onTop (slotIn (st .slots) (s .who)) (s .what)) refl h
+    where
+      chosen : Bool → Stepped
+      chosen x = pick x (took voidV (exited st (s .who) (s .what))) (refused 7 st)
+
+      go : (x : Bool) → onTop (slotIn (st .slots) (s .who)) (s .what) ≡ x → chosen x .answer ≡ Taken (s .claim) → Deed cfg st s (chosen x .state)
+      go true a k =
+          passes (rw (untimed s 4 refl c) (pass.exit-alike st (s .who) (s .what))) (quiet s 4 c refl)
+          (exits c (says-exit cfg st (s .who) (s .what) (s .argument) z a) refl)
+      go false a k = absurd (never k)
 
   deed-wait : Sound cfg st → s .code ≡ 18 → waitOf cfg st (s .argument .number) .answer ≡ Taken (s .claim) → Deed cfg st s (waitOf cfg st (s .argument .number) .state)
   unfolding waitOf timeOf
@@ -182,29 +208,36 @@ module _ (cfg : Config) (st : State) (s : Step) where
 
       go : (x : Bool) → both (operationsLet cfg (st .operations) t) (both (timersLet cfg (st .timers) t) (runnablesLet cfg (st .runnables) t)) ≡ x → chosen x .answer ≡ Taken (s .claim)
           → Deed cfg st s (chosen x .state)
-      go true a k = passes (rw c (pass.wait-alike cfg st t g (says-wait cfg st t a))) (quiet s 18 c refl)
+      go true a k =
+          let w = pass.wait-calm cfg st t g (says-wait cfg st t a) in
+          passes (rw c (w .alike)) (quiet s 18 c refl) (stays (λ e. omega (arith, c, e)) (λ e. omega (arith, c, e)) (w .unmoved))
       go false a k = absurd (never k)
 
-  calm : {st′ : State} (n : ℕ) → either (ltb n 11) (either (eqb n 12) (ltb 16 n)) ≡ true → eqb n 18 ≡ false → s .code ≡ n → Alike 0 st st′ → Deed cfg st s st′
-  calm n q f c a = passes (rw (untimed s n f c) a) (quiet s n c q)
+  calm : {st′ : State} (n : ℕ) → either (ltb n 11) (either (eqb n 12) (ltb 16 n)) ≡ true → eqb n 18 ≡ false → either (eqb n 3) (eqb n 4) ≡ false → s .code ≡ n → Calm 0 st st′
+      → Deed cfg st s st′
+  calm n q f g c a =
+      passes (rw (untimed s n f c) (a .alike)) (quiet s n c q) (stays (λ e. bad 3 refl (sym c ∙ e)) (λ e. bad 4 refl (sym c ∙ e)) (a .unmoved))
+    where
+      bad : (m : ℕ) → either (eqb m 3) (eqb m 4) ≡ true → n ≡ m → ⊥
+      bad m t e = clash _ (rw e t) g
 
   -- ---- by code
 
   deed-acting : {n : ℕ} → Acting n → s .code ≡ n → Let cfg st n (s .who) (s .what) (s .argument) → instanceActOf cfg st n (s .who) (s .what) (s .argument) .answer ≡ Taken (s .claim)
       → Deed cfg st s (instanceActOf cfg st n (s .who) (s .what) (s .argument) .state)
   unfolding instanceActOf
-  deed-acting readsVariable c z h = calm 1 refl refl c (pass.read-variable-alike st (s .what))
-  deed-acting writesVariable c z h = calm 2 refl refl c (pass.write-variable-alike st (s .what) (s .argument))
-  deed-acting enters c z h = calm 3 refl refl c (pass.enter-alike st (s .who) (s .what))
-  deed-acting exits c z h = calm 4 refl refl c (pass.exit-alike st (s .who) (s .what))
-  deed-acting reads c z h = calm 5 refl refl c (pass.read-alike st (s .what))
-  deed-acting writes c z h = calm 6 refl refl c (pass.write-alike cfg st (s .what) (s .argument))
-  deed-acting updates c z h = calm 7 refl refl c (pass.updated-alike st (s .what))
-  deed-acting invalidates c z h = calm 8 refl refl c (pass.invalidate-alike cfg st (s .what))
-  deed-acting receives c z h = calm 9 refl refl c (pass.receive-alike st (s .what))
-  deed-acting sends c z h = calm 10 refl refl c (pass.send-alike cfg st (s .what) (s .argument))
+  deed-acting readsVariable c z h = calm 1 refl refl refl c (pass.read-variable-calm st (s .what))
+  deed-acting writesVariable c z h = calm 2 refl refl refl c (pass.write-variable-calm st (s .what) (s .argument))
+  deed-acting says.enters c z h = deed-enter c z h
+  deed-acting says.exits c z h = deed-exit c z h
+  deed-acting reads c z h = calm 5 refl refl refl c (pass.read-calm st (s .what))
+  deed-acting writes c z h = calm 6 refl refl refl c (pass.write-calm cfg st (s .what) (s .argument))
+  deed-acting updates c z h = calm 7 refl refl refl c (pass.updated-calm st (s .what))
+  deed-acting invalidates c z h = calm 8 refl refl refl c (pass.invalidate-calm cfg st (s .what))
+  deed-acting receives c z h = calm 9 refl refl refl c (pass.receive-calm st (s .what))
+  deed-acting sends c z h = calm 10 refl refl refl c (pass.send-calm cfg st (s .what) (s .argument))
   deed-acting calls c z h = deed-call c z h
-  deed-acting results c z h = calm 12 refl refl c (pass.result-alike cfg st (s .who) (s .what))
+  deed-acting results c z h = calm 12 refl refl refl c (pass.result-calm cfg st (s .who) (s .what))
   deed-acting handsBack c z h = deed-back c z h
   deed-acting says.ends c z h = deed-end c z h
 
@@ -213,7 +246,7 @@ module _ (cfg : Config) (st : State) (s : Step) where
   unfolding schedulerActOf
   deed-scheduling g says.spawns c z h = deed-spawn c z h
   deed-scheduling g says.timesOut c z h = deed-timeout c z h
-  deed-scheduling g ticks c z h = calm 17 refl refl c (pass.tick-alike cfg st (s .what))
+  deed-scheduling g ticks c z h = calm 17 refl refl refl c (pass.tick-calm cfg st (s .what))
   deed-scheduling g waits c z h = deed-wait g c h
 
   deed-instance : 1 ≤ s .code → s .code < 15 → instanceStepOf cfg st s .answer ≡ Taken (s .claim) → Deed cfg st s (instanceStepOf cfg st s .state)

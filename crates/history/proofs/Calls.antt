@@ -20,9 +20,9 @@ use Rattle.state.specs.declared.Operations.{Operations}
 use Rattle.state.specs.Parts.{noOperation}
 use Rattle.state.specs.Tables.{operationIn, withOperation}
 use Rattle.keep.proofs.Clients.{calling-inside}
-use Rattle.history.specs.History.{How, Ending, endsOf, lastOn, Proper}
+use Rattle.history.specs.History.{How, Ending, endsOf, lastOn}
 use Rattle.history.proofs.Beside.{set-each, set-both}
-use Rattle.history.proofs.Tied.{given, delivered, endedCall, AllProper, Calls}
+use Rattle.history.proofs.Tied.{given, delivered, endedCall, AllProper, Calls, Proper}
 
 -- ---- one ending more
 

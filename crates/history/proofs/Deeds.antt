@@ -19,9 +19,10 @@ use Rattle.state.specs.declared.State.{State}
 use Rattle.state.specs.Parts.{noSlot}
 use Rattle.state.specs.Tables.{runnableIn, slotIn, withRunnable, withSlot, withRunnables, withSlots}
 use Rattle.rules.specs.Steps.{called, closed, answers, finishing, leaving, isDue, lowestEmpty, spawned}
-use Rattle.keep.specs.Facts.{Sound, CanCall, CanHandBack, CanEnd, CanSpawn, CanTimeout}
+use Rattle.keep.specs.Facts.{Sound, CanEnter, CanExit, CanCall, CanHandBack, CanEnd, CanSpawn, CanTimeout}
 use Rattle.history.specs.History.{noRequest, byTimeout, byInstance, History, passed, begins, closes, takes, takesOldest, takenBy, observe, timeOf}
 use Rattle.history.proofs.Tied.{Alike, Tied, tied-alike}
+use Rattle.history.proofs.Passes.{Unmoved, entered, exited}
 use Rattle.history.proofs.Ties.{tied-call, tied-timeout, tied-answer, tied-late, tied-server, tied-plain, tied-end}
 
 -- a step that is no started call, hand back, end, spawn or timeout
@@ -42,8 +43,14 @@ emptied st i =
 abbrev pub finished : State → State → ℕ → State
 finished st m i = withSlots m (withSlot (st .slots) i (finishing (slotIn (st .slots) i)))
 
+-- what a step that starts, takes and ends no call does to areas: it enters one, exits one, or leaves them and the stacks as they were
+pub data Moves (cfg : Config) (st : State) (s : Step) (st′ : State) : Type 0 where
+  enters : s .code ≡ 3 → CanEnter cfg st (s .who) (s .what) → st′ ≡ entered st (s .who) (s .what) → Moves cfg st s st′
+  exits : s .code ≡ 4 → CanExit cfg st (s .who) (s .what) → st′ ≡ exited st (s .who) (s .what) → Moves cfg st s st′
+  stays : (s .code ≡ 3 → ⊥) → (s .code ≡ 4 → ⊥) → Unmoved st st′ → Moves cfg st s st′
+
 pub data Deed (cfg : Config) (st : State) (s : Step) (st′ : State) : Type 0 where
-  passes : Alike (timeOf s) st st′ → Quiet s → Deed cfg st s st′
+  passes : Alike (timeOf s) st st′ → Quiet s → Moves cfg st s st′ → Deed cfg st s st′
   starts : s .code ≡ 11 → s .claim ≡ okV → CanCall cfg st (s .who) (s .what) (s .argument) → st′ ≡ called cfg st (s .who) (s .what) (s .argument) → Deed cfg st s st′
   returns :
       s .code ≡ 13 → s .claim ≡ numberV 1 → CanHandBack cfg st (s .who) (s .argument) → answers (st .operations) (slotIn (st .slots) (s .who) .owed .client) ≡ true
@@ -75,7 +82,7 @@ module _ (cfg : Config) (h : History) (s : Step) where
       (λ c. pick-has (λ x. x ≡ passed h) (sameValue (s .claim) okV) _ (passed h) (λ k. absurd (q .call (eqb-true _ _ c) (same-value _ _ k))) (λ k. refl))
       (λ c. refl))
 
-  pub starts-adds : s .code ≡ 11 → s .claim ≡ okV → observe cfg h s ≡ begins cfg h (s .what)
+  pub starts-adds : s .code ≡ 11 → s .claim ≡ okV → observe cfg h s ≡ begins cfg h (s .what) (s .argument)
   unfolding observe sameValue
   starts-adds c k = rw (c, k)
 
@@ -120,7 +127,7 @@ unfolding isDue
 due-server cfg st r e z = ltb-true _ _ (rw (server-capacity cfg r e) at (z .due))
 
 pub tied-deed : (cfg : Config) (st : State) (s : Step) (st′ : State) (h : History) → Sound cfg st → Deed cfg st s st′ → Tied st h → Tied st′ (observe cfg h s)
-tied-deed cfg st s st′ h g (passes a q) t = rw (passes-adds cfg h s q) (tied-alike st st′ h a t)
+tied-deed cfg st s st′ h g (passes a q m) t = rw (passes-adds cfg h s q) (tied-alike st st′ h a t)
 tied-deed cfg st s st′ h g (starts c k z e) t = rw (starts-adds cfg h s c k, e) (tied-call cfg st h (s .who) (s .what) (s .argument) g z t)
 tied-deed cfg st s st′ h g (returns c k z a e) t = rw (returns-adds cfg h s c k, e) (tied-answer cfg st h (s .who) (s .argument) z a t)
 tied-deed cfg st s st′ h g (lates c k z e) t = rw (lates-adds cfg h s c k, e) (tied-late cfg st h (s .who) (s .argument) z t)

@@ -85,7 +85,7 @@ ended-deed cfg st s st′ rs d t n k l = go d
     kept = all-more cfg rs (s ∷ []) (h .endings) l
 
     go : Deed cfg st s st′ → AllEnded cfg (rs ++ (s ∷ [])) (observe cfg h s .endings)
-    go (passes a q) = rw (passes-adds cfg h s q) kept
+    go (passes a q m) = rw (passes-adds cfg h s q) kept
     go (starts c q z e) = rw (starts-adds cfg h s c q) kept
     go (returns c q z a e) =
         let w = answered st h (s .who) (z .serving) a t in
@@ -99,7 +99,7 @@ ended-deed cfg st s st′ rs d t n k l = go d
           whole = refl;
           place = ap (λ m. m + 1) (n .place);
           call = n .latest o (t .calls .begun o (w .calling));
-          by = (c, q, refl, λ i. record { at = w .latest i; on = o });
+          by = (c, q, refl, refl, w .latest, w .latest);
           time = omega (arith, k .rest o (w .calling));
         })
         kept)

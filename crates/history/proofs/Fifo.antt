@@ -37,9 +37,9 @@ queued-append cfg r n (x ∷ xs) ys =
     go (both (eqb (x .code) 11) (both (sameValue (x .claim) okV) (eqb (operationConfIn (cfg .operations) (x .what) .server) r))) rest
   where
     go : (b : Bool) → allQueued cfg r (n + 1) (xs ++ ys) ≡ allQueued cfg r (n + 1) xs ++ allQueued cfg r (n + length (x ∷ xs)) ys
-        → pick b (record { at = n + 1; on = x .what } ∷ allQueued cfg r (n + 1) (xs ++ ys)) (allQueued cfg r (n + 1) (xs ++ ys))
-        ≡ pick b (record { at = n + 1; on = x .what } ∷ allQueued cfg r (n + 1) xs) (allQueued cfg r (n + 1) xs) ++ allQueued cfg r (n + length (x ∷ xs)) ys
-    go true e = ap (λ l. record { at = n + 1; on = x .what } ∷ l) e
+        → pick b (record { at = n + 1; on = x .what; argument = x .argument } ∷ allQueued cfg r (n + 1) (xs ++ ys)) (allQueued cfg r (n + 1) (xs ++ ys))
+        ≡ pick b (record { at = n + 1; on = x .what; argument = x .argument } ∷ allQueued cfg r (n + 1) xs) (allQueued cfg r (n + 1) xs) ++ allQueued cfg r (n + length (x ∷ xs)) ys
+    go true e = ap (λ l. record { at = n + 1; on = x .what; argument = x .argument } ∷ l) e
     go false e = e
 
 spawned-append : (r : ℕ) (xs ys : List Step) → allSpawns r (xs ++ ys) ≡ allSpawns r xs + allSpawns r ys
@@ -59,7 +59,7 @@ queues-none cfg r n s q =
     mine = eqb (operationConfIn (cfg .operations) (s .what) .server) r
 
 queues-one : (cfg : Config) (r n : ℕ) (s : Step) → s .code ≡ 11 → s .claim ≡ okV
-    → allQueued cfg r n (s ∷ []) ≡ pick (eqb (operationConfIn (cfg .operations) (s .what) .server) r) (record { at = n + 1; on = s .what } ∷ []) []
+    → allQueued cfg r n (s ∷ []) ≡ pick (eqb (operationConfIn (cfg .operations) (s .what) .server) r) (record { at = n + 1; on = s .what; argument = s .argument } ∷ []) []
 unfolding allQueued sameValue
 queues-one cfg r n s c k = rw (c, k)
 
@@ -108,8 +108,8 @@ module _ (cfg : Config) (r : ℕ) (rs : List Step) (h : History) (s : Step) (f :
   fifo-quiet h′ e n m = fifo-step h′ (rw (queues-none cfg r (length rs) s n, spawns-none r s m, append-nil (queuedAt h r)) e) (rw (spawns-none r s m) (omega arith))
 
   -- a call that starts: its request joins its server's queue
-  fifo-begins : s .code ≡ 11 → s .claim ≡ okV → h .place ≡ length rs → r < length (h .queued) → Fifo cfg r (rs ++ (s ∷ [])) (begins cfg h (s .what))
-  fifo-begins c k p b = fifo-step (begins cfg h (s .what)) (rw (none, queues-one cfg r (length rs) s c k) (go (ℕ-discrete r t))) (rw none (omega arith))
+  fifo-begins : s .code ≡ 11 → s .claim ≡ okV → h .place ≡ length rs → r < length (h .queued) → Fifo cfg r (rs ++ (s ∷ [])) (begins cfg h (s .what) (s .argument))
+  fifo-begins c k p b = fifo-step (begins cfg h (s .what) (s .argument)) (rw (none, queues-one cfg r (length rs) s c k) (go (ℕ-discrete r t))) (rw none (omega arith))
     where
       none : allSpawns r (s ∷ []) ≡ 0
       none = spawns-none r s (λ z. omega (arith, c, z))
@@ -117,7 +117,7 @@ module _ (cfg : Config) (r : ℕ) (rs : List Step) (h : History) (s : Step) (f :
       t : ℕ
       t = operationConfIn (cfg .operations) (s .what) .server
 
-      go : Dec (r ≡ t) → queuedAt (begins cfg h (s .what)) r ≡ queuedAt h r ++ pick (eqb t r) (record { at = length rs + 1; on = s .what } ∷ []) []
+      go : Dec (r ≡ t) → queuedAt (begins cfg h (s .what) (s .argument)) r ≡ queuedAt h r ++ pick (eqb t r) (record { at = length rs + 1; on = s .what; argument = s .argument } ∷ []) []
       go (yes e) = rw (eq-eqb t r (sym e), ← e, ← p) (getD-set-same (h .queued) r _ [] b)
       go (no n) = rw (ne-eqb t r (λ e. n (sym e)), append-nil (queuedAt h r)) (getD-set-other (h .queued) t r _ [] n)
 
@@ -148,7 +148,7 @@ module _ (cfg : Config) (r : ℕ) (rs : List Step) (h : History) (s : Step) (f :
 
 pub fifo-deed : (cfg : Config) (st : State) (s : Step) (st′ : State) (r : ℕ) (rs : List Step) (h : History) → Deed cfg st s st′ → Tied st h → h .place ≡ length rs → isServer cfg r ≡ true
     → r < 16 → Fifo cfg r rs h → Fifo cfg r (rs ++ (s ∷ [])) (observe cfg h s)
-fifo-deed cfg st s st′ r rs h (passes a q) t p y b f = rw (passes-adds cfg h s q) (fifo-quiet cfg r rs h s f (passed h) refl (q .call) (q .spawn))
+fifo-deed cfg st s st′ r rs h (passes a q m) t p y b f = rw (passes-adds cfg h s q) (fifo-quiet cfg r rs h s f (passed h) refl (q .call) (q .spawn))
 fifo-deed cfg st s st′ r rs h (starts c k z e) t p y b f = rw (starts-adds cfg h s c k) (fifo-begins cfg r rs h s f c k p (omega (arith, t .queues .size, b)))
 fifo-deed cfg st s st′ r rs h (returns c k z a e) t p y b f = rw (returns-adds cfg h s c k) (fifo-quiet cfg r rs h s f _ refl (λ q w. omega (arith, c, q)) (λ q. omega (arith, c, q)))
 fifo-deed cfg st s st′ r rs h (lates c k z e) t p y b f = rw (lates-adds cfg h s c k) (fifo-quiet cfg r rs h s f _ refl (λ q w. omega (arith, c, q)) (λ q. omega (arith, c, q)))

@@ -13,7 +13,8 @@ pub mod Fifo
 pub mod Timed
 pub mod Ended
 pub mod Accepts
-pub mod Reached
 pub mod Finals
+pub mod Held
+pub mod Reached
 pub mod Proofs
 pub mod Together

@@ -1,9 +1,10 @@
 -- The steps that start, take and end no call leave a state alike in all that the tie reads. All but the wait do so refused or not, and no fact of the state is asked.
 -- Most write other tables; a slot that enters, exits or runs on owes what it owed; a runnable that wakes or waits keeps its requests. A wait that is taken
--- takes its time from the count of every open call (`wait-alike`), which had as much left (`lets`) and is of an operation that is there (`open-there`).
+-- takes its time from the count of every open call (`wait-calm`), which had as much left (`lets`) and is of an operation that is there (`open-there`).
+-- But for enter and exit they leave areas and stacks as they were too (`Calm`).
 -- Assumes nothing.
 use Prim.Native.Nat.{ℕ, _-_, _≤_, _<_}
-use mathlib.Core.Bool.{Bool, true}
+use mathlib.Core.Bool.{Bool, true, false}
 use mathlib.Core.Path.{_≡_, refl, sym}
 use native.Mathlib.Nat.{add-zero}
 use native.Mathlib.Omega.{arith}
@@ -21,9 +22,9 @@ use Rattle.state.specs.declared.Operations.{Operations}
 use Rattle.state.specs.declared.State.{State}
 use Rattle.state.specs.declared.Stepped.{Stepped}
 use Rattle.state.specs.Parts.{noOperation}
-use Rattle.state.specs.Tables.{runnableIn, areaIn, elementIn, operationIn, timerIn, slotIn, withRunnables, withOperations, withTimers}
-use Rattle.rules.specs.Sound.{operationSound, operationsSound}
-use Rattle.rules.specs.Steps.{readVariableOf, writeVariableOf, entering, exiting, onTop, enterOf, exitOf, readOf, updatedOf, fed, writeOf, invalidateOf, sendOf, receiveOf, runningOn, pollOf, collectOf, resultOf, woken, tickOf, operationLets, operationsLet, operationAfter, operationsAfter, timersAfter, runnablesAfter}
+use Rattle.state.specs.Tables.{runnableIn, areaIn, elementIn, operationIn, timerIn, slotIn, withArea, withSlot, withRunnables, withAreas, withOperations, withTimers, withSlots}
+use Rattle.rules.specs.Sound.{timesIn, operationSound, operationsSound}
+use Rattle.rules.specs.Steps.{readVariableOf, writeVariableOf, entering, exiting, readOf, updatedOf, fed, writeOf, invalidateOf, sendOf, receiveOf, runningOn, pollOf, collectOf, resultOf, woken, tickOf, operationLets, operationsLet, operationAfter, operationsAfter, timersAfter, runnablesAfter}
 use Rattle.keep.specs.Facts.{Sound, CanWait}
 use Rattle.keep.proofs.Told.{operations-length}
 use Rattle.keep.proofs.Kept.{runnable-kept, slot-kept, fed-kept, after-kept, waited-kept}
@@ -37,92 +38,115 @@ same-calls os = record { number = λ o. refl; calling = λ o. refl; done = λ o.
 pub alike-same : (st : State) → Alike 0 st st
 alike-same st = record { operations = same-calls (st .operations); requests = λ r. refl; owed = λ k. refl }
 
+-- areas and stacks are as they were
+pub record Unmoved (st st′ : State) : Type 0 where
+  pub areas : (a : ℕ) → areaIn (st′ .areas) a .taken ≡ areaIn (st .areas) a .taken
+  pub stacks : (a k : ℕ) → timesIn a (slotIn (st′ .slots) k .stack) ≡ timesIn a (slotIn (st .slots) k .stack)
+
+-- alike, and unmoved
+pub record Calm (t : ℕ) (st st′ : State) : Type 0 where
+  pub alike : Alike t st st′
+  pub unmoved : Unmoved st st′
+
+pub calm-same : (st : State) → Calm 0 st st
+calm-same st = record { alike = alike-same st; unmoved = record { areas = λ a. refl; stacks = λ a k. refl } }
+
+-- a step that writes neither areas nor slots
+still : {t : ℕ} (st st′ : State) → st′ .areas ≡ st .areas → st′ .slots ≡ st .slots → Alike t st st′ → Calm t st st′
+still st st′ e f a = record { alike = a; unmoved = record { areas = λ k. rw e; stacks = λ b k. rw f } }
+
 -- a step that is refused or taken
-choice : (st : State) (b : Bool) (x y : Stepped) → Alike 0 st (x .state) → Alike 0 st (y .state) → Alike 0 st (pick b x y .state)
-choice st b x y p q = pick-has (λ z. Alike 0 st (z .state)) b x y (λ e. p) (λ e. q)
+choice : (st : State) (b : Bool) (x y : Stepped) → Calm 0 st (x .state) → Calm 0 st (y .state) → Calm 0 st (pick b x y .state)
+choice st b x y p q = pick-has (λ z. Calm 0 st (z .state)) b x y (λ e. p) (λ e. q)
 
 -- ---- variables and elements
 
-pub read-variable-alike : (st : State) (v : ℕ) → Alike 0 st (readVariableOf st v .state)
+pub read-variable-calm : (st : State) (v : ℕ) → Calm 0 st (readVariableOf st v .state)
 unfolding readVariableOf
-read-variable-alike st v = alike-same st
+read-variable-calm st v = calm-same st
 
-pub write-variable-alike : (st : State) (v : ℕ) (x : Value) → Alike 0 st (writeVariableOf st v x .state)
+pub write-variable-calm : (st : State) (v : ℕ) (x : Value) → Calm 0 st (writeVariableOf st v x .state)
 unfolding writeVariableOf
-write-variable-alike st v x = record { operations = same-calls (st .operations); requests = λ r. refl; owed = λ k. refl }
+write-variable-calm st v x = still st _ refl refl (record { operations = same-calls (st .operations); requests = λ r. refl; owed = λ k. refl })
 
-pub read-alike : (st : State) (q : ℕ) → Alike 0 st (readOf st q .state)
+pub read-calm : (st : State) (q : ℕ) → Calm 0 st (readOf st q .state)
 unfolding readOf
-read-alike st q = record { operations = same-calls (st .operations); requests = λ r. refl; owed = λ k. refl }
+read-calm st q = still st _ refl refl (record { operations = same-calls (st .operations); requests = λ r. refl; owed = λ k. refl })
 
-pub updated-alike : (st : State) (q : ℕ) → Alike 0 st (updatedOf st q .state)
+pub updated-calm : (st : State) (q : ℕ) → Calm 0 st (updatedOf st q .state)
 unfolding updatedOf
-updated-alike st q = alike-same st
+updated-calm st q = calm-same st
 
-fed-alike : (cfg : Config) (st : State) (p : ℕ) (v : Value) → Alike 0 st (fed cfg st p v)
+fed-calm : (cfg : Config) (st : State) (p : ℕ) (v : Value) → Calm 0 st (fed cfg st p v)
 unfolding fed
-fed-alike cfg st p v = record { operations = same-calls (st .operations); requests = fed-kept (λ x. x .requests) (λ x. refl) cfg (st .elements) p (st .runnables); owed = λ k. refl }
+fed-calm cfg st p v = still st _ refl refl (record { operations = same-calls (st .operations); requests = fed-kept (λ x. x .requests) (λ x. refl) cfg (st .elements) p (st .runnables); owed = λ k. refl })
 
-pub write-alike : (cfg : Config) (st : State) (p : ℕ) (v : Value) → Alike 0 st (writeOf cfg st p v .state)
+pub write-calm : (cfg : Config) (st : State) (p : ℕ) (v : Value) → Calm 0 st (writeOf cfg st p v .state)
 unfolding writeOf
-write-alike cfg st p v = fed-alike cfg st p v
+write-calm cfg st p v = fed-calm cfg st p v
 
-pub invalidate-alike : (cfg : Config) (st : State) (p : ℕ) → Alike 0 st (invalidateOf cfg st p .state)
+pub invalidate-calm : (cfg : Config) (st : State) (p : ℕ) → Calm 0 st (invalidateOf cfg st p .state)
 unfolding invalidateOf
-invalidate-alike cfg st p = record { operations = same-calls (st .operations); requests = λ r. refl; owed = λ k. refl }
+invalidate-calm cfg st p = still st _ refl refl (record { operations = same-calls (st .operations); requests = λ r. refl; owed = λ k. refl })
 
-pub send-alike : (cfg : Config) (st : State) (p : ℕ) (v : Value) → Alike 0 st (sendOf cfg st p v .state)
+pub send-calm : (cfg : Config) (st : State) (p : ℕ) (v : Value) → Calm 0 st (sendOf cfg st p v .state)
 unfolding sendOf
-send-alike cfg st p v = fed-alike cfg st p v
+send-calm cfg st p v = fed-calm cfg st p v
 
-pub receive-alike : (st : State) (q : ℕ) → Alike 0 st (receiveOf st q .state)
+pub receive-calm : (st : State) (q : ℕ) → Calm 0 st (receiveOf st q .state)
 unfolding receiveOf
-receive-alike st q =
-    choice st (eqb (elementIn (st .elements) q .queue .queued) 0) _ _ (alike-same st) (record { operations = same-calls (st .operations); requests = λ r. refl; owed = λ k. refl })
+receive-calm st q =
+    choice st (eqb (elementIn (st .elements) q .queue .queued) 0) _ _ (calm-same st)
+    (still st _ refl refl (record { operations = same-calls (st .operations); requests = λ r. refl; owed = λ k. refl }))
 
 -- ---- areas
 
-pub enter-alike : (st : State) (i a : ℕ) → Alike 0 st (enterOf st i a .state)
-unfolding enterOf
-enter-alike st i a =
-    choice st (areaIn (st .areas) a .taken) _ _ (alike-same st)
-    (record { operations = same-calls (st .operations); requests = λ r. refl; owed = slot-kept (λ x. x .owed) (st .slots) i (entering (slotIn (st .slots) i) a) refl })
+-- the state after the slot i has entered the area a
+abbrev pub entered : State → ℕ → ℕ → State
+entered st i a = withSlots (withAreas st (withArea (st .areas) a (record { taken = true }))) (withSlot (st .slots) i (entering (slotIn (st .slots) i) a))
 
-pub exit-alike : (st : State) (i a : ℕ) → Alike 0 st (exitOf st i a .state)
-unfolding exitOf
-exit-alike st i a =
-    choice st (onTop (slotIn (st .slots) i) a) _ _
-    (record { operations = same-calls (st .operations); requests = λ r. refl; owed = slot-kept (λ x. x .owed) (st .slots) i (exiting (slotIn (st .slots) i)) refl })
-    (alike-same st)
+-- after it has exited it
+abbrev pub exited : State → ℕ → ℕ → State
+exited st i a = withSlots (withAreas st (withArea (st .areas) a (record { taken = false }))) (withSlot (st .slots) i (exiting (slotIn (st .slots) i)))
+
+pub enter-alike : (st : State) (i a : ℕ) → Alike 0 st (entered st i a)
+enter-alike st i a = record { operations = same-calls (st .operations); requests = λ r. refl; owed = slot-kept (λ x. x .owed) (st .slots) i (entering (slotIn (st .slots) i) a) refl }
+
+pub exit-alike : (st : State) (i a : ℕ) → Alike 0 st (exited st i a)
+exit-alike st i a = record { operations = same-calls (st .operations); requests = λ r. refl; owed = slot-kept (λ x. x .owed) (st .slots) i (exiting (slotIn (st .slots) i)) refl }
 
 -- ---- results
 
-poll-alike : (st : State) (o : ℕ) → Alike 0 st (pollOf st o .state)
+poll-calm : (st : State) (o : ℕ) → Calm 0 st (pollOf st o .state)
 unfolding pollOf
-poll-alike st o = choice st (operationIn (st .operations) o .calling) _ _ (alike-same st) (alike-same st)
+poll-calm st o = choice st (operationIn (st .operations) o .calling) _ _ (calm-same st) (calm-same st)
 
-collect-alike : (st : State) (i o : ℕ) → Alike 0 st (collectOf st i o .state)
+collect-calm : (st : State) (i o : ℕ) → Calm 0 st (collectOf st i o .state)
 unfolding collectOf
-collect-alike st i o =
-    choice st (operationIn (st .operations) o .calling) _ _ (alike-same st)
-    (record { operations = same-calls (st .operations); requests = λ r. refl; owed = slot-kept (λ x. x .owed) (st .slots) i (runningOn (slotIn (st .slots) i)) refl })
+collect-calm st i o =
+    choice st (operationIn (st .operations) o .calling) _ _ (calm-same st)
+    (record {
+      alike = record { operations = same-calls (st .operations); requests = λ r. refl; owed = slot-kept (λ x. x .owed) (st .slots) i (runningOn (slotIn (st .slots) i)) refl };
+      unmoved = record { areas = λ a. refl; stacks = λ a. slot-kept (λ x. timesIn a (x .stack)) (st .slots) i (runningOn (slotIn (st .slots) i)) refl };
+    })
 
-pub result-alike : (cfg : Config) (st : State) (i o : ℕ) → Alike 0 st (resultOf cfg st i o .state)
+pub result-calm : (cfg : Config) (st : State) (i o : ℕ) → Calm 0 st (resultOf cfg st i o .state)
 unfolding resultOf
-result-alike cfg st i o = choice st (operationConfIn (cfg .operations) o .asynchronous) _ _ (poll-alike st o) (collect-alike st i o)
+result-calm cfg st i o = choice st (operationConfIn (cfg .operations) o .asynchronous) _ _ (poll-calm st o) (collect-calm st i o)
 
 -- ---- time
 
-pub tick-alike : (cfg : Config) (st : State) (t : ℕ) → Alike 0 st (tickOf cfg st t .state)
+pub tick-calm : (cfg : Config) (st : State) (t : ℕ) → Calm 0 st (tickOf cfg st t .state)
 unfolding tickOf
-tick-alike cfg st t =
+tick-calm cfg st t =
     choice st (eqb (timerIn (st .timers) t .count) 0) _ _
+    (still st _ refl refl
     (record {
       operations = same-calls (st .operations);
       requests = runnable-kept (λ x. x .requests) (st .runnables) (timerConfIn (cfg .timers) t .runnable) (woken (runnableIn (st .runnables) (timerConfIn (cfg .timers) t .runnable))) refl;
       owed = λ k. refl;
-    })
-    (alike-same st)
+    }))
+    (calm-same st)
 
 -- the state after t has passed
 abbrev pub later : Config → State → ℕ → State
@@ -166,5 +190,5 @@ module _ (cfg : Config) (st : State) (t : ℕ) (g : Sound cfg st) (z : CanWait c
       done : (x : Operation) → operationAfter t x .done ≡ x .done
       done x = pick-has (λ (y : Operation). y .done ≡ x .done) (x .calling) _ x (λ e. refl) (λ e. refl)
 
-  pub wait-alike : Alike t st (later cfg st t)
-  wait-alike = record { operations = waited; requests = after-kept (λ x. x .requests) t (λ x. refl) cfg (st .runnables); owed = λ k. refl }
+  pub wait-calm : Calm t st (later cfg st t)
+  wait-calm = still st _ refl refl (record { operations = waited; requests = after-kept (λ x. x .requests) t (λ x. refl) cfg (st .runnables); owed = λ k. refl })

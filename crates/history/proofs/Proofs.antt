@@ -3,30 +3,39 @@
 -- a recording is read off the run before it (`halves`).
 -- Assumes nothing.
 use mathlib.Core.Bool.{Bool, true, false}
-use mathlib.Core.List.{_∷_, _++_}
+use mathlib.Core.List.{List, _∷_, _++_}
+use mathlib.Core.Option.{some}
 use mathlib.Core.Path.{_≡_, refl, sym, _∙_, ap}
 use native.Mathlib.Nat.{add-zero}
 use native.Mathlib.Omega.{arith}
 use lib.ListN.{length, getD, length-drop}
 use lib.Seq.{getD-drop}
-use borrow.Author.Tests.{lt-ltb}
+use borrow.Author.Tests.{lt-ltb, eq-eqb}
 use Rattle.laws.specs.Choice.{bit}
+use Rattle.values.specs.declared.Step.{Step}
 use Rattle.values.specs.declared.Answer.the-variants.{Taken}
-use Rattle.entries.specs.Faults.{isServer}
+use Rattle.config.specs.declared.Config.{Config}
+use Rattle.entries.specs.Faults.{isServer, configSound}
+use Rattle.state.specs.declared.State.{State}
 use Rattle.state.specs.declared.Stepped.{Stepped}
 use Rattle.state.specs.Start.{startOf}
-use Rattle.state.specs.Tables.{operationIn}
-use Rattle.keep.proofs.Configured.{runnables-most, server-there}
+use Rattle.state.specs.Tables.{operationIn, slotIn}
+use Rattle.rules.specs.Step.{stepOf}
+use Rattle.keep.specs.Facts.{Sound}
+use Rattle.keep.proofs.Configured.{runnables-most, areas-most, server-there}
+use Rattle.keep.proofs.Kept.{here}
+use Rattle.keep.proofs.Areas.{times-none, exit-stack}
 use Rattle.keep.proofs.Clients.{requests-told}
-use Rattle.history.specs.History.{noRequest, History, historyOf, takenBy, allQueued, allSpawns}
-use Rattle.history.specs.Promises.{OfRuns, OfSteps, StaysSound, TakenHasOne, FreeHasNone, RequestsFit, ValuesFit, EndsOnce, EndsProperly, TimeoutAtZero, TimeoutInTime, BackInTime, OpenInTime, CountIsRest, NumberIsFinal, DoneIsFinal, OpenIsUnended, LatestStarted, QueuesFollowed, FirstInFirstOut, SpawnTakesNext}
+use Rattle.history.specs.History.{noRequest, History, historyOf, takenBy, holderOf, allQueued, allSpawns}
+use Rattle.history.specs.Promises.{Run, OfRuns, OfSteps, StaysSound, AreasHeld, EntersFree, ExitsHeld, EndsEmpty, RequestsFit, ValuesFit, EndsOnce, EndsProperly, TimeoutAtZero, TimeoutInTime, BackInTime, OpenInTime, CountIsRest, NumberIsFinal, DoneIsFinal, OpenIsUnended, LatestStarted, QueuesFollowed, ServedFollowed, FirstInFirstOut, SpawnTakesNext}
 use Rattle.history.proofs.Tied.{Tied}
-use Rattle.history.proofs.Runs.{halves, first, history-one}
+use Rattle.history.proofs.Runs.{Halves, halves, first, history-one}
+use Rattle.history.proofs.Deeds.{Deed}
 use Rattle.history.proofs.Accepts.{accepted, deed}
-use Rattle.history.proofs.Named.{started-at, proper-at}
 use Rattle.history.proofs.Ended.{ended-at}
-use Rattle.history.proofs.Reached.{sound-along, sound-at, tied-at, named-at, fifo-at, timed-at, ended-along, ends-grow}
-use Rattle.history.proofs.Finals.{holder, no-holder, values-told, done-final, result-told, timed, back, serves-one, took-oldest}
+use Rattle.history.proofs.Reached.{sound-along, sound-at, tied-at, named-at, fifo-at, timed-at, ended-along, holds-at, ends-grow}
+use Rattle.history.proofs.Held.{Holds, moves, entering-told, exiting-told, ending-told, held-by, free-none, stack-holder}
+use Rattle.history.proofs.Finals.{values-told, done-final, result-told, timed, back, serves-one, took-oldest}
 
 -- ---- states
 
@@ -35,11 +44,41 @@ stays-sound = sound-along
 
 -- ---- areas and queues
 
-pub taken-has-one : OfRuns TakenHasOne
-taken-has-one cfg rs st c e a b t = holder cfg st a (sound-at cfg rs st c e) b t
+pub areas-held : OfRuns AreasHeld
+areas-held cfg rs st c e a b = held-by cfg st a (sound-at cfg rs st c e) b (holderOf a rs) (holds-at cfg rs st a e)
 
-pub free-has-none : OfRuns FreeHasNone
-free-has-none cfg rs st c e a b t = no-holder cfg st a (sound-at cfg rs st c e) b t
+-- what a step finds: the state before it is sound, areas stand with whoever entered them, and the deed says what the step relied on
+module _ (cfg : Config) (before after : List Step) (s : Step) (st : State) (c : configSound cfg ≡ true) (e : Run cfg (before ++ (s ∷ after)) st) where
+  abbrev found : Halves cfg (startOf cfg) st before (s ∷ after)
+  found = halves cfg (startOf cfg) st before (s ∷ after) e
+
+  sound-before : Sound cfg (found .mid)
+  sound-before = sound-at cfg before (found .mid) c (found .before)
+
+  deed-there : Deed cfg (found .mid) s (stepOf cfg (found .mid) s .state)
+  deed-there = deed cfg (found .mid) s (first cfg (found .mid) st s after (found .after))
+
+pub enters-free : OfSteps EntersFree
+enters-free cfg before after s st c e q =
+    let g = sound-before cfg before after s st c e in
+    let m = found cfg before after s st c e in
+    let z = entering-told cfg (m .mid) s _ q (moves cfg (m .mid) s _ g (deed-there cfg before after s st c e)) in
+    free-none cfg (m .mid) (s .what) g (omega (arith, z .inside, areas-most cfg c)) (holderOf (s .what) before) (holds-at cfg before (m .mid) (s .what) (m .before)) (z .free)
+
+pub exits-held : OfSteps ExitsHeld
+exits-held cfg before after s st c e q =
+    let g = sound-before cfg before after s st c e in
+    let m = found cfg before after s st c e in
+    let z = exiting-told cfg (m .mid) s _ q (moves cfg (m .mid) s _ g (deed-there cfg before after s st c e)) in
+    stack-holder cfg (m .mid) (s .what) g (omega (arith, z .inside, areas-most cfg c)) (holderOf (s .what) before) (s .who) (holds-at cfg before (m .mid) (s .what) (m .before))
+    (here cfg (m .mid) (s .who) g (z .who .there)) (omega (arith, exit-stack cfg (m .mid) (s .who) (s .what) z (s .what), ap bit (eq-eqb (s .what) (s .what) refl)))
+
+pub ends-empty : OfSteps EndsEmpty
+ends-empty cfg before after s st c e q a b h =
+    let m = found cfg before after s st c e in
+    let z = ending-told cfg (m .mid) s _ q (deed-there cfg before after s st c e) in
+    let w : Holds (m .mid) a (some (s .who)) = rw h at (holds-at cfg before (m .mid) a (m .before)) in
+    omega (arith, w .1, times-none a (slotIn (m .mid .slots) (s .who) .stack) (z .flat))
 
 pub requests-fit : OfRuns RequestsFit
 requests-fit cfg rs st c e r b = requests-told cfg st r (sound-at cfg rs st c e) b .0
@@ -53,7 +92,7 @@ pub ends-once : OfRuns EndsOnce
 ends-once cfg rs st c e k = tied-at cfg rs st e .calls .once k
 
 pub ends-properly : OfRuns EndsProperly
-ends-properly cfg rs st c e x m = (started-at rs x _ (named-at cfg rs st e .endings) m, proper-at x _ (tied-at cfg rs st e .calls .proper) m, ended-at cfg rs x _ (ended-along cfg rs st e) m)
+ends-properly cfg rs st c e x m = ended-at cfg rs x _ (ended-along cfg rs st e) m
 
 pub timeout-at-zero : OfSteps TimeoutAtZero
 timeout-at-zero cfg before after s st c e q =
@@ -111,7 +150,12 @@ pub latest-started : OfRuns LatestStarted
 latest-started cfg rs st c e o b q = named-at cfg rs st e .latest o q
 
 pub queues-followed : OfRuns QueuesFollowed
-queues-followed cfg rs st c e r b = tied-at cfg rs st e .queues .each r .size
+queues-followed cfg rs st c e r b =
+    let q = tied-at cfg rs st e .queues .each r in
+    (q .size, λ j l. let t = q .each j l in (sym (t .same), sym (t .argument)))
+
+pub served-followed : OfRuns ServedFollowed
+served-followed cfg rs st c e i b q = let t = tied-at cfg rs st e .served .each i q in (sym (t .same), sym (t .argument))
 
 pub first-in-first-out : OfRuns FirstInFirstOut
 unfolding isServer

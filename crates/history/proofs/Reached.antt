@@ -1,6 +1,6 @@
 -- What holds of every run and the state that it reaches, each by the one induction over the recording (`along`): the state is sound (`sound-at`) and tied to the
 -- history (`tied-at`), the history's places are started calls (`named-at`), each server's queue is first in, first out (`fifo-at`), the counts of open calls are
--- what is left of their time (`timed-at`), and each ending stands at its step, in time (`ended-along`).
+-- what is left of their time (`timed-at`), each ending stands at its step, in time (`ended-along`), and areas stand with whoever entered them (`holds-at`).
 -- Endings are only added: a call has ended at least as often after more steps (`ends-grow`).
 -- Assumes nothing.
 use Prim.Native.Nat.{ℕ, _≤_, _<_}
@@ -21,7 +21,7 @@ use Rattle.keep.specs.Facts.{Sound}
 use Rattle.keep.proofs.Told.{told}
 use Rattle.keep.proofs.Start.{start-sound}
 use Rattle.keep.proofs.Keeps.{kept-step}
-use Rattle.history.specs.History.{History, nothing, observe, historyFrom, historyOf, endsOf}
+use Rattle.history.specs.History.{History, nothing, observe, historyFrom, historyOf, endsOf, holderOf}
 use Rattle.history.specs.Promises.{Run}
 use Rattle.history.proofs.Tied.{Tied}
 use Rattle.history.proofs.Runs.{history-append, history-one, along}
@@ -32,6 +32,7 @@ use Rattle.history.proofs.Named.{Named, named-start, named-deed}
 use Rattle.history.proofs.Fifo.{Fifo, fifo-start, fifo-deed}
 use Rattle.history.proofs.Timed.{Timed, timed-start, timed-deed}
 use Rattle.history.proofs.Ended.{AllEnded, ended-start, ended-deed}
+use Rattle.history.proofs.Held.{Holds, holder-one, moves, holds-start, holds-deed}
 
 -- ---- by induction over the recording
 
@@ -52,7 +53,7 @@ pub named-at : (cfg : Config) (rs : List Step) (st : State) → Run cfg rs st �
 unfolding historyOf historyFrom
 named-at cfg rs st e =
     along cfg (λ before m. Named before (historyOf cfg before))
-    (λ before s m r n a. rw (history-one cfg before s) (named-deed cfg m s (stepOf cfg m s .state) before (historyOf cfg before) (deed cfg m s a) (tied-at cfg before m r) n))
+    (λ before s m r n a. rw (history-one cfg before s) (named-deed cfg m s (stepOf cfg m s .state) before (historyOf cfg before) (deed cfg m s a) n))
     named-start rs st e
 
 pub fifo-at : (cfg : Config) (rs : List Step) (st : State) (r : ℕ) → isServer cfg r ≡ true → r < 16 → Run cfg rs st → Fifo cfg r rs (historyOf cfg rs)
@@ -81,6 +82,14 @@ ended-along cfg rs st e =
     rw (history-one cfg before s)
     (ended-deed cfg m s (stepOf cfg m s .state) before (deed cfg m s a) (tied-at cfg before m r) (named-at cfg before m r) (timed-at cfg before m r) l))
     (ended-start cfg) rs st e
+
+pub holds-at : (cfg : Config) (rs : List Step) (st : State) (a : ℕ) → Run cfg rs st → Holds st a (holderOf a rs)
+holds-at cfg rs st a e =
+    along cfg (λ before m. Holds m a (holderOf a before))
+    (λ before s m r h x.
+    let g = told cfg m (accepted cfg m s (s .claim) x .0) in
+    rw (holder-one a before s) (holds-deed cfg m s g (stepOf cfg m s .state) (moves cfg m s (stepOf cfg m s .state) g (deed cfg m s x)) a (holderOf a before) h))
+    (holds-start cfg a) rs st e
 
 -- ---- endings are only added
 

@@ -49,6 +49,7 @@ tag-close : (os : Operations) (latest : List ℕ) (o : ℕ) (x : Operation) (c :
     → Tag (withOperation os o x) latest c q
 tag-close os latest o x c q b e t = record {
   same = t .same;
+  argument = t .argument;
   newest = operation-each (λ j y. j ≡ c .operation → y .calling ≡ true → c .number ≡ y .number → q .at ≡ getD latest j 0) os o x b
       (λ p z n. absurd (clash (x .calling) z e))
       (λ j n p. rw p (t .newest))
@@ -59,15 +60,16 @@ tag-open : (os : Operations) (latest : List ℕ) (o p : ℕ) (x : Operation) (c 
     → Tag os latest c q → Tag (withOperation os o x) (set latest o p) c q
 tag-open os latest o p x c q b d n t = record {
   same = t .same;
+  argument = t .argument;
   newest = operation-both (λ j y k. j ≡ c .operation → y .calling ≡ true → c .number ≡ y .number → q .at ≡ k) os latest o x p b d
       (λ a z m. absurd (n (sym a) m))
       (λ j m a. rw a (t .newest))
       (c .operation) refl;
 }
 
-pub tag-new : (os : Operations) (latest : List ℕ) (o p : ℕ) (x : Operation) (c : Client) (q : Request) → o < length latest → c .operation ≡ o → q .on ≡ o → q .at ≡ p
+pub tag-new : (os : Operations) (latest : List ℕ) (o p : ℕ) (x : Operation) (c : Client) (q : Request) → o < length latest → c .operation ≡ o → q .on ≡ o → q .argument ≡ c .argument → q .at ≡ p
     → Tag (withOperation os o x) (set latest o p) c q
-tag-new os latest o p x c q d e on place = record { same = on ∙ sym e; newest = λ z m. place ∙ sym (ap (λ j. getD (set latest o p) j 0) e ∙ getD-set-same latest o p 0 d) }
+tag-new os latest o p x c q d e on argument place = record { same = on ∙ sym e; argument = argument; newest = λ z m. place ∙ sym (ap (λ j. getD (set latest o p) j 0) e ∙ getD-set-same latest o p 0 d) }
 
 module _ (os : Operations) (latest : List ℕ) (o : ℕ) (x : Operation) (b : o < length (os .at)) where
   pub queues-close : (rs : Runnables) (ws : List (List Request)) → x .calling ≡ false → Queues os latest rs ws → Queues (withOperation os o x) latest rs ws

@@ -22,7 +22,7 @@ use Rattle.state.specs.declared.Slots.{Slots}
 use Rattle.state.specs.declared.State.{State}
 use Rattle.state.specs.Parts.{noClient}
 use Rattle.state.specs.Tables.{runnableIn, operationIn, slotIn}
-use Rattle.history.specs.History.{Request, noRequest, How, byTimeout, byInstance, Ending, History, passed, endsOf, lastOn, Proper}
+use Rattle.history.specs.History.{Request, noRequest, How, byTimeout, byInstance, Ending, History, passed, endsOf, lastOn}
 use Rattle.history.proofs.Beside.{Beside, beside-map}
 
 -- ---- what an ending leaves
@@ -42,6 +42,11 @@ abbrev pub endedCall : Option Ending → ℕ
 endedCall none = 0
 endedCall (some e) = e .call
 
+-- time may end any call, an instance only the one that it was spawned for
+abbrev pub Proper : ℕ → How → Type 0
+Proper k byTimeout = Unit {0}
+Proper k (byInstance j v) = j ≡ k
+
 -- every ending is of a call, and proper
 unfoldable pub AllProper : List Ending → Type 0
 AllProper [] = Unit {0}
@@ -52,6 +57,7 @@ AllProper (e ∷ es) = ((0 < e .call) × Proper (e .call) (e .how)) × AllProper
 -- a client, and the request beside it
 pub record Tag (os : Operations) (latest : List ℕ) (c : Client) (q : Request) : Type 0 where
   pub same : q .on ≡ c .operation
+  pub argument : q .argument ≡ c .argument
   pub newest : operationIn os (c .operation) .calling ≡ true → c .number ≡ operationIn os (c .operation) .number → q .at ≡ getD latest (c .operation) 0
 
 pub record Queues (os : Operations) (latest : List ℕ) (rs : Runnables) (queued : List (List Request)) : Type 0 where
@@ -112,7 +118,7 @@ calls-alike os os′ latest es p a h = record {
 }
 
 tag-alike : {t : ℕ} (os os′ : Operations) (latest : List ℕ) (c : Client) (q : Request) → SameCalls t os os′ → Tag os latest c q → Tag os′ latest c q
-tag-alike os os′ latest c q a g = record { same = g .same; newest = rw (a .calling (c .operation), a .number (c .operation)) (g .newest) }
+tag-alike os os′ latest c q a g = record { same = g .same; argument = g .argument; newest = rw (a .calling (c .operation), a .number (c .operation)) (g .newest) }
 
 -- each request carried over to other operations and calls
 pub queues-map : (os os′ : Operations) (latest latest′ : List ℕ) (rs : Runnables) (ws : List (List Request))

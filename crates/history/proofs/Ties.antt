@@ -30,21 +30,21 @@ use Rattle.keep.proofs.Configured.{runnables-most, operations-most, capacity-mo
 use Rattle.keep.proofs.Told.{runnables-length, operations-length, slots-length}
 use Rattle.keep.proofs.Kept.{runnable-kept, slot-kept, returned-kept, caller-kept, slot-inside}
 use Rattle.keep.proofs.Clients.{requests-told, calling-inside}
-use Rattle.history.specs.History.{Request, noRequest, How, byTimeout, byInstance, History, passed, begins, closes, takes, takesOldest, takenBy, latestOn, queuedAt, Proper}
-use Rattle.history.proofs.Tied.{given, Tag, Tied, queues-alike, served-alike, calls-alike, tied-alike}
+use Rattle.history.specs.History.{Request, noRequest, How, byTimeout, byInstance, History, passed, begins, closes, takes, takesOldest, takenBy, latestOn, queuedAt}
+use Rattle.history.proofs.Tied.{given, Tag, Tied, queues-alike, served-alike, calls-alike, tied-alike, Proper}
 use Rattle.history.proofs.Calls.{calls-close, calls-start}
 use Rattle.history.proofs.Tags.{serving-inside, queued-inside, tag-new, queues-close, served-close, queues-open, served-open, queues-push, queues-pop, oldest-tag, served-put, served-idle}
 use Rattle.history.proofs.Passes.{same-calls, alike-same}
 
 -- ---- a call starts
 
-pub tied-call : (cfg : Config) (st : State) (h : History) (i o : ℕ) (v : Value) → Sound cfg st → CanCall cfg st i o v → Tied st h → Tied (called cfg st i o v) (begins cfg h o)
+pub tied-call : (cfg : Config) (st : State) (h : History) (i o : ℕ) (v : Value) → Sound cfg st → CanCall cfg st i o v → Tied st h → Tied (called cfg st i o v) (begins cfg h o v)
 unfolding called
 tied-call cfg st h i o v s z t = record {
   queues =
       queues-push os′ latest′ (st .runnables) (h .queued) r y
       (queues-open (st .operations) (st .runnables) (st .slots) (h .latest) o (h .place + 1) x (s .clients) within inside (z .shut) refl (h .queued) (runnables-length cfg st s) (t .queues))
-      (omega (arith, runnables-length cfg st s, there)) there c q room (requests-told cfg st r s there .1) refl (tag-new (st .operations) (h .latest) o (h .place + 1) x c q inside refl refl refl);
+      (omega (arith, runnables-length cfg st s, there)) there c q room (requests-told cfg st r s there .1) refl (tag-new (st .operations) (h .latest) o (h .place + 1) x c q inside refl refl refl refl);
   served =
       served-alike os′ latest′ (st .slots) _ (h .taken) (slot-kept (λ w. w .owed) (st .slots) i _ (caller-kept (λ w. w .owed) (λ w n. refl) cfg o (slotIn (st .slots) i)))
       (served-open (st .operations) (st .runnables) (st .slots) (h .latest) o (h .place + 1) x (s .clients) within inside (z .shut) refl (h .taken) (slots-length cfg st s) (t .served));
@@ -67,7 +67,7 @@ tied-call cfg st h i o v s z t = record {
     c = record { operation = o; number = operationIn (st .operations) o .number; argument = v }
 
     q : Request
-    q = record { at = h .place + 1; on = o }
+    q = record { at = h .place + 1; on = o; argument = v }
 
     y : Runnable
     y = asking (runnableIn (st .runnables) r) c

@@ -117,7 +117,7 @@ timed-deed cfg st s st′ rs h g d t n k = go d
     still-so m f c = timed-still cfg os (h .latest) rs s past k (not-wait m f c)
 
     go : Deed cfg st s st′ → Timed cfg (st′ .operations) (observe cfg h s .latest) (rs ++ (s ∷ []))
-    go (passes a q) = rw (passes-adds cfg h s q) (timed-passed cfg os (h .latest) rs s past k (st′ .operations) (a .operations))
+    go (passes a q m) = rw (passes-adds cfg h s q) (timed-passed cfg os (h .latest) rs s past k (st′ .operations) (a .operations))
     go (starts c q z e) =
         rw (starts-adds cfg h s c q, e, n .place)
         (timed-begins cfg os (h .latest) rs s past k (s .what) (opening (operationConfIn (cfg .operations) (s .what) .timeout) (operationIn os (s .what))) (not-wait 11 refl c) (omega (arith, operations-length cfg st g, operations-most cfg (g .config), z .inside))

@@ -4,32 +4,39 @@ use mathlib.Core.List.{List}
 use mathlib.Core.Path.{subst}
 use Rattle.values.specs.declared.Step.{Step}
 use Rattle.state.specs.Start.{startOf}
-use Rattle.history.specs.Promises.{Run, OfRuns, OfSteps}
-use Rattle.history.specs.Together.{AtMoment, AtStep, Demand3}
+use Rattle.history.specs.Promises.{Run, OfRuns, OfSteps, Followed, AtMoment, AtStep, Demand3}
 use Rattle.history.proofs.Runs.{halves}
-use Rattle.history.proofs.Proofs.{stays-sound, taken-has-one, free-has-none, requests-fit, values-fit, ends-once, ends-properly, timeout-at-zero, timeout-in-time, back-in-time, open-in-time, number-is-final, done-is-final, open-is-unended, latest-started, count-is-rest, queues-followed, first-in-first-out, spawn-takes-next}
+use Rattle.history.proofs.Proofs.{stays-sound, areas-held, enters-free, exits-held, ends-empty, requests-fit, values-fit, ends-once, ends-properly, timeout-at-zero, timeout-in-time, back-in-time, open-in-time, number-is-final, done-is-final, open-is-unended, latest-started, count-is-rest, queues-followed, served-followed, first-in-first-out, spawn-takes-next}
 
-pub at-moment : OfRuns AtMoment
+followed : OfRuns Followed
+followed cfg rs st c e = record {
+  unended = open-is-unended cfg rs st c e;
+  latest = latest-started cfg rs st c e;
+  rest = count-is-rest cfg rs st c e;
+  queues = queues-followed cfg rs st c e;
+  served = served-followed cfg rs st c e;
+  fifo = first-in-first-out cfg rs st c e;
+}
+
+at-moment : OfRuns AtMoment
 at-moment cfg rs st c e = record {
   run = e;
   sound = stays-sound cfg rs st c e;
-  taken = taken-has-one cfg rs st c e;
-  free = free-has-none cfg rs st c e;
+  areas = areas-held cfg rs st c e;
   requests = requests-fit cfg rs st c e;
   values = values-fit cfg rs st c e;
   once = ends-once cfg rs st c e;
   properly = ends-properly cfg rs st c e;
   time = open-in-time cfg rs st c e;
   done = done-is-final cfg rs st c e;
-  unended = open-is-unended cfg rs st c e;
-  latest = latest-started cfg rs st c e;
-  rest = count-is-rest cfg rs st c e;
-  queues = queues-followed cfg rs st c e;
-  fifo = first-in-first-out cfg rs st c e;
+  history = followed cfg rs st c e;
 }
 
-pub at-step : OfSteps AtStep
+at-step : OfSteps AtStep
 at-step cfg before after s st c e = record {
+  enter = enters-free cfg before after s st c e;
+  exit = exits-held cfg before after s st c e;
+  end = ends-empty cfg before after s st c e;
   zero = timeout-at-zero cfg before after s st c e;
   timeout = timeout-in-time cfg before after s st c e;
   back = back-in-time cfg before after s st c e;

@@ -10,20 +10,21 @@ use lib.ListN.{getD, set, drop, replicate}
 use Rattle.laws.specs.Choice.{pick, both, bit}
 use Rattle.values.specs.declared.Value.{Value}
 use Rattle.values.specs.declared.Step.{Step}
-use Rattle.values.specs.Values.{numberV, okV, sameValue}
+use Rattle.values.specs.Values.{voidV, numberV, okV, sameValue}
 use Rattle.config.specs.declared.Config.{Config}
 use Rattle.config.specs.Tables.{maxRunnableConfs, maxOperationConfs, operationConfIn}
 use Rattle.entries.specs.Faults.{isServer}
 use Rattle.state.specs.Tables.{maxSlots}
 
--- a request, by its call's name and the operation called ("How tight the contracts are", demand 3)
+-- a request: its call's name, the operation called and the argument passed ("How tight the contracts are", demand 3)
 pub record Request : Type 0 where
   pub at : ℕ
   pub on : ℕ
+  pub argument : Value
 
 -- no request, as a slot has that serves none ("How tight the contracts are", demand 3)
 abbrev pub noRequest : Request
-noRequest = record { at = 0; on = 0 }
+noRequest = record { at = 0; on = 0; argument = voidV }
 
 -- what ended a call: time, or an instance that had been spawned for the call named here and gave this value back ("How tight the contracts are", demand 3)
 pub data How : Type 0 where
@@ -72,11 +73,11 @@ latestOn h o = getD (h .latest) o 0
 abbrev pub passed : History → History
 passed h = record { place = h .place + 1; queued = h .queued; taken = h .taken; latest = h .latest; endings = h .endings }
 
--- a call of o starts: this step's request is now the last that waits at the server of o ("How tight the contracts are", demand 3)
-abbrev pub begins : Config → History → ℕ → History
-begins cfg h o = record {
+-- a call of o starts, with the argument v: this step's request is now the last that waits at the server of o ("How tight the contracts are", demand 3)
+abbrev pub begins : Config → History → ℕ → Value → History
+begins cfg h o v = record {
   place = h .place + 1;
-  queued = set (h .queued) (operationConfIn (cfg .operations) o .server) (queuedAt h (operationConfIn (cfg .operations) o .server) ++ (record { at = h .place + 1; on = o } ∷ []));
+  queued = set (h .queued) (operationConfIn (cfg .operations) o .server) (queuedAt h (operationConfIn (cfg .operations) o .server) ++ (record { at = h .place + 1; on = o; argument = v } ∷ []));
   taken = h .taken;
   latest = set (h .latest) o (h .place + 1);
   endings = h .endings;
@@ -109,7 +110,7 @@ takesOldest h i r = record {
 -- an accepted step: a call answered Ok starts one, a hand back answered 1 and a timeout end one, a spawn of a server takes a request, an end and any other spawn leave a slot with none; all others pass ("How tight the contracts are", demand 3)
 unfoldable pub observe : Config → History → Step → History
 observe cfg h s =
-    pick (eqb (s .code) 11) (pick (sameValue (s .claim) okV) (begins cfg h (s .what)) (passed h))
+    pick (eqb (s .code) 11) (pick (sameValue (s .claim) okV) (begins cfg h (s .what) (s .argument)) (passed h))
     (pick (eqb (s .code) 13) (pick (eqb (s .claim .number) 1) (closes h (takenBy h (s .who) .on) (byInstance (takenBy h (s .who) .at) (s .argument))) (passed h))
     (pick (eqb (s .code) 14) (takes h (s .who) noRequest)
     (pick (eqb (s .code) 15) (pick (isServer cfg (s .what)) (takesOldest h (s .claim .number) (s .what)) (takes h (s .claim .number) noRequest))
@@ -137,11 +138,6 @@ unfoldable pub lastOn : ℕ → List Ending → Option Ending
 lastOn o [] = none
 lastOn o (e ∷ es) = pick (eqb (e .on) o) (some e) (lastOn o es)
 
--- time may end any call, an instance only the one that it was spawned for ("How tight the contracts are", demand 3)
-abbrev pub Proper : ℕ → How → Type 0
-Proper k byTimeout = Unit {0}
-Proper k (byInstance j v) = j ≡ k
-
 -- the step at place k of the recording, counted from 1, is a call on o that was answered Ok ("How tight the contracts are", demand 3)
 unfoldable pub Started : List Step → ℕ → ℕ → Type 0
 Started [] k o = ⊥
@@ -152,7 +148,7 @@ Started (s ∷ rs) (suc (suc k)) o = Started rs (suc k) o
 -- the step s ended the call k of o so, when this was known: a timeout on o, or a hand back answered 1 by an instance that had taken the request of this very call ("How tight the contracts are", demand 3)
 abbrev pub EndedBy : History → Step → ℕ → ℕ → How → Type 0
 EndedBy h s o k byTimeout = (s .code ≡ 16) × (s .what ≡ o)
-EndedBy h s o k (byInstance j v) = (s .code ≡ 13) × (s .claim ≡ numberV 1) × (s .argument ≡ v) × (takenBy h (s .who) ≡ record { at = k; on = o })
+EndedBy h s o k (byInstance j v) = (s .code ≡ 13) × (s .claim ≡ numberV 1) × (s .argument ≡ v) × (takenBy h (s .who) .on ≡ o) × (takenBy h (s .who) .at ≡ k) × (j ≡ k)
 
 -- ---- time, as the waits of a recording tell it
 
@@ -174,6 +170,21 @@ abbrev pub InTime : ℕ → ℕ → How → Type 0
 InTime t top byTimeout = t ≡ top
 InTime t top (byInstance j v) = t ≤ top
 
+-- ---- areas, as enters and exits tell it
+
+-- who holds the area a after the step s, if w held it before: an enter makes its instance the holder, an exit leaves it to nobody ("The eighteen steps", 3 and 4)
+unfoldable pub holderAfter : ℕ → Option ℕ → Step → Option ℕ
+holderAfter a w s = pick (eqb (s .what) a) (pick (eqb (s .code) 3) (some (s .who)) (pick (eqb (s .code) 4) none w)) w
+
+-- the same after more steps ("The eighteen steps", 3 and 4)
+unfoldable pub holderFrom : ℕ → Option ℕ → List Step → Option ℕ
+holderFrom a w [] = w
+holderFrom a w (s ∷ rs) = holderFrom a (holderAfter a w s) rs
+
+-- who holds the area a after the steps of a recording, by its slot ("The eighteen steps", 3 and 4)
+unfoldable pub holderOf : ℕ → List Step → Option ℕ
+holderOf a rs = holderFrom a none rs
+
 -- ---- requests followed in a second way: all that were ever queued at r, and how many were taken there
 
 -- the requests that rs queues at r, oldest first; n steps stand before rs ("How tight the contracts are", demand 3)
@@ -181,7 +192,7 @@ unfoldable pub allQueued : Config → ℕ → ℕ → List Step → List Request
 allQueued cfg r n [] = []
 allQueued cfg r n (s ∷ rs) =
     pick (both (eqb (s .code) 11) (both (sameValue (s .claim) okV) (eqb (operationConfIn (cfg .operations) (s .what) .server) r)))
-    (record { at = n + 1; on = s .what } ∷ allQueued cfg r (n + 1) rs)
+    (record { at = n + 1; on = s .what; argument = s .argument } ∷ allQueued cfg r (n + 1) rs)
     (allQueued cfg r (n + 1) rs)
 
 -- how many instances of r were spawned ("How tight the contracts are", demand 3)

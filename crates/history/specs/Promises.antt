@@ -1,12 +1,12 @@
 -- The promises, as types, in the order of demand 3: of accepted steps and the state that they reach (`OfRuns`), or of a step with the steps before and after it
--- (`OfSteps`). They are proved in proofs/, by citing; nothing else stands here.
+-- (`OfSteps`); and at the end all of them in one record (`Demand3`). They are proved in proofs/, by citing; nothing else stands here.
 -- `Run cfg rs st` says that every step of rs, in turn from the start state, is accepted with the answer it claims, and that st is the state reached.
 -- Assumes nothing.
 use Prim.Native.Nat.{ℕ, _+_, _≤_, _<_}
 use mathlib.Core.Bool.{true, false}
 use mathlib.Core.List.{List, [], _∷_, _++_, List·Memᴰ}
 use mathlib.Core.Logic.{_↔_}
-use mathlib.Core.Option.{some}
+use mathlib.Core.Option.{Option, none, some}
 use mathlib.Core.Path.{_≡_}
 use lib.ListN.{length, getD, drop}
 use Rattle.values.specs.declared.Value.{Value}
@@ -16,12 +16,14 @@ use Rattle.values.specs.Values.{numberV, refusalIn, valueIn}
 use Rattle.config.specs.declared.Config.{Config}
 use Rattle.config.specs.Tables.{maxRunnableConfs, maxAreaConfs, maxRequiredConfs, maxOperationConfs, runnableConfIn, requiredConfIn, operationConfIn}
 use Rattle.entries.specs.Faults.{configSound}
+use Rattle.state.specs.declared.Client.{Client}
 use Rattle.state.specs.declared.State.{State}
+use Rattle.state.specs.Parts.{noClient}
 use Rattle.state.specs.Tables.{maxSlots, runnableIn, areaIn, elementIn, operationIn, slotIn}
 use Rattle.state.specs.Start.{startOf}
 use Rattle.rules.specs.Sound.{timesIn, soundOf}
 use Rattle.rules.specs.Step.{stepOf}
-use Rattle.history.specs.History.{noRequest, byInstance, Ending, historyOf, queuedAt, takenBy, latestOn, endsOf, lastOn, Proper, Started, EndedBy, timeSince, InTime, allQueued, allSpawns}
+use Rattle.history.specs.History.{Request, noRequest, byInstance, Ending, historyOf, queuedAt, takenBy, latestOn, endsOf, lastOn, Started, EndedBy, timeSince, InTime, holderOf, allQueued, allSpawns}
 
 -- an answer says that the step was taken, with this value: by the number and the value that stand for it; no refusal has the number 0 (`never-zero` in crate keep) ("Numbers of refusal")
 abbrev pub Answers : Answer → Value → Type 0
@@ -50,15 +52,28 @@ OfSteps P = (cfg : Config) (before after : List Step) (s : Step) (st : State) �
 abbrev pub StaysSound : Config → List Step → State → Type 0
 StaysSound cfg rs st = soundOf cfg st ≡ true
 
--- a taken area has exactly one holder: an instance whose stack has it, once, and no other stack has it ("A sound state", areas)
-abbrev pub TakenHasOne : Config → List Step → State → Type 0
-TakenHasOne cfg rs st =
-    (a : ℕ) → a < maxAreaConfs → areaIn (st .areas) a .taken ≡ true
-    → (i : ℕ) × (i < maxSlots) × (slotIn (st .slots) i .used ≡ true) × (timesIn a (slotIn (st .slots) i .stack) ≡ 1) × ((j : ℕ) → j < maxSlots → (j ≡ i → ⊥) → timesIn a (slotIn (st .slots) j .stack) ≡ 0)
+-- an area in a state: free and on no stack, or taken and held by the instance in the slot i, once, and by no other ("A sound state", areas)
+abbrev pub HeldBy : State → ℕ → Option ℕ → Type 0
+HeldBy st a none = (areaIn (st .areas) a .taken ≡ false) × ((i : ℕ) → i < maxSlots → timesIn a (slotIn (st .slots) i .stack) ≡ 0)
+HeldBy st a (some i) =
+    (areaIn (st .areas) a .taken ≡ true) × (i < maxSlots) × (slotIn (st .slots) i .used ≡ true) × (timesIn a (slotIn (st .slots) i .stack) ≡ 1)
+    × ((j : ℕ) → j < maxSlots → (j ≡ i → ⊥) → timesIn a (slotIn (st .slots) j .stack) ≡ 0)
 
--- a free area is in no stack ("A sound state", areas)
-abbrev pub FreeHasNone : Config → List Step → State → Type 0
-FreeHasNone cfg rs st = (a : ℕ) → a < maxAreaConfs → areaIn (st .areas) a .taken ≡ false → (i : ℕ) → i < maxSlots → timesIn a (slotIn (st .slots) i .stack) ≡ 0
+-- an area has exactly one holder, the instance that entered it and has not exited it since; if there is none, it is free ("A sound state", areas)
+abbrev pub AreasHeld : Config → List Step → State → Type 0
+AreasHeld cfg rs st = (a : ℕ) → a < maxAreaConfs → HeldBy st a (holderOf a rs)
+
+-- an area is entered only while nobody holds it ("The eighteen steps", 3)
+abbrev pub EntersFree : Config → List Step → Step → List Step → Type 0
+EntersFree cfg before s after = s .code ≡ 3 → holderOf (s .what) before ≡ none
+
+-- and exited by its holder alone ("The eighteen steps", 4)
+abbrev pub ExitsHeld : Config → List Step → Step → List Step → Type 0
+ExitsHeld cfg before s after = s .code ≡ 4 → holderOf (s .what) before ≡ some (s .who)
+
+-- who ends holds none, so that a holder is always the instance that entered ("Numbers of refusal", 15)
+abbrev pub EndsEmpty : Config → List Step → Step → List Step → Type 0
+EndsEmpty cfg before s after = s .code ≡ 14 → (a : ℕ) → a < maxAreaConfs → holderOf a before ≡ some (s .who) → ⊥
 
 -- no queue of requests passes its capacity ("A sound state", queue lengths)
 abbrev pub RequestsFit : Config → List Step → State → Type 0
@@ -72,7 +87,7 @@ ValuesFit cfg rs st = (q : ℕ) → q < maxRequiredConfs → elementIn (st .elem
 abbrev pub EndsOnce : Config → List Step → State → Type 0
 EndsOnce cfg rs st = (k : ℕ) → endsOf k (historyOf cfg rs .endings) ≤ 1
 
--- where an ending stands: at its place is the step that ended the call, behind the call's own step; and how long the call lasted ("How tight the contracts are", demand 3)
+-- an ending of a recording: at its place stands the step that ended the call, behind the call's own step; and how long the call lasted ("How tight the contracts are", demand 3)
 pub record Ended (cfg : Config) (rs : List Step) (e : Ending) : Type 0 where
   pub before : List Step
   pub step : Step
@@ -83,10 +98,9 @@ pub record Ended (cfg : Config) (rs : List Step) (e : Ending) : Type 0 where
   pub by : EndedBy (historyOf cfg before) step (e .on) (e .call) (e .how)
   pub time : InTime (timeSince (e .call) before) (operationConfIn (cfg .operations) (e .on) .timeout) (e .how)
 
--- an ending is of a call that was started on its operation, and stands where a step ended it; if it was no timeout, then the instance that ended it had been spawned for this call ("How tight the contracts are", demand 3)
+-- every ending is one: of a call started on its operation, by a timeout there or by a hand back of the instance spawned for this very call ("How tight the contracts are", demand 3)
 abbrev pub EndsProperly : Config → List Step → State → Type 0
-EndsProperly cfg rs st =
-    (e : Ending) → List·Memᴰ e (historyOf cfg rs .endings) → Started rs (e .call) (e .on) × Proper (e .call) (e .how) × Ended cfg rs e
+EndsProperly cfg rs st = (e : Ending) → List·Memᴰ e (historyOf cfg rs .endings) → Ended cfg rs e
 
 -- a timeout is taken at count zero of an open operation, whose latest call was started and has not ended ("How tight the contracts are", demand 3)
 abbrev pub TimeoutAtZero : Config → List Step → Step → List Step → Type 0
@@ -142,9 +156,20 @@ CountIsRest cfg rs st =
     (o : ℕ) → operationIn (st .operations) o .calling ≡ true
     → timeSince (latestOn (historyOf cfg rs) o) rs + operationIn (st .operations) o .count ≡ operationConfIn (cfg .operations) o .timeout
 
--- the followed queues are as long as the machine's ("How tight the contracts are", demand 3)
+-- a client of the machine asks what the request asks: the same operation, with the same argument ("How tight the contracts are", demand 3)
+abbrev pub Asks : Client → Request → Type 0
+Asks c q = (c .operation ≡ q .on) × (c .argument ≡ q .argument)
+
+-- the followed queues are the machine's: as long, and with the same requests in the same order ("How tight the contracts are", demand 3)
 abbrev pub QueuesFollowed : Config → List Step → State → Type 0
-QueuesFollowed cfg rs st = (r : ℕ) → r < maxRunnableConfs → length (queuedAt (historyOf cfg rs) r) ≡ runnableIn (st .runnables) r .requests .queued
+QueuesFollowed cfg rs st =
+    (r : ℕ) → r < maxRunnableConfs
+    → (length (queuedAt (historyOf cfg rs) r) ≡ runnableIn (st .runnables) r .requests .queued)
+    × ((j : ℕ) → j < runnableIn (st .runnables) r .requests .queued → Asks (getD (runnableIn (st .runnables) r .requests .at) j noClient) (getD (queuedAt (historyOf cfg rs) r) j noRequest))
+
+-- and an instance that serves a client serves the request that its spawn took ("How tight the contracts are", demand 3)
+abbrev pub ServedFollowed : Config → List Step → State → Type 0
+ServedFollowed cfg rs st = (i : ℕ) → i < maxSlots → slotIn (st .slots) i .owed .serving ≡ true → Asks (slotIn (st .slots) i .owed .client) (takenBy (historyOf cfg rs) i)
 
 -- what waits at a server is all that was ever queued there, less the oldest, one for each spawn ("How tight the contracts are", demand 3)
 abbrev pub FirstInFirstOut : Config → List Step → State → Type 0
@@ -157,3 +182,43 @@ SpawnTakesNext cfg before s after =
     s .code ≡ 15 → 0 < runnableConfIn (cfg .runnables) (s .what) .capacity
     → (allSpawns (s .what) before < length (allQueued cfg (s .what) 0 before))
     × (takenBy (historyOf cfg (before ++ (s ∷ []))) (s .claim .number) ≡ getD (allQueued cfg (s .what) 0 before) (allSpawns (s .what) before) noRequest)
+
+-- ---- all together
+
+-- that the history of the steps so far misses and invents nothing ("How tight the contracts are", demand 3)
+pub record Followed (cfg : Config) (rs : List Step) (st : State) : Type 0 where
+  pub unended : OpenIsUnended cfg rs st
+  pub latest : LatestStarted cfg rs st
+  pub rest : CountIsRest cfg rs st
+  pub queues : QueuesFollowed cfg rs st
+  pub served : ServedFollowed cfg rs st
+  pub fifo : FirstInFirstOut cfg rs st
+
+-- a moment: the steps so far, and the state that they reached ("How tight the contracts are", demand 3)
+pub record AtMoment (cfg : Config) (rs : List Step) (st : State) : Type 0 where
+  pub run : Run cfg rs st
+  pub sound : StaysSound cfg rs st
+  pub areas : AreasHeld cfg rs st
+  pub requests : RequestsFit cfg rs st
+  pub values : ValuesFit cfg rs st
+  pub once : EndsOnce cfg rs st
+  pub properly : EndsProperly cfg rs st
+  pub time : OpenInTime cfg rs st
+  pub done : DoneIsFinal cfg rs st
+  pub history : Followed cfg rs st
+
+-- a step, with the steps before and after it ("How tight the contracts are", demand 3)
+pub record AtStep (cfg : Config) (before : List Step) (s : Step) (after : List Step) : Type 0 where
+  pub enter : EntersFree cfg before s after
+  pub exit : ExitsHeld cfg before s after
+  pub end : EndsEmpty cfg before s after
+  pub zero : TimeoutAtZero cfg before s after
+  pub timeout : TimeoutInTime cfg before s after
+  pub back : BackInTime cfg before s after
+  pub number : NumberIsFinal cfg before s after
+  pub spawn : SpawnTakesNext cfg before s after
+
+-- demand 3 of a list of steps: at every moment, and at every step ("How tight the contracts are", demand 3)
+pub record Demand3 (cfg : Config) (rs : List Step) : Type 0 where
+  pub moments : (before after : List Step) → rs ≡ before ++ after → (m : State) × AtMoment cfg before m
+  pub steps : (before after : List Step) (s : Step) → rs ≡ before ++ (s ∷ after) → AtStep cfg before s after

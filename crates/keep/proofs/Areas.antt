@@ -88,7 +88,7 @@ times-pop b s l =
     rw e at (sum-pop (λ (y : ℕ). bit (eqb y b)) 0 (s .held - 1) (s .at) 0)
 
 -- an empty stack
-times-none : (b : ℕ) (s : Stack) → s .held ≡ 0 → timesIn b s ≡ 0
+pub times-none : (b : ℕ) (s : Stack) → s .held ≡ 0 → timesIn b s ≡ 0
 unfolding timesIn sumBelow
 times-none b s e = rw e
 
@@ -143,15 +143,11 @@ held-both cfg t ss a v i x p q l m f g h = record {
     go b n (yes e) = rw (e, getD-set-same (t .at) a (record { taken = v }) noArea (omega (arith, p, e, n))) (omega (arith, put a, f, h .once a (omega (arith, e, n))))
     go b n (no k) = rw (getD-set-other (t .at) a b (record { taken = v }) noArea k) (omega (arith, put b, g b k, h .once b n))
 
--- ---- step by step
+-- ---- the stack of a slot after each step that writes it
 
-pub enter-keeps-areas : (cfg : Config) (st : State) (i a : ℕ) → Sound cfg st → CanEnter cfg st i a
-    → Held cfg (withArea (st .areas) a (record { taken = true })) (withSlot (st .slots) i (entering (slotIn (st .slots) i) a))
-enter-keeps-areas cfg st i a s z =
-    held-both cfg (st .areas) (st .slots) a true i _ (areas-length cfg st s) (slots-length cfg st s) l (z .inside)
-    (rw (z .free) (omega (arith, more a, ap bit (eq-eqb a a refl))))
-    (λ b n. omega (arith, more b, ap bit (ne-eqb a b (λ e. n (sym e)))))
-    (s .areas)
+pub enter-stack : (cfg : Config) (st : State) (i a : ℕ) → Sound cfg st → CanEnter cfg st i a
+    → (b : ℕ) → timesIn b (entering (slotIn (st .slots) i) a .stack) ≡ timesIn b (slotIn (st .slots) i .stack) + bit (eqb a b)
+enter-stack cfg st i a s z b = times-push b a (slotIn (st .slots) i .stack) (omega (arith, room, stacked-at cfg st i s l .long)) room
   where
     l : i < maxSlots
     l = here cfg st i s (z .who .there)
@@ -159,30 +155,54 @@ enter-keeps-areas cfg st i a s z =
     room : slotIn (st .slots) i .stack .held < maxAreaConfs
     room = free-room cfg st i a s l (omega (arith, z .inside, areas-most cfg (s .config))) (z .free)
 
-    more : (b : ℕ) → timesIn b (pushArea (slotIn (st .slots) i .stack) a) ≡ timesIn b (slotIn (st .slots) i .stack) + bit (eqb a b)
-    more b = times-push b a (slotIn (st .slots) i .stack) (omega (arith, room, stacked-at cfg st i s l .long)) room
+pub exit-stack : (cfg : Config) (st : State) (i a : ℕ) → CanExit cfg st i a → (b : ℕ) → timesIn b (exiting (slotIn (st .slots) i) .stack) + bit (eqb a b) ≡ timesIn b (slotIn (st .slots) i .stack)
+exit-stack cfg st i a z b = rw (z .top) at (times-pop b (slotIn (st .slots) i .stack) (z .some))
+
+pub call-stack : (cfg : Config) (o : ℕ) (x : Slot) (a : ℕ) → timesIn a (callerAfter cfg o x .stack) ≡ timesIn a (x .stack)
+call-stack cfg o x a = caller-kept (λ y. timesIn a (y .stack)) (λ y n. refl) cfg o x
+
+pub end-stack : (st : State) (i : ℕ) → CanEnd st i → (a : ℕ) → timesIn a (noSlot .stack) ≡ timesIn a (slotIn (st .slots) i .stack)
+unfolding noSlot noStack
+end-stack st i z a = times-none a noStack refl ∙ sym (times-none a (slotIn (st .slots) i .stack) (z .flat))
+
+pub spawn-stack : (cfg : Config) (st : State) (r : ℕ) → Sound cfg st → CanSpawn cfg st r
+    → (a : ℕ) → timesIn a (instanceOf (runnableConfIn (cfg .runnables) r) r (runnableIn (st .runnables) r) .stack) ≡ timesIn a (slotIn (st .slots) (lowestEmpty (st .slots)) .stack)
+unfolding instanceOf noStack
+spawn-stack cfg st r s z a = pick-has (λ (y : Slot). timesIn a (y .stack) ≡ timesIn a old) (eqb (runnableConfIn (cfg .runnables) r .capacity) 0) _ _ (λ e. same) (λ e. same)
+  where
+    old : Stack
+    old = slotIn (st .slots) (lowestEmpty (st .slots)) .stack
+
+    same : timesIn a noStack ≡ timesIn a old
+    same = times-none a noStack refl ∙ sym (times-none a old (stacked-at cfg st (lowestEmpty (st .slots)) s (z .slot) .blank (lowest-empty (st .slots) (z .slot))))
+
+-- ---- step by step
+
+pub enter-keeps-areas : (cfg : Config) (st : State) (i a : ℕ) → Sound cfg st → CanEnter cfg st i a
+    → Held cfg (withArea (st .areas) a (record { taken = true })) (withSlot (st .slots) i (entering (slotIn (st .slots) i) a))
+enter-keeps-areas cfg st i a s z =
+    held-both cfg (st .areas) (st .slots) a true i _ (areas-length cfg st s) (slots-length cfg st s) (here cfg st i s (z .who .there)) (z .inside)
+    (rw (z .free) (omega (arith, enter-stack cfg st i a s z a, ap bit (eq-eqb a a refl))))
+    (λ b n. omega (arith, enter-stack cfg st i a s z b, ap bit (ne-eqb a b (λ e. n (sym e)))))
+    (s .areas)
 
 pub exit-keeps-areas : (cfg : Config) (st : State) (i a : ℕ) → Sound cfg st → CanExit cfg st i a
     → Held cfg (withArea (st .areas) a (record { taken = false })) (withSlot (st .slots) i (exiting (slotIn (st .slots) i)))
 unfolding holders
 exit-keeps-areas cfg st i a s z =
     held-both cfg (st .areas) (st .slots) a false i _ (areas-length cfg st s) (slots-length cfg st s) l (z .inside)
-    (omega (arith, less a, ap bit (eq-eqb a a refl), once, bit-most (areaIn (st .areas) a .taken), s .areas .once a (omega (arith, z .inside, areas-most cfg (s .config)))))
-    (λ b n. omega (arith, less b, ap bit (ne-eqb a b (λ e. n (sym e)))))
+    (omega (arith, exit-stack cfg st i a z a, ap bit (eq-eqb a a refl), once, bit-most (areaIn (st .areas) a .taken), s .areas .once a (omega (arith, z .inside, areas-most cfg (s .config)))))
+    (λ b n. omega (arith, exit-stack cfg st i a z b, ap bit (ne-eqb a b (λ e. n (sym e)))))
     (s .areas)
   where
     l : i < maxSlots
     l = here cfg st i s (z .who .there)
 
-    less : (b : ℕ) → timesIn b (popArea (slotIn (st .slots) i .stack)) + bit (eqb a b) ≡ timesIn b (slotIn (st .slots) i .stack)
-    less b = rw (z .top) at (times-pop b (slotIn (st .slots) i .stack) (z .some))
-
     once : timesIn a (slotIn (st .slots) i .stack) ≤ holders (st .slots) a
     once = sum-term (λ (k : ℕ). timesIn a (slotIn (st .slots) k .stack)) i maxSlots l
 
 pub call-keeps-areas : (cfg : Config) (st : State) (i o : ℕ) (v : Value) → Sound cfg st → CanCall cfg st i o v → Held cfg (st .areas) (withSlot (st .slots) i (callerAfter cfg o (slotIn (st .slots) i)))
-call-keeps-areas cfg st i o v s z =
-    held-slot cfg (st .areas) (st .slots) i _ (λ a. caller-kept (λ x. timesIn a (x .stack)) (λ x n. refl) cfg o (slotIn (st .slots) i)) (s .areas)
+call-keeps-areas cfg st i o v s z = held-slot cfg (st .areas) (st .slots) i _ (call-stack cfg o (slotIn (st .slots) i)) (s .areas)
 
 pub collect-keeps-areas : (cfg : Config) (st : State) (i o : ℕ) → Sound cfg st → CanCollect cfg st i o → Held cfg (st .areas) (withSlot (st .slots) i (runningOn (slotIn (st .slots) i)))
 collect-keeps-areas cfg st i o s z = held-slot cfg (st .areas) (st .slots) i _ (λ a. refl) (s .areas)
@@ -191,20 +211,8 @@ pub hand-back-keeps-areas : (cfg : Config) (st : State) (i : ℕ) (v : Value) �
 hand-back-keeps-areas cfg st i v s z = held-slot cfg (st .areas) (st .slots) i _ (λ a. refl) (s .areas)
 
 pub end-keeps-areas : (cfg : Config) (st : State) (i : ℕ) → Sound cfg st → CanEnd st i → Held cfg (st .areas) (withSlot (st .slots) i noSlot)
-unfolding noSlot noStack
-end-keeps-areas cfg st i s z =
-    held-slot cfg (st .areas) (st .slots) i noSlot (λ a. times-none a noStack refl ∙ sym (times-none a (slotIn (st .slots) i .stack) (z .flat))) (s .areas)
+end-keeps-areas cfg st i s z = held-slot cfg (st .areas) (st .slots) i noSlot (end-stack st i z) (s .areas)
 
 pub spawn-keeps-areas : (cfg : Config) (st : State) (r : ℕ) → Sound cfg st → CanSpawn cfg st r
     → Held cfg (st .areas) (withSlot (st .slots) (lowestEmpty (st .slots)) (instanceOf (runnableConfIn (cfg .runnables) r) r (runnableIn (st .runnables) r)))
-unfolding instanceOf noStack
-spawn-keeps-areas cfg st r s z =
-    held-slot cfg (st .areas) (st .slots) (lowestEmpty (st .slots)) _
-    (λ a. pick-has (λ (y : Slot). timesIn a (y .stack) ≡ timesIn a old) (eqb (runnableConfIn (cfg .runnables) r .capacity) 0) _ _ (λ e. same a) (λ e. same a))
-    (s .areas)
-  where
-    old : Stack
-    old = slotIn (st .slots) (lowestEmpty (st .slots)) .stack
-
-    same : (a : ℕ) → timesIn a noStack ≡ timesIn a old
-    same a = times-none a noStack refl ∙ sym (times-none a old (stacked-at cfg st (lowestEmpty (st .slots)) s (z .slot) .blank (lowest-empty (st .slots) (z .slot))))
+spawn-keeps-areas cfg st r s z = held-slot cfg (st .areas) (st .slots) (lowestEmpty (st .slots)) _ (spawn-stack cfg st r s z) (s .areas)

@@ -1,5 +1,5 @@
 -- From bytes to steps: what a verdict counts are the first steps of the bytes, each accepted from the state before it, up to the state that the verdict gives;
--- an accepted text is a whole recording, and all of its steps are counted.
+-- an accepted text is a whole recording, and all of its steps are counted; an unfinished one has used up its allowance, and a step follows.
 -- Assumes nothing.
 use Prim.Native.Nat.{ℕ, suc, _+_, _≤_, _<_}
 use mathlib.Core.Bool.{Bool, true, false}
@@ -56,10 +56,10 @@ taken-claims cfg st s v h = go (soundOf cfg st) refl
 pub steps-step : (t : List ℕ) (s : Step) (z : ℕ) → fieldOf t ≡ IsStep s z → stepsIn t ≡ s ∷ stepsIn (drop z t)
 steps-step t s z e = ap (λ (w : Whole). w .steps) (whole-step t s z e)
 
-steps-end : (t : List ℕ) → fieldOf t ≡ End → stepsIn t ≡ []
+pub steps-end : (t : List ℕ) → fieldOf t ≡ End → stepsIn t ≡ []
 steps-end t e = ap (λ (w : Whole). w .steps) (whole-end t e)
 
-sound-step : (t : List ℕ) (s : Step) (z : ℕ) → fieldOf t ≡ IsStep s z → isSound t ≡ isSound (drop z t)
+pub sound-step : (t : List ℕ) (s : Step) (z : ℕ) → fieldOf t ≡ IsStep s z → isSound t ≡ isSound (drop z t)
 sound-step t s z e = ap (λ (w : Whole). isEnd (w .last)) (whole-step t s z e)
 
 sound-end : (t : List ℕ) → fieldOf t ≡ End → isSound t ≡ true
@@ -111,45 +111,50 @@ module _ (cfg : Config) where
         went = λ a. one-counted;
       })
 
-  -- an accepted text is a whole recording, and all its steps are counted
-  pub record WholeCounted (t : List ℕ) (n : ℕ) (st : State) (j : Judged) : Type 0 where
+  -- an accepted text is a whole recording of as many steps as were allowed or fewer, and all of them are counted
+  pub record WholeCounted (a : ℕ) (t : List ℕ) (n : ℕ) (st : State) (j : Judged) : Type 0 where
     pub whole : isSound t ≡ true
+    pub most : length (stepsIn t) ≤ a
     pub count : j .count ≡ n + length (stepsIn t)
     pub taken : AllAccepted cfg st (stepsIn t) (j .state)
 
-  end-whole : (t : List ℕ) (n : ℕ) (st : State) → fieldOf t ≡ End → WholeCounted t n st (judged Accepted n st)
-  end-whole t n st e = record {
+  end-whole : (a : ℕ) (t : List ℕ) (n : ℕ) (st : State) → fieldOf t ≡ End → WholeCounted a t n st (judged Accepted n st)
+  end-whole a t n st e = record {
     whole = sound-end t e;
+    most = omega (arith, ap length (steps-end t e));
     count = omega (arith, ap length (steps-end t e));
     taken = none-accepted cfg st (stepsIn t) (steps-end t e);
   }
 
-  step-whole : (t : List ℕ) (n : ℕ) (st : State) (s : Step) (z : ℕ) (v : Value) (j : Judged) → fieldOf t ≡ IsStep s z → stepOf cfg st s .answer ≡ Taken v → WholeCounted (drop z t) (n + 1) (stepOf cfg st s .state) j → WholeCounted t n st j
-  step-whole t n st s z v j e q c = record {
+  step-whole : (a : ℕ) (t : List ℕ) (n : ℕ) (st : State) (s : Step) (z : ℕ) (v : Value) (j : Judged) → fieldOf t ≡ IsStep s z → stepOf cfg st s .answer ≡ Taken v
+      → WholeCounted a (drop z t) (n + 1) (stepOf cfg st s .state) j → WholeCounted (suc a) t n st j
+  step-whole a t n st s z v j e q c = record {
     whole = sound-step t s z e ∙ c .whole;
+    most = omega (arith, c .most, ap length (steps-step t s z e));
     count = omega (arith, c .count, ap length (steps-step t s z e));
     taken = one-accepted cfg st s v (stepsIn (drop z t)) (stepsIn t) (j .state) q (c .taken) (steps-step t s z e);
   }
 
-  pub accepted-whole : (a : ℕ) (t : List ℕ) (n : ℕ) (st : State) → judgeFrom (stepOf cfg) a t n st .verdict ≡ Accepted → WholeCounted t n st (judgeFrom (stepOf cfg) a t n st)
+  pub accepted-whole : (a : ℕ) (t : List ℕ) (n : ℕ) (st : State) → judgeFrom (stepOf cfg) a t n st .verdict ≡ Accepted → WholeCounted a t n st (judgeFrom (stepOf cfg) a t n st)
   accepted-whole =
-      judged-each (stepOf cfg) (λ a t n st j. j .verdict ≡ Accepted → WholeCounted t n st j)
+      judged-each (stepOf cfg) (λ a t n st j. j .verdict ≡ Accepted → WholeCounted a t n st j)
       (record {
         starved = λ t n st s z e h. absurd (unfinished-accepted h);
-        ended = λ a t n st e h. end-whole t n st e;
+        ended = λ a t n st e h. end-whole a t n st e;
         stopped = λ a t n st k p e h. absurd (accepted-refused (sym h));
         barred = λ a t n st s z k e q h. absurd (accepted-refused (sym h));
-        went = λ a t n st s z v j e q rest h. step-whole t n st s z v j e q (rest h);
+        went = λ a t n st s z v j e q rest h. step-whole a t n st s z v j e q (rest h);
       })
 
-  -- an unfinished one leaves a step that was not tried
-  pub unfinished-more : (a : ℕ) (t : List ℕ) (n : ℕ) (st : State) → judgeFrom (stepOf cfg) a t n st .verdict ≡ Unfinished → judgeFrom (stepOf cfg) a t n st .count < n + length (stepsIn t)
+  -- an unfinished one has taken all that was allowed, and leaves a step that was not tried
+  pub unfinished-more : (a : ℕ) (t : List ℕ) (n : ℕ) (st : State) → judgeFrom (stepOf cfg) a t n st .verdict ≡ Unfinished
+      → (judgeFrom (stepOf cfg) a t n st .count ≡ n + a) × (a < length (stepsIn t))
   unfinished-more =
-      judged-each (stepOf cfg) (λ a t n st j. j .verdict ≡ Unfinished → j .count < n + length (stepsIn t))
+      judged-each (stepOf cfg) (λ a t n st j. j .verdict ≡ Unfinished → (j .count ≡ n + a) × (a < length (stepsIn t)))
       (record {
-        starved = λ t n st s z e h. omega (arith, ap length (steps-step t s z e));
+        starved = λ t n st s z e h. (omega arith, omega (arith, ap length (steps-step t s z e)));
         ended = λ a t n st e h. absurd (unfinished-accepted (sym h));
         stopped = λ a t n st k p e h. absurd (unfinished-refused (sym h));
         barred = λ a t n st s z k e q h. absurd (unfinished-refused (sym h));
-        went = λ a t n st s z v j e q rest h. omega (arith, rest h, ap length (steps-step t s z e));
+        went = λ a t n st s z v j e q rest h. (omega (arith, rest h .0), omega (arith, rest h .1, ap length (steps-step t s z e)));
       })

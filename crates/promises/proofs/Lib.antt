@@ -1,5 +1,6 @@
--- From the bytes of two files to the runs that the promises speak of.
+-- From the bytes of two files to the runs that the promises speak of, and back.
 pub mod Counted
 pub mod Stopped
+pub mod Told
 pub mod FromBytes
-pub mod Top
+pub mod Kept

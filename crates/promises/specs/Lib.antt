@@ -1,3 +1,2 @@
 -- The promises from the bytes of two files on.
 pub mod Claims
-pub mod Top

@@ -8,9 +8,9 @@ use mathlib.Core.List.{List}
 use mathlib.Core.Path.{_≡_, refl, ap, _∙_}
 use native.Mathlib.Decide.{ℕ-discrete, decLt}
 use native.Mathlib.Omega.{arith}
-use lib.Dec.{eqb, leb}
-use lib.ListN.{length, drop}
-use borrow.Author.Tests.{ne-eqb, eqb-true, leb-true}
+use lib.Dec.{ltb, eqb, leb}
+use lib.ListN.{length, getD, drop}
+use borrow.Author.Tests.{ne-eqb, eqb-true, eqb-false, leb-true}
 use Rattle.laws.proofs.Choosing.{both-left, pick-has}
 use Rattle.config.specs.declared.Config.{Config}
 use Rattle.config.specs.Tables.{noConfig}
@@ -19,7 +19,8 @@ use Rattle.entries.specs.Entries.{countOf, entryOf, placed}
 use Rattle.entries.specs.Faults.{entryFault, configSound}
 use Rattle.entries.proofs.Kind.{fault-told, Kind, config-told, config-made}
 use Rattle.entries.proofs.Tags.{kind-tag, blank-none, blank-sound}
-use Rattle.reading.specs.Reading.{entryIn, inOrder, headOf, bodyFault, wholeOf, refusedAt, onHead, readFrom, configOf}
+use Rattle.wire.specs.Bytes.{lengthOf}
+use Rattle.reading.specs.Reading.{refusalIn, sizeOf, entryIn, inOrder, headOf, bodyFault, wholeOf, refusedAt, onHead, readFrom, configOf}
 use Rattle.reading.specs.declared.Outcome.the-variants.{Whole}
 use Rattle.reading.specs.declared.Reading.{Reading}
 use Rattle.reading.specs.declared.Head.{Head}
@@ -124,33 +125,53 @@ sofar-field cfg last tag t f up h = go (ℕ-discrete tag 0x01)
 
 -- ---- the whole text
 
--- what a reading gives: a sound configuration in any case, and a blank one beside a refusal
+-- what a reading gives: a sound configuration in any case, a blank one beside a refusal, and a number that is 0 only for a whole one
 pub record Given (r : Reading) : Type 0 where
   pub sound : configSound (r .config) ≡ true
   pub blank : (r .outcome ≡ Whole → ⊥) → r .config ≡ noConfig
+  pub number : refusalIn (r .outcome) ≡ 0 → r .outcome ≡ Whole
 
-given-refused : (number place : ℕ) → Given (refusedAt number place)
+given-refused : (number place : ℕ) → (number ≡ 0 → ⊥) → Given (refusedAt number place)
 unfolding refusedAt
-given-refused number place = record { sound = blank-sound; blank = λ _. refl }
+given-refused number place n = record { sound = blank-sound; blank = λ _. refl; number = λ e. absurd (n e) }
+
+-- a field that is refused at its head is refused with 21 or 22
+bad-number : (t : List ℕ) (last number : ℕ) → headOf t last ≡ Bad number → number ≡ 0 → ⊥
+unfolding headOf
+bad-number t last number =
+    pick-has P (ltb (length t) 3) _ _ (λ _. bad 21 (λ z. omega (arith, z)))
+    (λ _. pick-has P (eqb (lengthOf (getD t 1 0) (getD t 2 0)) (sizeOf (getD t 0 0))) _ _
+    (λ _. pick-has P (leb (sizeOf (getD t 0 0)) (length t - 3)) _ _
+    (λ _. pick-has P (inOrder last (getD t 0 0)) _ _
+    (λ _. pick-has P (eqb (getD t 0 0) 0x7f) End (Field (getD t 0 0) (sizeOf (getD t 0 0))) (λ _ h. absurd (let z : _≡_ {A = ℕ} 0 1 = cc in omega arith)) (λ _ h. absurd (let z : _≡_ {A = ℕ} 0 1 = cc in omega arith)))
+    (λ _. bad 22 (λ z. omega (arith, z))))
+    (λ _. bad 21 (λ z. omega (arith, z))))
+    (λ _. bad 21 (λ z. omega (arith, z))))
+  where
+    P : Head → Type 0
+    P x = x ≡ Bad number → number ≡ 0 → ⊥
+
+    bad : (k : ℕ) → (k ≡ 0 → ⊥) → P (Bad k)
+    bad k n h z = n (let e : k ≡ number = cc in e ∙ z)
 
 given-from : (fuel : ℕ) (t : List ℕ) (cfg : Config) (last place : ℕ) → Sofar cfg last → Given (readFrom fuel t cfg last place)
 unfolding readFrom
-given-from zero t cfg last place f = given-refused 21 place
+given-from zero t cfg last place f = given-refused 21 place (λ z. omega (arith, z))
 given-from (suc fuel) t cfg last place f = go (λ tag size g. given-from fuel (drop (3 + size) t) (placed cfg tag (entryIn tag t)) tag (place + 1) g) (headOf t last) refl
   where
     next : ℕ → ℕ → Reading
     next tag size = readFrom fuel (drop (3 + size) t) (placed cfg tag (entryIn tag t)) tag (place + 1)
 
     go : ((tag size : ℕ) → Sofar (placed cfg tag (entryIn tag t)) tag → Given (next tag size)) → (x : Head) → headOf t last ≡ x → Given (onHead x t cfg place next)
-    go rest (Bad number) e = given-refused number place
+    go rest (Bad number) e = given-refused number place (bad-number t last number e)
     go rest End e =
         pick-has Given (eqb (length t) 3) (wholeOf cfg) (refusedAt 21 (place + 1))
-        (λ _. record { sound = config-made cfg (f .kinds); blank = λ n. absurd (n refl) })
-        (λ _. given-refused 21 (place + 1))
+        (λ _. record { sound = config-made cfg (f .kinds); blank = λ n. absurd (n refl); number = λ _. refl })
+        (λ _. given-refused 21 (place + 1) (λ z. omega (arith, z)))
     go rest (Field tag size) e =
         pick-has Given (eqb (bodyFault cfg tag t) 0) (next tag size) (refusedAt (bodyFault cfg tag t) place)
         (λ z. rest tag size (sofar-field cfg last tag t f (order-up last tag (field-frame t last e .order)) (eqb-true (bodyFault cfg tag t) 0 z)))
-        (λ _. given-refused (bodyFault cfg tag t) place)
+        (λ n. given-refused (bodyFault cfg tag t) place (eqb-false (bodyFault cfg tag t) 0 n))
 
 -- any bytes whatever
 pub given : (s : List ℕ) → Given (configOf s)
@@ -164,3 +185,7 @@ read-sound s h = given s .sound
 -- a refused one is blank
 pub read-blank : (s : List ℕ) → (configOf s .outcome ≡ Whole → ⊥) → configOf s .config ≡ noConfig
 read-blank s = given s .blank
+
+-- a reading whose number is 0 is whole
+pub read-number : (s : List ℕ) → refusalIn (configOf s .outcome) ≡ 0 → configOf s .outcome ≡ Whole
+read-number s = given s .number
