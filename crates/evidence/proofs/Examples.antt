@@ -11,53 +11,139 @@ use Rattle.laws.specs.Row.{eachBelow, shifted, placeFilled, filled}
 use Rattle.values.specs.Values.{isVoid, isPayload, isGood, sameValue, voidV, numberV, okV}
 use Rattle.config.specs.Tables.{runnableConfIn, addRunnableConf, variableConfIn, addVariableConf, areaConfIn, addAreaConf, requiredConfIn, addRequiredConf, providedConfIn, addProvidedConf, linkIn, addLink, operationConfIn, addOperationConf, timerConfIn, addTimerConf, dataEventIn, addDataEvent, returnEventIn, addReturnEvent, noConfig, noRunnableConf, noAreaConf, noRequiredConf, noOperationConf, noVariableConfs, noProvidedConfs, noLinks, noTimerConfs, noDataEvents, noReturnEvents}
 use Rattle.state.specs.Parts.{noRequests, noRunnable, noValues, noElement, noStack, noSlot, noClient, noOwed, noVariable, noArea, noOperation, noTimer}
-use Rattle.state.specs.Tables.{withRunnables, withVariables, withAreas, withElements, withOperations, withTimers, noRunnables, runnableIn, withRunnable, noVariables, variableIn, withVariable, noAreas, areaIn, withArea, noElements, elementIn, withElement, noOperations, operationIn, withOperation, noTimers, timerIn, withTimer, noSlots, slotIn, withSlot}
+use Rattle.state.specs.Tables.{withRunnables, withVariables, withAreas, withElements, withOperations, withTimers, withSlots, noRunnables, runnableIn, withRunnable, noVariables, variableIn, withVariable, noAreas, areaIn, withArea, noElements, elementIn, withElement, noOperations, operationIn, withOperation, noTimers, timerIn, withTimer, noSlots, slotIn, withSlot}
 use Rattle.state.specs.Queues.{pushRequest, firstRequest, restRequests, pushValue, firstValue, restValues, pushArea, topArea, popArea}
 use Rattle.state.specs.Start.{startVariable, startElement, startRunnables, startVariables, startElements, startOf}
 use Rattle.entries.specs.Entries.{maxOf, countOf, placesOf, entryOf, placed}
 use Rattle.entries.specs.Faults.{inRange, namesThere, isServer, isQueued, rises, risesAt, pairsWell, entryFault, isNoEntry, placeSound, kindSound, configSound}
 use Rattle.rules.specs.Sound.{isNoClient, clientFits, requestsSound, valuesSound, runnableSound, variableSound, isStored, elementSound, isOutcome, callingSound, doneSound, operationSound, timerSound, waitsWell, lifeSound, owedSound, areaFits, stackSound, isNoSlot, slotSound, ofRunnable, slotsOf, countSound, timesIn, holders, areaSound, isClient, queuedAs, servedAs, clientsAs, numbered, clientSound, queuedSound, servedSound, calledSound, runnablesSound, variablesSound, elementsSound, operationsSound, timersSound, slotsSound, countsSound, areasSound, clientsSound, shaped, soundOf}
+use Rattle.values.specs.declared.Value.{Value}
 use Rattle.config.specs.declared.Config.{Config}
+use Rattle.state.specs.declared.Client.{Client}
+use Rattle.state.specs.declared.Requests.{Requests}
+use Rattle.state.specs.declared.Runnables.{Runnables}
+use Rattle.state.specs.declared.Elements.{Elements}
+use Rattle.state.specs.declared.Operations.{Operations}
+use Rattle.state.specs.declared.Life.{Life}
+use Rattle.state.specs.declared.Stack.{Stack}
 use Rattle.state.specs.declared.Slot.{Slot}
+use Rattle.state.specs.declared.Slots.{Slots}
 use Rattle.state.specs.declared.State.{State}
 
--- ---- the configuration: a client and a server component, a synchronous and an asynchronous operation of the one on the other, two areas, a queued element
+-- ---- the configuration: a client and a server component with two runnables each, a synchronous and two asynchronous operations of the one on the other, two areas, a queued element
 
-pub config : Config
-config = record {
-  runnables = record { n = 2; at = set (set (replicate 16 noRunnableConf) 0 (record { component = 0; concurrent = false; init = true; interval = 5; capacity = 0 })) 1 (record { component = 1; concurrent = true; init = false; interval = 0; capacity = 3 }) };
+-- with a timeout for the last operation
+pub configWith : ℕ → Config
+configWith timeout = record {
+  runnables =
+      record {
+        n = 4;
+        at = set (set (set (set (replicate 16 noRunnableConf)
+            0 (record { component = 0; concurrent = false; init = true; interval = 5; capacity = 0 }))
+            1 (record { component = 1; concurrent = true; init = false; interval = 0; capacity = 3 }))
+            2 (record { component = 0; concurrent = true; init = false; interval = 0; capacity = 0 }))
+            3 (record { component = 1; concurrent = false; init = false; interval = 0; capacity = 1 });
+      };
   variables = noVariableConfs;
   areas = record { n = 2; at = replicate 16 noAreaConf };
   required = record { n = 1; at = set (replicate 16 noRequiredConf) 0 (record { component = 0; capacity = 2 }) };
   provided = noProvidedConfs;
   links = noLinks;
-  operations = record { n = 2; at = set (set (replicate 8 noOperationConf) 0 (record { component = 0; asynchronous = false; server = 1; timeout = 50 })) 1 (record { component = 0; asynchronous = true; server = 1; timeout = 70 }) };
+  operations =
+      record {
+        n = 3;
+        at = set (set (set (replicate 8 noOperationConf)
+            0 (record { component = 0; asynchronous = false; server = 1; timeout = 50 }))
+            1 (record { component = 0; asynchronous = true; server = 1; timeout = 70 }))
+            2 (record { component = 0; asynchronous = true; server = 3; timeout = timeout });
+      };
   timers = noTimerConfs;
   devents = noDataEvents;
   revents = noReturnEvents;
 }
 
+pub config : Config
+config = configWith 10
+
 -- ---- the state: the client waits on the first operation and holds both areas, one inside the other; the server serves its call; a call of the second waits; a value waits
 
-pub caller : ℕ → Slot
-caller on = record { used = true; life = record { runnable = 0; waiting = true; on = on; finished = false }; owed = noOwed; stack = record { held = 2; at = set (set (replicate 16 0) 0 1) 1 0 } }
+-- an instance of the client, with the operation that it waits on, whether it is finished, and its stack
+pub caller : ℕ → Bool → Stack → Slot
+caller on finished stack = record { used = true; life = record { runnable = 0; waiting = true; on = on; finished = finished }; owed = noOwed; stack = stack }
 
-pub served : ℕ → Bool → Slot
-served m finished = record { used = true; life = record { runnable = 1; waiting = false; on = 0; finished = finished }; owed = record { serving = true; client = record { operation = 0; number = m; argument = numberV 7 } }; stack = noStack }
+-- both areas, the second at the bottom
+pub nested : Stack
+nested = record { held = 2; at = set (set (replicate 16 0) 0 1) 1 0 }
 
-pub client : ℕ → Slot → Slot → State
-client instances first second = record {
-  runnables = record { at = set (set (replicate 16 noRunnable) 0 (record { interval = 2; pending = true; instances = instances; requests = noRequests })) 1 (record { interval = 0; pending = false; instances = 1; requests = record { queued = 1; at = set (replicate 16 noClient) 0 (record { operation = 1; number = 3; argument = voidV }) } }) };
-  variables = noVariables;
-  areas = record { at = set (set (replicate 16 noArea) 0 (record { taken = true })) 1 (record { taken = true }) };
-  elements = record { at = set (replicate 16 noElement) 0 (record { value = voidV; updated = false; queue = record { queued = 1; at = set (replicate 16 voidV) 0 (numberV 9) } }) };
-  operations = record { at = set (set (replicate 8 noOperation) 0 (record { number = 4; calling = true; count = 50; done = voidV })) 1 (record { number = 3; calling = true; count = 1; done = voidV }) };
-  timers = noTimers;
-  slots = record { at = set (set (replicate 32 noSlot) 0 first) 1 second };
+-- one area alone
+pub one : ℕ → Stack
+one a = record { held = 1; at = set (replicate 16 0) 0 a }
+
+-- an instance of the server, with its client's operation and number, its life and its stack
+pub served : ℕ → ℕ → Life → Stack → Slot
+served o m life stack = record { used = true; life = life; owed = record { serving = true; client = record { operation = o; number = m; argument = numberV 7 } }; stack = stack }
+
+-- the life of a server's instance: at work, or finished, or waiting
+pub life : Bool → Bool → Life
+life waiting finished = record { runnable = 1; waiting = waiting; on = 0; finished = finished }
+
+-- an instance of the runnable r that neither waits nor serves
+pub idle : ℕ → Stack → Slot
+idle r stack = record { used = true; life = record { runnable = r; waiting = false; on = 0; finished = false }; owed = noOwed; stack = stack }
+
+pub first : Slot
+first = caller 0 false nested
+
+pub second : Slot
+second = served 0 4 (life false false) noStack
+
+-- three slots, all others empty
+pub slotsWith : Slot → Slot → Slot → Slots
+slotsWith x y z = record { at = set (set (set (replicate 32 noSlot) 0 x) 1 y) 2 z }
+
+-- the runnables, with the instances of the client, the server's pending flag and requests, and the instances of the third runnable
+pub runnablesWith : ℕ → Bool → Requests → ℕ → Runnables
+runnablesWith clients pending requests others = record {
+  at = set (set (set (replicate 16 noRunnable)
+      0 (record { interval = 2; pending = true; instances = clients; requests = noRequests }))
+      1 (record { interval = 0; pending = pending; instances = 1; requests = requests }))
+      2 (record { interval = 0; pending = false; instances = others; requests = noRequests });
 }
 
+-- a client of the second operation
+pub asked : ℕ → Client
+asked m = record { operation = 1; number = m; argument = voidV }
+
+-- one request in the server's queue, or two
+pub queueOne : Client → Requests
+queueOne c = record { queued = 1; at = set (replicate 16 noClient) 0 c }
+
+pub queueTwo : Client → Client → Requests
+queueTwo c d = record { queued = 2; at = set (set (replicate 16 noClient) 0 c) 1 d }
+
+-- the operations: the count of the first call, the number of the second, and the number of the third, which is Done
+pub operationsWith : ℕ → ℕ → ℕ → Operations
+operationsWith count number past = record {
+  at = set (set (set (replicate 8 noOperation)
+      0 (record { number = 4; calling = true; count = count; done = voidV }))
+      1 (record { number = number; calling = true; count = 1; done = voidV }))
+      2 (record { number = past; calling = false; count = 0; done = voidV });
+}
+
+-- one element, with a queue of values
+pub elementsWith : ℕ → List Value → Elements
+elementsWith queued at = record { at = set (replicate 16 noElement) 0 (record { value = voidV; updated = false; queue = record { queued = queued; at = at } }) }
+
 pub state : State
-state = client 1 (caller 0) (served 4 false)
+state = record {
+  runnables = runnablesWith 1 false (queueOne (asked 3)) 0;
+  variables = noVariables;
+  areas = record { at = set (set (replicate 16 noArea) 0 (record { taken = true })) 1 (record { taken = true }) };
+  elements = elementsWith 1 (set (replicate 16 voidV) 0 (numberV 9));
+  operations = operationsWith 50 3 0;
+  timers = noTimers;
+  slots = slotsWith first second noSlot;
+}
 
 -- the clauses of soundness, one beside the other
 pub clauses : Config → State → List Bool
@@ -81,72 +167,146 @@ unfolding soundOf clauses
 clauses-are cfg st = refl
 
 pub state-sound : soundOf config state ≡ true
-unfolding allOf allBelow anyBelow sumBelow firstBelow eachBelow shifted placeFilled filled isVoid isPayload isGood sameValue runnableConfIn addRunnableConf variableConfIn addVariableConf areaConfIn addAreaConf requiredConfIn addRequiredConf providedConfIn addProvidedConf linkIn addLink operationConfIn addOperationConf timerConfIn addTimerConf dataEventIn addDataEvent returnEventIn addReturnEvent noConfig noRequests noRunnable noValues noElement noStack noSlot noRunnables runnableIn withRunnable noVariables variableIn withVariable noAreas areaIn withArea noElements elementIn withElement noOperations operationIn withOperation noTimers timerIn withTimer noSlots slotIn withSlot pushRequest firstRequest restRequests pushValue firstValue restValues pushArea topArea popArea startVariable startElement startRunnables startVariables startElements startOf maxOf countOf placesOf entryOf placed inRange namesThere isServer isQueued rises risesAt pairsWell entryFault isNoEntry placeSound kindSound configSound isNoClient clientFits requestsSound valuesSound runnableSound variableSound isStored elementSound isOutcome callingSound doneSound operationSound timerSound waitsWell lifeSound owedSound areaFits stackSound isNoSlot slotSound ofRunnable slotsOf countSound timesIn holders areaSound isClient queuedAs servedAs clientsAs numbered clientSound queuedSound servedSound calledSound runnablesSound variablesSound elementsSound operationsSound timersSound slotsSound countsSound areasSound clientsSound shaped soundOf config caller served client state
+unfolding allOf allBelow anyBelow sumBelow firstBelow eachBelow shifted placeFilled filled isVoid isPayload isGood sameValue runnableConfIn addRunnableConf variableConfIn addVariableConf areaConfIn addAreaConf requiredConfIn addRequiredConf providedConfIn addProvidedConf linkIn addLink operationConfIn addOperationConf timerConfIn addTimerConf dataEventIn addDataEvent returnEventIn addReturnEvent noConfig noRequests noRunnable noValues noElement noStack noSlot noRunnables runnableIn withRunnable noVariables variableIn withVariable noAreas areaIn withArea noElements elementIn withElement noOperations operationIn withOperation noTimers timerIn withTimer noSlots slotIn withSlot pushRequest firstRequest restRequests pushValue firstValue restValues pushArea topArea popArea startVariable startElement startRunnables startVariables startElements startOf maxOf countOf placesOf entryOf placed inRange namesThere isServer isQueued rises risesAt pairsWell entryFault isNoEntry placeSound kindSound configSound isNoClient clientFits requestsSound valuesSound runnableSound variableSound isStored elementSound isOutcome callingSound doneSound operationSound timerSound waitsWell lifeSound owedSound areaFits stackSound isNoSlot slotSound ofRunnable slotsOf countSound timesIn holders areaSound isClient queuedAs servedAs clientsAs numbered clientSound queuedSound servedSound calledSound runnablesSound variablesSound elementsSound operationsSound timersSound slotsSound countsSound areasSound clientsSound shaped soundOf configWith config caller nested one served life idle first second slotsWith runnablesWith asked queueOne queueTwo operationsWith elementsWith state
 state-sound = refl
 
 -- ---- near it, and unsound for one clause alone
 
--- a state, and which of the clauses are to hold of it, in their order
+-- a configuration and a state, and the one clause that fails, counted from 0
 pub record Near : Type 0 where
+  pub config : Config
   pub state : State
-  pub holds : List Bool
+  pub fails : ℕ
 
--- a runnable counts an instance too few
-noInstance : Near
-noInstance = record { state = client 0 (caller 0) (served 4 false); holds = true ∷ true ∷ true ∷ true ∷ true ∷ true ∷ true ∷ true ∷ false ∷ true ∷ true ∷ [] }
+-- all eleven hold but one
+pub allBut : ℕ → List Bool
+allBut k = set (replicate 11 true) k false
 
--- an instance waits on an asynchronous operation
-waitsAsync : Near
-waitsAsync = record { state = client 1 (caller 1) (served 4 false); holds = true ∷ true ∷ true ∷ true ∷ true ∷ true ∷ true ∷ false ∷ true ∷ true ∷ true ∷ [] }
+-- an operation has no time: the configuration is at fault
+unconfigured : Near
+unconfigured = record { config = configWith 0; state = state; fails = 0 }
 
--- a finished instance still has its client
-owesFinished : Near
-owesFinished = record { state = client 1 (caller 0) (served 4 true); holds = true ∷ true ∷ true ∷ true ∷ true ∷ true ∷ true ∷ false ∷ true ∷ true ∷ true ∷ [] }
-
--- an open call has no client with its number
-callAlone : Near
-callAlone = record { state = client 1 (caller 0) (served 3 false); holds = true ∷ true ∷ true ∷ true ∷ true ∷ true ∷ true ∷ true ∷ true ∷ true ∷ false ∷ [] }
-
--- a client's number is above its operation's
-numberAbove : Near
-numberAbove = record { state = client 1 (caller 0) (served 5 false); holds = true ∷ true ∷ true ∷ true ∷ true ∷ true ∷ true ∷ true ∷ true ∷ true ∷ false ∷ [] }
-
--- an area that lies in a stack is free
-heldFree : Near
-heldFree = record { state = withAreas state (record { at = set (replicate 16 noArea) 0 (record { taken = true }) }); holds = true ∷ true ∷ true ∷ true ∷ true ∷ true ∷ true ∷ true ∷ true ∷ false ∷ true ∷ [] }
-
--- a queue is longer than its capacity
-queueLong : Near
-queueLong = record { state = withElements state (record { at = set (replicate 16 noElement) 0 (record { value = voidV; updated = false; queue = record { queued = 3; at = replicate 16 voidV } }) }); holds = true ∷ true ∷ true ∷ true ∷ false ∷ true ∷ true ∷ true ∷ true ∷ true ∷ true ∷ [] }
-
--- a queue holds what is no payload
-queueOk : Near
-queueOk = record { state = withElements state (record { at = set (replicate 16 noElement) 0 (record { value = voidV; updated = false; queue = record { queued = 1; at = set (replicate 16 voidV) 0 okV } }) }); holds = true ∷ true ∷ true ∷ true ∷ false ∷ true ∷ true ∷ true ∷ true ∷ true ∷ true ∷ [] }
-
--- a place behind a queue is not blank
-behindQueue : Near
-behindQueue = record { state = withElements state (record { at = set (replicate 16 noElement) 0 (record { value = voidV; updated = false; queue = record { queued = 1; at = set (replicate 16 voidV) 1 (numberV 9) } }) }); holds = true ∷ true ∷ true ∷ true ∷ false ∷ true ∷ true ∷ true ∷ true ∷ true ∷ true ∷ [] }
-
--- a variable that is not there holds a value
-variableUnused : Near
-variableUnused = record { state = withVariables state (record { at = set (replicate 16 noVariable) 3 (record { value = numberV 0 }) }); holds = true ∷ true ∷ true ∷ false ∷ true ∷ true ∷ true ∷ true ∷ true ∷ true ∷ true ∷ [] }
-
--- a timer that is not there runs
-timerUnused : Near
-timerUnused = record { state = withTimers state (record { at = set (replicate 8 noTimer) 0 (record { count = 1 }) }); holds = true ∷ true ∷ true ∷ true ∷ true ∷ true ∷ false ∷ true ∷ true ∷ true ∷ true ∷ [] }
-
--- a count is above the timeout
-countAbove : Near
-countAbove = record { state = withOperations state (record { at = set (set (replicate 8 noOperation) 0 (record { number = 4; calling = true; count = 51; done = voidV })) 1 (record { number = 3; calling = true; count = 1; done = voidV }) }); holds = true ∷ true ∷ true ∷ true ∷ true ∷ false ∷ true ∷ true ∷ true ∷ true ∷ true ∷ [] }
+-- there is a slot too many
+slotsMore : Near
+slotsMore = record { config = config; state = withSlots state (record { at = set (set (replicate 33 noSlot) 0 first) 1 second }); fails = 1 }
 
 -- a server is pending
 serverPending : Near
-serverPending = record { state = withRunnables state (record { at = set (set (replicate 16 noRunnable) 0 (record { interval = 2; pending = true; instances = 1; requests = noRequests })) 1 (record { interval = 0; pending = true; instances = 1; requests = record { queued = 1; at = set (replicate 16 noClient) 0 (record { operation = 1; number = 3; argument = voidV }) } }) }); holds = true ∷ true ∷ false ∷ true ∷ true ∷ true ∷ true ∷ true ∷ true ∷ true ∷ true ∷ [] }
+serverPending = record { config = config; state = withRunnables state (runnablesWith 1 true (queueOne (asked 3)) 0); fails = 2 }
+
+-- two instances of a runnable without the flag
+twiceWithout : Near
+twiceWithout = record { config = config; state = withSlots (withRunnables state (runnablesWith 2 false (queueOne (asked 3)) 0)) (slotsWith first second (idle 0 noStack)); fails = 2 }
+
+-- a request is for another server
+otherServer : Near
+otherServer = record { config = config; state = withOperations (withRunnables state (runnablesWith 1 false (queueTwo (asked 3) (record { operation = 2; number = 0; argument = voidV })) 0)) (operationsWith 50 3 1); fails = 2 }
+
+-- a variable that is not there holds a value
+variableUnused : Near
+variableUnused = record { config = config; state = withVariables state (record { at = set (replicate 16 noVariable) 3 (record { value = numberV 0 }) }); fails = 3 }
+
+-- a queue is longer than its capacity
+queueLong : Near
+queueLong = record { config = config; state = withElements state (elementsWith 3 (replicate 16 voidV)); fails = 4 }
+
+-- a queue holds what is no payload
+queueOk : Near
+queueOk = record { config = config; state = withElements state (elementsWith 1 (set (replicate 16 voidV) 0 okV)); fails = 4 }
+
+-- a place behind a queue is not blank
+behindQueue : Near
+behindQueue = record { config = config; state = withElements state (elementsWith 1 (set (replicate 16 voidV) 1 (numberV 9))); fails = 4 }
+
+-- a count is above the timeout
+countAbove : Near
+countAbove = record { config = config; state = withOperations state (operationsWith 51 3 0); fails = 5 }
+
+-- a call is open with the number 65,535
+numberTop : Near
+numberTop = record { config = config; state = withOperations (withRunnables state (runnablesWith 1 false (queueOne (asked 65535)) 0)) (operationsWith 50 65535 0); fails = 5 }
+
+-- a timer that is not there runs
+timerUnused : Near
+timerUnused = record { config = config; state = withTimers state (record { at = set (replicate 8 noTimer) 0 (record { count = 1 }) }); fails = 6 }
+
+-- an instance waits on an asynchronous operation
+waitsAsync : Near
+waitsAsync = record { config = config; state = withSlots state (slotsWith (caller 1 false nested) second noSlot); fails = 7 }
+
+-- an instance waits on an operation of another component
+waitsForeign : Near
+waitsForeign = record { config = config; state = withSlots state (slotsWith first (served 0 4 (life true false) noStack) noSlot); fails = 7 }
+
+-- a finished instance still has its client
+owesFinished : Near
+owesFinished = record { config = config; state = withSlots state (slotsWith first (served 0 4 (life false true) noStack) noSlot); fails = 7 }
+
+-- a plain instance is finished
+finishedPlain : Near
+finishedPlain = record { config = config; state = withSlots state (slotsWith (caller 0 true nested) second noSlot); fails = 7 }
+
+-- an area lies on the stack of another component
+foreignArea : Near
+foreignArea = record { config = config; state = withSlots state (slotsWith (caller 0 false (one 0)) (served 0 4 (life false false) (one 1)) noSlot); fails = 7 }
+
+-- a place of an empty slot is not blank
+emptyUsed : Near
+emptyUsed = record { config = config; state = withSlots state (slotsWith first second (record { used = false; life = life false false; owed = noOwed; stack = noStack })); fails = 7 }
+
+-- a runnable counts fewer instances than it has
+noInstance : Near
+noInstance = record { config = config; state = withRunnables state (runnablesWith 0 false (queueOne (asked 3)) 0); fails = 8 }
+
+-- an area that lies in a stack is free
+heldFree : Near
+heldFree = record { config = config; state = withAreas state (record { at = set (replicate 16 noArea) 0 (record { taken = true }) }); fails = 9 }
+
+-- an area lies in two stacks
+heldTwice : Near
+heldTwice = record { config = config; state = withSlots (withRunnables state (runnablesWith 1 false (queueOne (asked 3)) 1)) (slotsWith first second (idle 2 (one 0))); fails = 9 }
+
+-- an open call has no client with its number
+callAlone : Near
+callAlone = record { config = config; state = withSlots state (slotsWith first (served 0 3 (life false false) noStack) noSlot); fails = 10 }
+
+-- a client's number is above its operation's
+numberAbove : Near
+numberAbove = record { config = config; state = withSlots state (slotsWith first (served 0 5 (life false false) noStack) noSlot); fails = 10 }
+
+-- two clients share operation and number
+clientTwice : Near
+clientTwice = record { config = config; state = withRunnables state (runnablesWith 1 false (queueTwo (asked 3) (asked 3)) 0); fails = 10 }
 
 pub near : List Near
-near = noInstance ∷ waitsAsync ∷ owesFinished ∷ callAlone ∷ numberAbove ∷ heldFree ∷ queueLong ∷ queueOk ∷ behindQueue ∷ variableUnused ∷ timerUnused ∷ countAbove ∷ serverPending ∷ []
+near =
+    unconfigured
+    ∷ slotsMore
+    ∷ serverPending
+    ∷ twiceWithout
+    ∷ otherServer
+    ∷ variableUnused
+    ∷ queueLong
+    ∷ queueOk
+    ∷ behindQueue
+    ∷ countAbove
+    ∷ numberTop
+    ∷ timerUnused
+    ∷ waitsAsync
+    ∷ waitsForeign
+    ∷ owesFinished
+    ∷ finishedPlain
+    ∷ foreignArea
+    ∷ emptyUsed
+    ∷ noInstance
+    ∷ heldFree
+    ∷ heldTwice
+    ∷ callAlone
+    ∷ numberAbove
+    ∷ clientTwice
+    ∷ []
 
 -- of each, the clauses hold as it says: all but one
-pub near-unsound : map (λ (x : Near). clauses config (x .state)) near ≡ map (λ (x : Near). x .holds) near
-unfolding allOf allBelow anyBelow sumBelow firstBelow eachBelow shifted placeFilled filled isVoid isPayload isGood sameValue runnableConfIn addRunnableConf variableConfIn addVariableConf areaConfIn addAreaConf requiredConfIn addRequiredConf providedConfIn addProvidedConf linkIn addLink operationConfIn addOperationConf timerConfIn addTimerConf dataEventIn addDataEvent returnEventIn addReturnEvent noConfig noRequests noRunnable noValues noElement noStack noSlot noRunnables runnableIn withRunnable noVariables variableIn withVariable noAreas areaIn withArea noElements elementIn withElement noOperations operationIn withOperation noTimers timerIn withTimer noSlots slotIn withSlot pushRequest firstRequest restRequests pushValue firstValue restValues pushArea topArea popArea startVariable startElement startRunnables startVariables startElements startOf maxOf countOf placesOf entryOf placed inRange namesThere isServer isQueued rises risesAt pairsWell entryFault isNoEntry placeSound kindSound configSound isNoClient clientFits requestsSound valuesSound runnableSound variableSound isStored elementSound isOutcome callingSound doneSound operationSound timerSound waitsWell lifeSound owedSound areaFits stackSound isNoSlot slotSound ofRunnable slotsOf countSound timesIn holders areaSound isClient queuedAs servedAs clientsAs numbered clientSound queuedSound servedSound calledSound runnablesSound variablesSound elementsSound operationsSound timersSound slotsSound countsSound areasSound clientsSound shaped soundOf config caller served client state clauses near noInstance waitsAsync owesFinished callAlone numberAbove heldFree queueLong queueOk behindQueue variableUnused timerUnused countAbove serverPending
+pub near-unsound : map (λ (x : Near). clauses (x .config) (x .state)) near ≡ map (λ (x : Near). allBut (x .fails)) near
+unfolding allOf allBelow anyBelow sumBelow firstBelow eachBelow shifted placeFilled filled isVoid isPayload isGood sameValue runnableConfIn addRunnableConf variableConfIn addVariableConf areaConfIn addAreaConf requiredConfIn addRequiredConf providedConfIn addProvidedConf linkIn addLink operationConfIn addOperationConf timerConfIn addTimerConf dataEventIn addDataEvent returnEventIn addReturnEvent noConfig noRequests noRunnable noValues noElement noStack noSlot noRunnables runnableIn withRunnable noVariables variableIn withVariable noAreas areaIn withArea noElements elementIn withElement noOperations operationIn withOperation noTimers timerIn withTimer noSlots slotIn withSlot pushRequest firstRequest restRequests pushValue firstValue restValues pushArea topArea popArea startVariable startElement startRunnables startVariables startElements startOf maxOf countOf placesOf entryOf placed inRange namesThere isServer isQueued rises risesAt pairsWell entryFault isNoEntry placeSound kindSound configSound isNoClient clientFits requestsSound valuesSound runnableSound variableSound isStored elementSound isOutcome callingSound doneSound operationSound timerSound waitsWell lifeSound owedSound areaFits stackSound isNoSlot slotSound ofRunnable slotsOf countSound timesIn holders areaSound isClient queuedAs servedAs clientsAs numbered clientSound queuedSound servedSound calledSound runnablesSound variablesSound elementsSound operationsSound timersSound slotsSound countsSound areasSound clientsSound shaped soundOf configWith config caller nested one served life idle first second slotsWith runnablesWith asked queueOne queueTwo operationsWith elementsWith state clauses near allBut unconfigured slotsMore serverPending twiceWithout otherServer variableUnused queueLong queueOk behindQueue countAbove numberTop timerUnused waitsAsync waitsForeign owesFinished finishedPlain foreignArea emptyUsed noInstance heldFree heldTwice callAlone numberAbove clientTwice
 near-unsound = refl

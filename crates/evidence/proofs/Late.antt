@@ -1,12 +1,14 @@
--- The late plan's table: eight pairs of files, from their bytes to the line that is printed, in one claim over the definition that the program's contract cites.
+-- The late plan's table: eight pairs of files, from their bytes to the line that is printed, in one claim over the definition that the program's contract cites;
+-- and the history of two of them, in which the call is followed to its end.
 -- Assumes nothing.
 use Prim.Native.Nat.{ℕ}
 use mathlib.Core.List.{List, [], _∷_, _++_, map}
 use mathlib.Core.Path.{_≡_, refl}
+use lib.ListN.{take, set, replicate}
 use Rattle.laws.specs.Choice.{allOf}
 use Rattle.laws.specs.Loop.{allBelow, anyBelow, sumBelow, firstBelow}
 use Rattle.laws.specs.Row.{eachBelow, shifted, placeFilled, filled}
-use Rattle.values.specs.Values.{isVoid, isPayload, isGood, sameValue}
+use Rattle.values.specs.Values.{isVoid, isPayload, isGood, sameValue, numberV}
 use Rattle.config.specs.Tables.{runnableConfIn, addRunnableConf, variableConfIn, addVariableConf, areaConfIn, addAreaConf, requiredConfIn, addRequiredConf, providedConfIn, addProvidedConf, linkIn, addLink, operationConfIn, addOperationConf, timerConfIn, addTimerConf, dataEventIn, addDataEvent, returnEventIn, addReturnEvent, noConfig}
 use Rattle.state.specs.Parts.{noRequests, noRunnable, noValues, noElement, noStack, noSlot}
 use Rattle.state.specs.Tables.{noRunnables, runnableIn, withRunnable, noVariables, variableIn, withVariable, noAreas, areaIn, withArea, noElements, elementIn, withElement, noOperations, operationIn, withOperation, noTimers, timerIn, withTimer, noSlots, slotIn, withSlot}
@@ -18,12 +20,14 @@ use Rattle.rules.specs.Sound.{isNoClient, clientFits, requestsSound, valuesSoun
 use Rattle.rules.specs.Refusals.{parts, queueings, arguments, partOf, queueingOf, argumentOf, argues, formed, partThere, queuesAs, partOwn, asksSynchronous, lifeLets, instanceRefusal, schedulerRefusal}
 use Rattle.rules.specs.Steps.{readVariableOf, writeVariableOf, enterOf, onTop, exitOf, readOf, updatedOf, linked, accepts, fedElement, fedElements, feeds, isFed, fedRunnables, fed, writeOf, invalidateOf, isFull, anyFull, sendOf, receiveOf, requestsFull, callerAfter, called, callOf, pollOf, collectOf, resultOf, closing, returns, isReturned, returnedRunnables, closed, answers, handBackOf, timeoutOf, endOf, isDue, maySpawn, starting, instanceOf, isEmptyAt, lowestEmpty, foundEmpty, spawned, spawnOf, tickOf, operationLets, timerLets, runnableLets, operationsLet, timersLet, runnablesLet, operationAfter, operationsAfter, timersAfter, runnablesAfter, waitOf}
 use Rattle.rules.specs.Step.{instanceActOf, schedulerActOf, instanceStepOf, schedulerStepOf, possibleOf, claimedOf, innerOf, stepOf}
+use Rattle.recording.specs.Whole.{wholeFrom, wholeOf, stepsIn}
 use Rattle.recording.specs.Recording.{valuesGood, tested, stepIn, endIn, fieldOf}
 use Rattle.reading.specs.Reading.{sizeOf, entryIn, inOrder, headOf, bodyFault, refusedAt, readFrom, configOf}
 use Rattle.judging.specs.Judging.{judgeFrom, judgeOf, restOf}
 use Rattle.judging.specs.Line.{judgedLine, readLine, lineOf}
 use Rattle.judging.specs.declared.Line.{Line}
 use Rattle.judging.specs.declared.Line.the-variants.{Accepted, Refused}
+use Rattle.history.specs.History.{noRequest, byTimeout, byInstance, History, nothing, observe, historyFrom, historyOf, timeOf, timeIn, timeSince}
 
 -- ---- the fields, byte by byte
 
@@ -175,7 +179,7 @@ pub record Row : Type 0 where
   pub line : Line
 
 -- (a) the late plan
-late : Row
+pub late : Row
 late = record { config = lateConfig; recording = file (spawnClient ∷ callSeven ∷ spawnServer ∷ waitFifty ∷ timesOut ∷ backLate ∷ askTimeout ∷ []); line = Accepted 7 }
 
 -- (b) the same recording with a lie in it: the client says that it got the plan
@@ -187,7 +191,7 @@ waitTooLong : Row
 waitTooLong = record { config = lateConfig; recording = file (spawnClient ∷ callSeven ∷ spawnServer ∷ waitLonger ∷ []); line = Refused 4 13 }
 
 -- (d) the plan in time, before its timeout: the hand back answers 1, and the client gets 9
-inTime : Row
+pub inTime : Row
 inTime = record { config = lateConfig; recording = file (spawnClient ∷ callSeven ∷ spawnServer ∷ backInTime ∷ askNine ∷ []); line = Accepted 5 }
 
 -- (e) where nothing was called yet, a result is Void
@@ -212,3 +216,34 @@ table = late ∷ falseClaim ∷ waitTooLong ∷ inTime ∷ noCall ∷ callTwice 
 pub late-plans : map (λ (x : Row). lineOf (x .config) (x .recording)) table ≡ map (λ (x : Row). x .line) table
 unfolding allOf allBelow anyBelow sumBelow firstBelow eachBelow shifted placeFilled filled isVoid isPayload isGood sameValue runnableConfIn addRunnableConf variableConfIn addVariableConf areaConfIn addAreaConf requiredConfIn addRequiredConf providedConfIn addProvidedConf linkIn addLink operationConfIn addOperationConf timerConfIn addTimerConf dataEventIn addDataEvent returnEventIn addReturnEvent noConfig noRequests noRunnable noValues noElement noStack noSlot noRunnables runnableIn withRunnable noVariables variableIn withVariable noAreas areaIn withArea noElements elementIn withElement noOperations operationIn withOperation noTimers timerIn withTimer noSlots slotIn withSlot pushRequest firstRequest restRequests pushValue firstValue restValues pushArea topArea popArea startVariable startElement startRunnables startVariables startElements startOf maxOf countOf placesOf entryOf placed inRange namesThere isServer isQueued rises risesAt pairsWell entryFault isNoEntry placeSound kindSound configSound isNoClient clientFits requestsSound valuesSound runnableSound variableSound isStored elementSound isOutcome callingSound doneSound operationSound timerSound waitsWell lifeSound owedSound areaFits stackSound isNoSlot slotSound ofRunnable slotsOf countSound timesIn holders areaSound isClient queuedAs servedAs clientsAs numbered clientSound queuedSound servedSound calledSound runnablesSound variablesSound elementsSound operationsSound timersSound slotsSound countsSound areasSound clientsSound shaped soundOf parts queueings arguments partOf queueingOf argumentOf argues formed partThere queuesAs partOwn asksSynchronous lifeLets instanceRefusal schedulerRefusal readVariableOf writeVariableOf enterOf onTop exitOf readOf updatedOf linked accepts fedElement fedElements feeds isFed fedRunnables fed writeOf invalidateOf isFull anyFull sendOf receiveOf requestsFull callerAfter called callOf pollOf collectOf resultOf closing returns isReturned returnedRunnables closed answers handBackOf timeoutOf endOf isDue maySpawn starting instanceOf isEmptyAt lowestEmpty foundEmpty spawned spawnOf tickOf operationLets timerLets runnableLets operationsLet timersLet runnablesLet operationAfter operationsAfter timersAfter runnablesAfter waitOf instanceActOf schedulerActOf instanceStepOf schedulerStepOf possibleOf claimedOf innerOf stepOf valuesGood tested stepIn endIn fieldOf sizeOf entryIn inOrder headOf bodyFault refusedAt readFrom configOf judgeFrom judgeOf restOf judgedLine readLine lineOf firstField lastField client server operation area queue sender link spawnClient spawnServer callSeven callAgain waitFifty waitLonger timesOut backLate backInTime askTimeout askNine askVoid enterFirst enterSecond exitFirst sendOne sendTwo sendThree receiveOne receiveTwo receiveNone joined file lateConfig areasConfig queueConfig late falseClaim waitTooLong inTime noCall callTwice exitBelow sendThird table
 late-plans = refl
+
+-- ---- the calls of two rows, followed
+
+-- the history of a row's recording, under its configuration
+pub followed : Row → History
+followed x = historyOf (configOf (x .config) .config) (stepsIn (x .recording))
+
+-- (a) the call at place 2 was ended by the timeout at place 5; the instance in slot 1 had been spawned for it. (d) the same call was ended at place 4, by that instance, with 9
+pub histories : map followed (late ∷ inTime ∷ []) ≡
+    record {
+      place = 7;
+      queued = replicate 16 [];
+      taken = set (replicate 32 noRequest) 1 (record { at = 2; on = 0; argument = numberV 7 });
+      latest = set (replicate 8 0) 0 2;
+      endings = record { on = 0; call = 2; at = 5; how = byTimeout } ∷ [];
+    }
+    ∷ record {
+      place = 5;
+      queued = replicate 16 [];
+      taken = set (replicate 32 noRequest) 1 (record { at = 2; on = 0; argument = numberV 7 });
+      latest = set (replicate 8 0) 0 2;
+      endings = record { on = 0; call = 2; at = 4; how = byInstance 2 (numberV 9) } ∷ [];
+    }
+    ∷ []
+unfolding allOf allBelow anyBelow sumBelow firstBelow eachBelow shifted placeFilled filled isVoid isPayload isGood sameValue runnableConfIn addRunnableConf variableConfIn addVariableConf areaConfIn addAreaConf requiredConfIn addRequiredConf providedConfIn addProvidedConf linkIn addLink operationConfIn addOperationConf timerConfIn addTimerConf dataEventIn addDataEvent returnEventIn addReturnEvent noConfig noRequests noRunnable noValues noElement noStack noSlot noRunnables runnableIn withRunnable noVariables variableIn withVariable noAreas areaIn withArea noElements elementIn withElement noOperations operationIn withOperation noTimers timerIn withTimer noSlots slotIn withSlot pushRequest firstRequest restRequests pushValue firstValue restValues pushArea topArea popArea startVariable startElement startRunnables startVariables startElements startOf maxOf countOf placesOf entryOf placed inRange namesThere isServer isQueued rises risesAt pairsWell entryFault isNoEntry placeSound kindSound configSound isNoClient clientFits requestsSound valuesSound runnableSound variableSound isStored elementSound isOutcome callingSound doneSound operationSound timerSound waitsWell lifeSound owedSound areaFits stackSound isNoSlot slotSound ofRunnable slotsOf countSound timesIn holders areaSound isClient queuedAs servedAs clientsAs numbered clientSound queuedSound servedSound calledSound runnablesSound variablesSound elementsSound operationsSound timersSound slotsSound countsSound areasSound clientsSound shaped soundOf parts queueings arguments partOf queueingOf argumentOf argues formed partThere queuesAs partOwn asksSynchronous lifeLets instanceRefusal schedulerRefusal readVariableOf writeVariableOf enterOf onTop exitOf readOf updatedOf linked accepts fedElement fedElements feeds isFed fedRunnables fed writeOf invalidateOf isFull anyFull sendOf receiveOf requestsFull callerAfter called callOf pollOf collectOf resultOf closing returns isReturned returnedRunnables closed answers handBackOf timeoutOf endOf isDue maySpawn starting instanceOf isEmptyAt lowestEmpty foundEmpty spawned spawnOf tickOf operationLets timerLets runnableLets operationsLet timersLet runnablesLet operationAfter operationsAfter timersAfter runnablesAfter waitOf instanceActOf schedulerActOf instanceStepOf schedulerStepOf possibleOf claimedOf innerOf stepOf valuesGood tested stepIn endIn fieldOf sizeOf entryIn inOrder headOf bodyFault refusedAt readFrom configOf judgeFrom judgeOf restOf judgedLine readLine lineOf firstField lastField client server operation area queue sender link spawnClient spawnServer callSeven callAgain waitFifty waitLonger timesOut backLate backInTime askTimeout askNine askVoid enterFirst enterSecond exitFirst sendOne sendTwo sendThree receiveOne receiveTwo receiveNone joined file lateConfig areasConfig queueConfig late falseClaim waitTooLong inTime noCall callTwice exitBelow sendThird table wholeFrom wholeOf nothing observe historyFrom historyOf followed
+histories = refl
+
+-- (a) the waits from the call at place 2 to the timeout add up to 50
+pub waited : timeSince 2 (take 4 (stepsIn (late .recording))) ≡ 50
+unfolding allOf allBelow anyBelow sumBelow firstBelow eachBelow shifted placeFilled filled isVoid isPayload isGood sameValue runnableConfIn addRunnableConf variableConfIn addVariableConf areaConfIn addAreaConf requiredConfIn addRequiredConf providedConfIn addProvidedConf linkIn addLink operationConfIn addOperationConf timerConfIn addTimerConf dataEventIn addDataEvent returnEventIn addReturnEvent noConfig noRequests noRunnable noValues noElement noStack noSlot noRunnables runnableIn withRunnable noVariables variableIn withVariable noAreas areaIn withArea noElements elementIn withElement noOperations operationIn withOperation noTimers timerIn withTimer noSlots slotIn withSlot pushRequest firstRequest restRequests pushValue firstValue restValues pushArea topArea popArea startVariable startElement startRunnables startVariables startElements startOf maxOf countOf placesOf entryOf placed inRange namesThere isServer isQueued rises risesAt pairsWell entryFault isNoEntry placeSound kindSound configSound isNoClient clientFits requestsSound valuesSound runnableSound variableSound isStored elementSound isOutcome callingSound doneSound operationSound timerSound waitsWell lifeSound owedSound areaFits stackSound isNoSlot slotSound ofRunnable slotsOf countSound timesIn holders areaSound isClient queuedAs servedAs clientsAs numbered clientSound queuedSound servedSound calledSound runnablesSound variablesSound elementsSound operationsSound timersSound slotsSound countsSound areasSound clientsSound shaped soundOf parts queueings arguments partOf queueingOf argumentOf argues formed partThere queuesAs partOwn asksSynchronous lifeLets instanceRefusal schedulerRefusal readVariableOf writeVariableOf enterOf onTop exitOf readOf updatedOf linked accepts fedElement fedElements feeds isFed fedRunnables fed writeOf invalidateOf isFull anyFull sendOf receiveOf requestsFull callerAfter called callOf pollOf collectOf resultOf closing returns isReturned returnedRunnables closed answers handBackOf timeoutOf endOf isDue maySpawn starting instanceOf isEmptyAt lowestEmpty foundEmpty spawned spawnOf tickOf operationLets timerLets runnableLets operationsLet timersLet runnablesLet operationAfter operationsAfter timersAfter runnablesAfter waitOf instanceActOf schedulerActOf instanceStepOf schedulerStepOf possibleOf claimedOf innerOf stepOf valuesGood tested stepIn endIn fieldOf sizeOf entryIn inOrder headOf bodyFault refusedAt readFrom configOf judgeFrom judgeOf restOf judgedLine readLine lineOf firstField lastField client server operation area queue sender link spawnClient spawnServer callSeven callAgain waitFifty waitLonger timesOut backLate backInTime askTimeout askNine askVoid enterFirst enterSecond exitFirst sendOne sendTwo sendThree receiveOne receiveTwo receiveNone joined file lateConfig areasConfig queueConfig late falseClaim waitTooLong inTime noCall callTwice exitBelow sendThird table wholeFrom wholeOf timeOf timeIn
+waited = refl
