@@ -1,101 +1,408 @@
--- Each contract of the public face has one answer: no two that differ meet it, nor two that leave differing bytes in a lent buffer or differing states.
--- A contract says what the answer is by an equation, so one law serves them all; `wire::write` and `recording::write_end` have `written-once` in crate wire, and the
--- lent step has `lent-unique` in crate board.
+-- Each contract of a public function has one answer: no two that differ meet it, nor two that leave differing bytes in a lent buffer.
+-- The contracts are those of the code itself: `Reads.Post` is what the `ensures` lines of a function ask of its result and of what it leaves in the places lent to it, so that a
+-- contract that says less than it did breaks its line here. One law serves them all: what equals one thing is equal (`same`).
+-- Every public function has its line; tools/listed holds this page to the code. `board::step_lent`, which is proved by hand, has `lent-one` in crate board; crate desk,
+-- which reads and prints, has none (docs/contracts.md).
 -- Assumes nothing.
 use Prim.Native.Nat.{ℕ}
-use mathlib.Core.Bool.{Bool}
 use mathlib.Core.List.{List}
 use mathlib.Core.Path.{_≡_, sym, _∙_}
-use lib.ListN.{drop}
-use Rattle.values.specs.declared.Step.{Step}
-use Rattle.config.specs.declared.Config.{Config}
-use Rattle.state.specs.declared.State.{State}
-use Rattle.state.specs.declared.Stepped.{Stepped}
-use Rattle.state.specs.Start.{startOf}
-use Rattle.entries.specs.Faults.{configSound}
-use Rattle.wire.specs.declared.Wrote.{Wrote}
-use Rattle.reading.specs.declared.Reading.{Reading}
-use Rattle.reading.specs.Reading.{configOf}
-use Rattle.writing.specs.Writing.{configTo, configWritten}
-use Rattle.trip.specs.Trip.{rewriteTo as rewriteConfigTo, rewriteWritten as rewriteConfigWritten, writeAndReadOf as writeAndReadConfigOf}
-use Rattle.recording.specs.declared.Field.{Field}
-use Rattle.recording.specs.Recording.{fieldOf, stepTo, stepWritten, writeAndReadOf}
-use Rattle.recording.specs.Whole.{isSound, rewriteTo, rewriteWritten}
-use Rattle.rules.specs.Sound.{soundOf}
-use Rattle.rules.specs.Step.{possibleOf, innerOf, stepOf}
-use Rattle.judging.specs.declared.Judged.{Judged}
-use Rattle.judging.specs.declared.Line.{Line}
-use Rattle.judging.specs.Judging.{judgeOf}
-use Rattle.judging.specs.Line.{lineOf}
+use contract.Lifetimes.{Lfts}
+use denote.Triple.Clauses.{AtExit}
+use borrow.Fn.Kind.{PK, RK}
+use borrow.Fn.Kinds.{Dens, resT, endedOf, Out}
 
--- what is equal to one thing is equal
+-- ---- the law
+
 same : {A : Type 0} {x y z : A} → x ≡ z → y ≡ z → x ≡ y
 same p q = p ∙ sym q
 
--- State::start
-pub start-unique : (cfg : Config) (r r′ : State) → r ≡ startOf cfg → r′ ≡ startOf cfg → r ≡ r′
-start-unique cfg r r′ p q = same p q
+-- a contract with one result, whatever is passed
+abbrev pub One : {n : ℕ} (ps : List (PK n)) (r : RK n) → Out n ps r → Type 0
+One {n} ps r P = (κs : Lfts n) (a : Dens κs ps) (x y : resT r κs .Denot) (s t : AtExit (endedOf n ps r) κs) → P κs a x s → P κs a y t → x ≡ y
 
--- entries::config_sound
-pub config-sound-unique : (cfg : Config) (r r′ : Bool) → r ≡ configSound cfg → r′ ≡ configSound cfg → r ≡ r′
-config-sound-unique cfg r r′ p q = same p q
+-- and one content of the bytes that it leaves, read off the places lent to it
+abbrev pub Lent : {n : ℕ} (ps : List (PK n)) (r : RK n) → Out n ps r → ((κs : Lfts n) → AtExit (endedOf n ps r) κs → List ℕ) → Type 0
+Lent {n} ps r P left = (κs : Lfts n) (a : Dens κs ps) (x y : resT r κs .Denot) (s t : AtExit (endedOf n ps r) κs) → P κs a x s → P κs a y t → (x ≡ y) × (left κs s ≡ left κs t)
 
--- reading::read_config
-pub read-config-unique : (s : List ℕ) (r r′ : Reading) → r ≡ configOf s → r′ ≡ configOf s → r ≡ r′
-read-config-unique s r r′ p q = same p q
+-- ---- values
 
--- writing::write_config: the answer, and each byte of the buffer afterwards
-pub write-config-unique : (b : List ℕ) (cfg : Config) (r r′ : Wrote) (x x′ : List ℕ) → (r ≡ configTo b cfg) × (x ≡ configWritten b cfg) → (r′ ≡ configTo b cfg) × (x′ ≡ configWritten b cfg) → (r ≡ r′) × (x ≡ x′)
-write-config-unique b cfg r r′ x x′ p q = (same (p .0) (q .0), same (p .1) (q .1))
+pub values-Value-of : One Rattle.values.proofs.Value.of.Kinds.ps Rattle.values.proofs.Value.of.Kinds.r Rattle.values.proofs.Value.of.Reads.Post
+values-Value-of κs a x y s t = same
 
--- trip::rewrite_config: the answer, and each byte of the buffer afterwards
-pub rewrite-config-unique : (s b : List ℕ) (r r′ : Wrote) (x x′ : List ℕ) → (r ≡ rewriteConfigTo (configOf s .outcome) s b) × (x ≡ rewriteConfigWritten (configOf s .outcome) s b) → (r′ ≡ rewriteConfigTo (configOf s .outcome) s b) × (x′ ≡ rewriteConfigWritten (configOf s .outcome) s b) → (r ≡ r′) × (x ≡ x′)
-rewrite-config-unique s b r r′ x x′ p q = (same (p .0) (q .0), same (p .1) (q .1))
+pub values-Value-is-void : One Rattle.values.proofs.Value.is_void.Kinds.ps Rattle.values.proofs.Value.is_void.Kinds.r Rattle.values.proofs.Value.is_void.Reads.Post
+values-Value-is-void κs a x y s t = same
 
--- trip::write_and_read: the answer, and each byte of the buffer afterwards
-pub config-back-unique : (b : List ℕ) (cfg : Config) (r r′ : Reading) (x x′ : List ℕ) → (r ≡ writeAndReadConfigOf (configTo b cfg) cfg) × (x ≡ configWritten b cfg) → (r′ ≡ writeAndReadConfigOf (configTo b cfg) cfg) × (x′ ≡ configWritten b cfg) → (r ≡ r′) × (x ≡ x′)
-config-back-unique b cfg r r′ x x′ p q = (same (p .0) (q .0), same (p .1) (q .1))
+pub values-Value-is-payload : One Rattle.values.proofs.Value.is_payload.Kinds.ps Rattle.values.proofs.Value.is_payload.Kinds.r Rattle.values.proofs.Value.is_payload.Reads.Post
+values-Value-is-payload κs a x y s t = same
 
--- recording::read_field
-pub read-field-unique : (s : List ℕ) (at : ℕ) (r r′ : Field) → r ≡ fieldOf (drop at s) → r′ ≡ fieldOf (drop at s) → r ≡ r′
-read-field-unique s at r r′ p q = same p q
+pub values-Value-is-good : One Rattle.values.proofs.Value.is_good.Kinds.ps Rattle.values.proofs.Value.is_good.Kinds.r Rattle.values.proofs.Value.is_good.Reads.Post
+values-Value-is-good κs a x y s t = same
 
--- recording::write_step: the answer, and each byte of the buffer afterwards
-pub write-step-unique : (b : List ℕ) (at : ℕ) (s : Step) (r r′ : Wrote) (x x′ : List ℕ) → (r ≡ stepTo b at s) × (x ≡ stepWritten b at s) → (r′ ≡ stepTo b at s) × (x′ ≡ stepWritten b at s) → (r ≡ r′) × (x ≡ x′)
-write-step-unique b at s r r′ x x′ p q = (same (p .0) (q .0), same (p .1) (q .1))
+pub values-Value-same : One Rattle.values.proofs.Value.same.Kinds.ps Rattle.values.proofs.Value.same.Kinds.r Rattle.values.proofs.Value.same.Reads.Post
+values-Value-same κs a x y s t = same
 
--- recording::is_sound
-pub recording-sound-unique : (s : List ℕ) (r r′ : Bool) → r ≡ isSound s → r′ ≡ isSound s → r ≡ r′
-recording-sound-unique s r r′ p q = same p q
+-- ---- config
 
--- recording::rewrite: the answer, and each byte of the buffer afterwards
-pub rewrite-unique : (s b : List ℕ) (r r′ : Wrote) (x x′ : List ℕ) → (r ≡ rewriteTo s b) × (x ≡ rewriteWritten s b) → (r′ ≡ rewriteTo s b) × (x′ ≡ rewriteWritten s b) → (r ≡ r′) × (x ≡ x′)
-rewrite-unique s b r r′ x x′ p q = (same (p .0) (q .0), same (p .1) (q .1))
+pub config-RunnableConfs-none : One Rattle.config.proofs.RunnableConfs.none.Kinds.ps Rattle.config.proofs.RunnableConfs.none.Kinds.r Rattle.config.proofs.RunnableConfs.none.Reads.Post
+config-RunnableConfs-none κs a x y s t = same
 
--- recording::write_and_read: the answer, and each byte of the buffer afterwards
-pub step-back-unique : (b : List ℕ) (at : ℕ) (s : Step) (r r′ : Field) (x x′ : List ℕ) → (r ≡ writeAndReadOf b at s) × (x ≡ stepWritten b at s) → (r′ ≡ writeAndReadOf b at s) × (x′ ≡ stepWritten b at s) → (r ≡ r′) × (x ≡ x′)
-step-back-unique b at s r r′ x x′ p q = (same (p .0) (q .0), same (p .1) (q .1))
+pub config-RunnableConfs-get : One Rattle.config.proofs.RunnableConfs.get.Kinds.ps Rattle.config.proofs.RunnableConfs.get.Kinds.r Rattle.config.proofs.RunnableConfs.get.Reads.Post
+config-RunnableConfs-get κs a x y s t = same
 
--- sound::is_sound
-pub is-sound-unique : (cfg : Config) (st : State) (r r′ : Bool) → r ≡ soundOf cfg st → r′ ≡ soundOf cfg st → r ≡ r′
-is-sound-unique cfg st r r′ p q = same p q
+pub config-RunnableConfs-add : One Rattle.config.proofs.RunnableConfs.add.Kinds.ps Rattle.config.proofs.RunnableConfs.add.Kinds.r Rattle.config.proofs.RunnableConfs.add.Reads.Post
+config-RunnableConfs-add κs a x y s t = same
 
--- machine::possible
-pub possible-unique : (cfg : Config) (st : State) (s : Step) (r r′ : Stepped) → r ≡ possibleOf cfg st s → r′ ≡ possibleOf cfg st s → r ≡ r′
-possible-unique cfg st s r r′ p q = same p q
+pub config-VariableConfs-none : One Rattle.config.proofs.VariableConfs.none.Kinds.ps Rattle.config.proofs.VariableConfs.none.Kinds.r Rattle.config.proofs.VariableConfs.none.Reads.Post
+config-VariableConfs-none κs a x y s t = same
 
--- machine::inner
-pub inner-unique : (cfg : Config) (st : State) (s : Step) (r r′ : Stepped) → r ≡ innerOf cfg st s → r′ ≡ innerOf cfg st s → r ≡ r′
-inner-unique cfg st s r r′ p q = same p q
+pub config-VariableConfs-get : One Rattle.config.proofs.VariableConfs.get.Kinds.ps Rattle.config.proofs.VariableConfs.get.Kinds.r Rattle.config.proofs.VariableConfs.get.Reads.Post
+config-VariableConfs-get κs a x y s t = same
 
--- machine::step
-pub step-unique : (cfg : Config) (st : State) (s : Step) (r r′ : Stepped) → r ≡ stepOf cfg st s → r′ ≡ stepOf cfg st s → r ≡ r′
-step-unique cfg st s r r′ p q = same p q
+pub config-VariableConfs-add : One Rattle.config.proofs.VariableConfs.add.Kinds.ps Rattle.config.proofs.VariableConfs.add.Kinds.r Rattle.config.proofs.VariableConfs.add.Reads.Post
+config-VariableConfs-add κs a x y s t = same
 
--- judging::judge
-pub judge-unique : (cfg : Config) (st : State) (t : List ℕ) (a : ℕ) (r r′ : Judged) → r ≡ judgeOf cfg st t a → r′ ≡ judgeOf cfg st t a → r ≡ r′
-judge-unique cfg st t a r r′ p q = same p q
+pub config-AreaConfs-none : One Rattle.config.proofs.AreaConfs.none.Kinds.ps Rattle.config.proofs.AreaConfs.none.Kinds.r Rattle.config.proofs.AreaConfs.none.Reads.Post
+config-AreaConfs-none κs a x y s t = same
 
--- judging::line_of
-pub line-of-unique : (c t : List ℕ) (r r′ : Line) → r ≡ lineOf c t → r′ ≡ lineOf c t → r ≡ r′
-line-of-unique c t r r′ p q = same p q
+pub config-AreaConfs-get : One Rattle.config.proofs.AreaConfs.get.Kinds.ps Rattle.config.proofs.AreaConfs.get.Kinds.r Rattle.config.proofs.AreaConfs.get.Reads.Post
+config-AreaConfs-get κs a x y s t = same
+
+pub config-AreaConfs-add : One Rattle.config.proofs.AreaConfs.add.Kinds.ps Rattle.config.proofs.AreaConfs.add.Kinds.r Rattle.config.proofs.AreaConfs.add.Reads.Post
+config-AreaConfs-add κs a x y s t = same
+
+pub config-RequiredConfs-none : One Rattle.config.proofs.RequiredConfs.none.Kinds.ps Rattle.config.proofs.RequiredConfs.none.Kinds.r Rattle.config.proofs.RequiredConfs.none.Reads.Post
+config-RequiredConfs-none κs a x y s t = same
+
+pub config-RequiredConfs-get : One Rattle.config.proofs.RequiredConfs.get.Kinds.ps Rattle.config.proofs.RequiredConfs.get.Kinds.r Rattle.config.proofs.RequiredConfs.get.Reads.Post
+config-RequiredConfs-get κs a x y s t = same
+
+pub config-RequiredConfs-add : One Rattle.config.proofs.RequiredConfs.add.Kinds.ps Rattle.config.proofs.RequiredConfs.add.Kinds.r Rattle.config.proofs.RequiredConfs.add.Reads.Post
+config-RequiredConfs-add κs a x y s t = same
+
+pub config-ProvidedConfs-none : One Rattle.config.proofs.ProvidedConfs.none.Kinds.ps Rattle.config.proofs.ProvidedConfs.none.Kinds.r Rattle.config.proofs.ProvidedConfs.none.Reads.Post
+config-ProvidedConfs-none κs a x y s t = same
+
+pub config-ProvidedConfs-get : One Rattle.config.proofs.ProvidedConfs.get.Kinds.ps Rattle.config.proofs.ProvidedConfs.get.Kinds.r Rattle.config.proofs.ProvidedConfs.get.Reads.Post
+config-ProvidedConfs-get κs a x y s t = same
+
+pub config-ProvidedConfs-add : One Rattle.config.proofs.ProvidedConfs.add.Kinds.ps Rattle.config.proofs.ProvidedConfs.add.Kinds.r Rattle.config.proofs.ProvidedConfs.add.Reads.Post
+config-ProvidedConfs-add κs a x y s t = same
+
+pub config-Links-none : One Rattle.config.proofs.Links.none.Kinds.ps Rattle.config.proofs.Links.none.Kinds.r Rattle.config.proofs.Links.none.Reads.Post
+config-Links-none κs a x y s t = same
+
+pub config-Links-get : One Rattle.config.proofs.Links.get.Kinds.ps Rattle.config.proofs.Links.get.Kinds.r Rattle.config.proofs.Links.get.Reads.Post
+config-Links-get κs a x y s t = same
+
+pub config-Links-add : One Rattle.config.proofs.Links.add.Kinds.ps Rattle.config.proofs.Links.add.Kinds.r Rattle.config.proofs.Links.add.Reads.Post
+config-Links-add κs a x y s t = same
+
+pub config-OperationConfs-none : One Rattle.config.proofs.OperationConfs.none.Kinds.ps Rattle.config.proofs.OperationConfs.none.Kinds.r Rattle.config.proofs.OperationConfs.none.Reads.Post
+config-OperationConfs-none κs a x y s t = same
+
+pub config-OperationConfs-get : One Rattle.config.proofs.OperationConfs.get.Kinds.ps Rattle.config.proofs.OperationConfs.get.Kinds.r Rattle.config.proofs.OperationConfs.get.Reads.Post
+config-OperationConfs-get κs a x y s t = same
+
+pub config-OperationConfs-add : One Rattle.config.proofs.OperationConfs.add.Kinds.ps Rattle.config.proofs.OperationConfs.add.Kinds.r Rattle.config.proofs.OperationConfs.add.Reads.Post
+config-OperationConfs-add κs a x y s t = same
+
+pub config-TimerConfs-none : One Rattle.config.proofs.TimerConfs.none.Kinds.ps Rattle.config.proofs.TimerConfs.none.Kinds.r Rattle.config.proofs.TimerConfs.none.Reads.Post
+config-TimerConfs-none κs a x y s t = same
+
+pub config-TimerConfs-get : One Rattle.config.proofs.TimerConfs.get.Kinds.ps Rattle.config.proofs.TimerConfs.get.Kinds.r Rattle.config.proofs.TimerConfs.get.Reads.Post
+config-TimerConfs-get κs a x y s t = same
+
+pub config-TimerConfs-add : One Rattle.config.proofs.TimerConfs.add.Kinds.ps Rattle.config.proofs.TimerConfs.add.Kinds.r Rattle.config.proofs.TimerConfs.add.Reads.Post
+config-TimerConfs-add κs a x y s t = same
+
+pub config-DataEvents-none : One Rattle.config.proofs.DataEvents.none.Kinds.ps Rattle.config.proofs.DataEvents.none.Kinds.r Rattle.config.proofs.DataEvents.none.Reads.Post
+config-DataEvents-none κs a x y s t = same
+
+pub config-DataEvents-get : One Rattle.config.proofs.DataEvents.get.Kinds.ps Rattle.config.proofs.DataEvents.get.Kinds.r Rattle.config.proofs.DataEvents.get.Reads.Post
+config-DataEvents-get κs a x y s t = same
+
+pub config-DataEvents-add : One Rattle.config.proofs.DataEvents.add.Kinds.ps Rattle.config.proofs.DataEvents.add.Kinds.r Rattle.config.proofs.DataEvents.add.Reads.Post
+config-DataEvents-add κs a x y s t = same
+
+pub config-ReturnEvents-none : One Rattle.config.proofs.ReturnEvents.none.Kinds.ps Rattle.config.proofs.ReturnEvents.none.Kinds.r Rattle.config.proofs.ReturnEvents.none.Reads.Post
+config-ReturnEvents-none κs a x y s t = same
+
+pub config-ReturnEvents-get : One Rattle.config.proofs.ReturnEvents.get.Kinds.ps Rattle.config.proofs.ReturnEvents.get.Kinds.r Rattle.config.proofs.ReturnEvents.get.Reads.Post
+config-ReturnEvents-get κs a x y s t = same
+
+pub config-ReturnEvents-add : One Rattle.config.proofs.ReturnEvents.add.Kinds.ps Rattle.config.proofs.ReturnEvents.add.Kinds.r Rattle.config.proofs.ReturnEvents.add.Reads.Post
+config-ReturnEvents-add κs a x y s t = same
+
+pub config-Config-none : One Rattle.config.proofs.Config.none.Kinds.ps Rattle.config.proofs.Config.none.Kinds.r Rattle.config.proofs.Config.none.Reads.Post
+config-Config-none κs a x y s t = same
+
+-- ---- state
+
+pub state-Requests-push : One Rattle.state.proofs.Requests.push.Kinds.ps Rattle.state.proofs.Requests.push.Kinds.r Rattle.state.proofs.Requests.push.Reads.Post
+state-Requests-push κs a x y s t = same
+
+pub state-Requests-first : One Rattle.state.proofs.Requests.first.Kinds.ps Rattle.state.proofs.Requests.first.Kinds.r Rattle.state.proofs.Requests.first.Reads.Post
+state-Requests-first κs a x y s t = same
+
+pub state-Requests-rest : One Rattle.state.proofs.Requests.rest.Kinds.ps Rattle.state.proofs.Requests.rest.Kinds.r Rattle.state.proofs.Requests.rest.Reads.Post
+state-Requests-rest κs a x y s t = same
+
+pub state-Values-push : One Rattle.state.proofs.Values.push.Kinds.ps Rattle.state.proofs.Values.push.Kinds.r Rattle.state.proofs.Values.push.Reads.Post
+state-Values-push κs a x y s t = same
+
+pub state-Values-first : One Rattle.state.proofs.Values.first.Kinds.ps Rattle.state.proofs.Values.first.Kinds.r Rattle.state.proofs.Values.first.Reads.Post
+state-Values-first κs a x y s t = same
+
+pub state-Values-rest : One Rattle.state.proofs.Values.rest.Kinds.ps Rattle.state.proofs.Values.rest.Kinds.r Rattle.state.proofs.Values.rest.Reads.Post
+state-Values-rest κs a x y s t = same
+
+pub state-Stack-push : One Rattle.state.proofs.Stack.push.Kinds.ps Rattle.state.proofs.Stack.push.Kinds.r Rattle.state.proofs.Stack.push.Reads.Post
+state-Stack-push κs a x y s t = same
+
+pub state-Stack-top : One Rattle.state.proofs.Stack.top.Kinds.ps Rattle.state.proofs.Stack.top.Kinds.r Rattle.state.proofs.Stack.top.Reads.Post
+state-Stack-top κs a x y s t = same
+
+pub state-Stack-pop : One Rattle.state.proofs.Stack.pop.Kinds.ps Rattle.state.proofs.Stack.pop.Kinds.r Rattle.state.proofs.Stack.pop.Reads.Post
+state-Stack-pop κs a x y s t = same
+
+pub state-Runnables-get : One Rattle.state.proofs.Runnables.get.Kinds.ps Rattle.state.proofs.Runnables.get.Kinds.r Rattle.state.proofs.Runnables.get.Reads.Post
+state-Runnables-get κs a x y s t = same
+
+pub state-Runnables-with : One Rattle.state.proofs.Runnables.with.Kinds.ps Rattle.state.proofs.Runnables.with.Kinds.r Rattle.state.proofs.Runnables.with.Reads.Post
+state-Runnables-with κs a x y s t = same
+
+pub state-Variables-get : One Rattle.state.proofs.Variables.get.Kinds.ps Rattle.state.proofs.Variables.get.Kinds.r Rattle.state.proofs.Variables.get.Reads.Post
+state-Variables-get κs a x y s t = same
+
+pub state-Variables-with : One Rattle.state.proofs.Variables.with.Kinds.ps Rattle.state.proofs.Variables.with.Kinds.r Rattle.state.proofs.Variables.with.Reads.Post
+state-Variables-with κs a x y s t = same
+
+pub state-Areas-get : One Rattle.state.proofs.Areas.get.Kinds.ps Rattle.state.proofs.Areas.get.Kinds.r Rattle.state.proofs.Areas.get.Reads.Post
+state-Areas-get κs a x y s t = same
+
+pub state-Areas-with : One Rattle.state.proofs.Areas.with.Kinds.ps Rattle.state.proofs.Areas.with.Kinds.r Rattle.state.proofs.Areas.with.Reads.Post
+state-Areas-with κs a x y s t = same
+
+pub state-Elements-get : One Rattle.state.proofs.Elements.get.Kinds.ps Rattle.state.proofs.Elements.get.Kinds.r Rattle.state.proofs.Elements.get.Reads.Post
+state-Elements-get κs a x y s t = same
+
+pub state-Elements-with : One Rattle.state.proofs.Elements.with.Kinds.ps Rattle.state.proofs.Elements.with.Kinds.r Rattle.state.proofs.Elements.with.Reads.Post
+state-Elements-with κs a x y s t = same
+
+pub state-Operations-get : One Rattle.state.proofs.Operations.get.Kinds.ps Rattle.state.proofs.Operations.get.Kinds.r Rattle.state.proofs.Operations.get.Reads.Post
+state-Operations-get κs a x y s t = same
+
+pub state-Operations-with : One Rattle.state.proofs.Operations.with.Kinds.ps Rattle.state.proofs.Operations.with.Kinds.r Rattle.state.proofs.Operations.with.Reads.Post
+state-Operations-with κs a x y s t = same
+
+pub state-Timers-get : One Rattle.state.proofs.Timers.get.Kinds.ps Rattle.state.proofs.Timers.get.Kinds.r Rattle.state.proofs.Timers.get.Reads.Post
+state-Timers-get κs a x y s t = same
+
+pub state-Timers-with : One Rattle.state.proofs.Timers.with.Kinds.ps Rattle.state.proofs.Timers.with.Kinds.r Rattle.state.proofs.Timers.with.Reads.Post
+state-Timers-with κs a x y s t = same
+
+pub state-Slots-get : One Rattle.state.proofs.Slots.get.Kinds.ps Rattle.state.proofs.Slots.get.Kinds.r Rattle.state.proofs.Slots.get.Reads.Post
+state-Slots-get κs a x y s t = same
+
+pub state-Slots-with : One Rattle.state.proofs.Slots.with.Kinds.ps Rattle.state.proofs.Slots.with.Kinds.r Rattle.state.proofs.Slots.with.Reads.Post
+state-Slots-with κs a x y s t = same
+
+pub state-State-start : One Rattle.state.proofs.State.start.Kinds.ps Rattle.state.proofs.State.start.Kinds.r Rattle.state.proofs.State.start.Reads.Post
+state-State-start κs a x y s t = same
+
+pub state-up-one : One Rattle.state.proofs.up_one.Kinds.ps Rattle.state.proofs.up_one.Kinds.r Rattle.state.proofs.up_one.Reads.Post
+state-up-one κs a x y s t = same
+
+pub state-down-one : One Rattle.state.proofs.down_one.Kinds.ps Rattle.state.proofs.down_one.Kinds.r Rattle.state.proofs.down_one.Reads.Post
+state-down-one κs a x y s t = same
+
+-- ---- entries
+
+pub entries-max-of : One Rattle.entries.proofs.max_of.Kinds.ps Rattle.entries.proofs.max_of.Kinds.r Rattle.entries.proofs.max_of.Reads.Post
+entries-max-of κs a x y s t = same
+
+pub entries-count-of : One Rattle.entries.proofs.count_of.Kinds.ps Rattle.entries.proofs.count_of.Kinds.r Rattle.entries.proofs.count_of.Reads.Post
+entries-count-of κs a x y s t = same
+
+pub entries-entry-of : One Rattle.entries.proofs.entry_of.Kinds.ps Rattle.entries.proofs.entry_of.Kinds.r Rattle.entries.proofs.entry_of.Reads.Post
+entries-entry-of κs a x y s t = same
+
+pub entries-placed : One Rattle.entries.proofs.placed.Kinds.ps Rattle.entries.proofs.placed.Kinds.r Rattle.entries.proofs.placed.Reads.Post
+entries-placed κs a x y s t = same
+
+pub entries-in-range : One Rattle.entries.proofs.in_range.Kinds.ps Rattle.entries.proofs.in_range.Kinds.r Rattle.entries.proofs.in_range.Reads.Post
+entries-in-range κs a x y s t = same
+
+pub entries-names-there : One Rattle.entries.proofs.names_there.Kinds.ps Rattle.entries.proofs.names_there.Kinds.r Rattle.entries.proofs.names_there.Reads.Post
+entries-names-there κs a x y s t = same
+
+pub entries-is-server : One Rattle.entries.proofs.is_server.Kinds.ps Rattle.entries.proofs.is_server.Kinds.r Rattle.entries.proofs.is_server.Reads.Post
+entries-is-server κs a x y s t = same
+
+pub entries-is-queued : One Rattle.entries.proofs.is_queued.Kinds.ps Rattle.entries.proofs.is_queued.Kinds.r Rattle.entries.proofs.is_queued.Reads.Post
+entries-is-queued κs a x y s t = same
+
+pub entries-rises : One Rattle.entries.proofs.rises.Kinds.ps Rattle.entries.proofs.rises.Kinds.r Rattle.entries.proofs.rises.Reads.Post
+entries-rises κs a x y s t = same
+
+pub entries-rises-at : One Rattle.entries.proofs.rises_at.Kinds.ps Rattle.entries.proofs.rises_at.Kinds.r Rattle.entries.proofs.rises_at.Reads.Post
+entries-rises-at κs a x y s t = same
+
+pub entries-pairs-well : One Rattle.entries.proofs.pairs_well.Kinds.ps Rattle.entries.proofs.pairs_well.Kinds.r Rattle.entries.proofs.pairs_well.Reads.Post
+entries-pairs-well κs a x y s t = same
+
+pub entries-entry-fault : One Rattle.entries.proofs.entry_fault.Kinds.ps Rattle.entries.proofs.entry_fault.Kinds.r Rattle.entries.proofs.entry_fault.Reads.Post
+entries-entry-fault κs a x y s t = same
+
+pub entries-is-no-entry : One Rattle.entries.proofs.is_no_entry.Kinds.ps Rattle.entries.proofs.is_no_entry.Kinds.r Rattle.entries.proofs.is_no_entry.Reads.Post
+entries-is-no-entry κs a x y s t = same
+
+pub entries-place-sound : One Rattle.entries.proofs.place_sound.Kinds.ps Rattle.entries.proofs.place_sound.Kinds.r Rattle.entries.proofs.place_sound.Reads.Post
+entries-place-sound κs a x y s t = same
+
+pub entries-kind-sound : One Rattle.entries.proofs.kind_sound.Kinds.ps Rattle.entries.proofs.kind_sound.Kinds.r Rattle.entries.proofs.kind_sound.Reads.Post
+entries-kind-sound κs a x y s t = same
+
+pub entries-config-sound : One Rattle.entries.proofs.config_sound.Kinds.ps Rattle.entries.proofs.config_sound.Kinds.r Rattle.entries.proofs.config_sound.Reads.Post
+entries-config-sound κs a x y s t = same
+
+-- ---- wire
+
+pub wire-number : One Rattle.wire.proofs.number.Kinds.ps Rattle.wire.proofs.number.Kinds.r Rattle.wire.proofs.number.Reads.Post
+wire-number κs a x y s t = same
+
+pub wire-length-of : One Rattle.wire.proofs.length_of.Kinds.ps Rattle.wire.proofs.length_of.Kinds.r Rattle.wire.proofs.length_of.Reads.Post
+wire-length-of κs a x y s t = same
+
+pub wire-write : Lent Rattle.wire.proofs.write.Kinds.ps Rattle.wire.proofs.write.Kinds.r Rattle.wire.proofs.write.Reads.Post (λ κs s. s .0 .now)
+wire-write κs a x y s t p q = (same (p .answer) (q .answer), same (p .bytes) (q .bytes))
+
+-- ---- recording
+
+pub recording-read-field : One Rattle.recording.proofs.read_field.Kinds.ps Rattle.recording.proofs.read_field.Kinds.r Rattle.recording.proofs.read_field.Reads.Post
+recording-read-field κs a x y s t = same
+
+pub recording-write-step : Lent Rattle.recording.proofs.write_step.Kinds.ps Rattle.recording.proofs.write_step.Kinds.r Rattle.recording.proofs.write_step.Reads.Post (λ κs s. s .0 .now)
+recording-write-step κs a x y s t p q = (same (p .0) (q .0), same (p .1) (q .1))
+
+pub recording-write-end : Lent Rattle.recording.proofs.write_end.Kinds.ps Rattle.recording.proofs.write_end.Kinds.r Rattle.recording.proofs.write_end.Reads.Post (λ κs s. s .0 .now)
+recording-write-end κs a x y s t p q = (same (p .answer) (q .answer), same (p .bytes) (q .bytes))
+
+pub recording-is-sound : One Rattle.recording.proofs.is_sound.Kinds.ps Rattle.recording.proofs.is_sound.Kinds.r Rattle.recording.proofs.is_sound.Reads.Post
+recording-is-sound κs a x y s t = same
+
+pub recording-rewrite : Lent Rattle.recording.proofs.rewrite.Kinds.ps Rattle.recording.proofs.rewrite.Kinds.r Rattle.recording.proofs.rewrite.Reads.Post (λ κs s. s .1 .0 .now)
+recording-rewrite κs a x y s t p q = (same (p .0) (q .0), same (p .1) (q .1))
+
+pub recording-write-and-read : Lent Rattle.recording.proofs.write_and_read.Kinds.ps Rattle.recording.proofs.write_and_read.Kinds.r Rattle.recording.proofs.write_and_read.Reads.Post (λ κs s. s .0 .now)
+recording-write-and-read κs a x y s t p q = (same (p .0) (q .0), same (p .1) (q .1))
+
+-- ---- reading
+
+pub reading-read-config : One Rattle.reading.proofs.read_config.Kinds.ps Rattle.reading.proofs.read_config.Kinds.r Rattle.reading.proofs.read_config.Reads.Post
+reading-read-config κs a x y s t = same
+
+-- ---- writing
+
+pub writing-write-config : Lent Rattle.writing.proofs.write_config.Kinds.ps Rattle.writing.proofs.write_config.Kinds.r Rattle.writing.proofs.write_config.Reads.Post (λ κs s. s .0 .now)
+writing-write-config κs a x y s t p q = (same (p .0) (q .0), same (p .1) (q .1))
+
+-- ---- trip
+
+pub trip-rewrite-config : Lent Rattle.trip.proofs.rewrite_config.Kinds.ps Rattle.trip.proofs.rewrite_config.Kinds.r Rattle.trip.proofs.rewrite_config.Reads.Post (λ κs s. s .1 .0 .now)
+trip-rewrite-config κs a x y s t p q = (same (p .0) (q .0), same (p .1) (q .1))
+
+pub trip-write-and-read : Lent Rattle.trip.proofs.write_and_read.Kinds.ps Rattle.trip.proofs.write_and_read.Kinds.r Rattle.trip.proofs.write_and_read.Reads.Post (λ κs s. s .0 .now)
+trip-write-and-read κs a x y s t p q = (same (p .0) (q .0), same (p .1) (q .1))
+
+-- ---- gate
+
+pub gate-instance-refusal : One Rattle.gate.proofs.instance_refusal.Kinds.ps Rattle.gate.proofs.instance_refusal.Kinds.r Rattle.gate.proofs.instance_refusal.Reads.Post
+gate-instance-refusal κs a x y s t = same
+
+pub gate-scheduler-refusal : One Rattle.gate.proofs.scheduler_refusal.Kinds.ps Rattle.gate.proofs.scheduler_refusal.Kinds.r Rattle.gate.proofs.scheduler_refusal.Reads.Post
+gate-scheduler-refusal κs a x y s t = same
+
+-- ---- sound
+
+pub sound-is-sound : One Rattle.sound.proofs.is_sound.Kinds.ps Rattle.sound.proofs.is_sound.Kinds.r Rattle.sound.proofs.is_sound.Reads.Post
+sound-is-sound κs a x y s t = same
+
+-- ---- steps
+
+pub steps-refuse : One Rattle.steps.proofs.refuse.Kinds.ps Rattle.steps.proofs.refuse.Kinds.r Rattle.steps.proofs.refuse.Reads.Post
+steps-refuse κs a x y s t = same
+
+pub steps-read-variable : One Rattle.steps.proofs.read_variable.Kinds.ps Rattle.steps.proofs.read_variable.Kinds.r Rattle.steps.proofs.read_variable.Reads.Post
+steps-read-variable κs a x y s t = same
+
+pub steps-write-variable : One Rattle.steps.proofs.write_variable.Kinds.ps Rattle.steps.proofs.write_variable.Kinds.r Rattle.steps.proofs.write_variable.Reads.Post
+steps-write-variable κs a x y s t = same
+
+pub steps-enter : One Rattle.steps.proofs.enter.Kinds.ps Rattle.steps.proofs.enter.Kinds.r Rattle.steps.proofs.enter.Reads.Post
+steps-enter κs a x y s t = same
+
+pub steps-exit : One Rattle.steps.proofs.exit.Kinds.ps Rattle.steps.proofs.exit.Kinds.r Rattle.steps.proofs.exit.Reads.Post
+steps-exit κs a x y s t = same
+
+pub steps-read : One Rattle.steps.proofs.read.Kinds.ps Rattle.steps.proofs.read.Kinds.r Rattle.steps.proofs.read.Reads.Post
+steps-read κs a x y s t = same
+
+pub steps-updated : One Rattle.steps.proofs.updated.Kinds.ps Rattle.steps.proofs.updated.Kinds.r Rattle.steps.proofs.updated.Reads.Post
+steps-updated κs a x y s t = same
+
+pub steps-write : One Rattle.steps.proofs.write.Kinds.ps Rattle.steps.proofs.write.Kinds.r Rattle.steps.proofs.write.Reads.Post
+steps-write κs a x y s t = same
+
+pub steps-invalidate : One Rattle.steps.proofs.invalidate.Kinds.ps Rattle.steps.proofs.invalidate.Kinds.r Rattle.steps.proofs.invalidate.Reads.Post
+steps-invalidate κs a x y s t = same
+
+pub steps-send : One Rattle.steps.proofs.send.Kinds.ps Rattle.steps.proofs.send.Kinds.r Rattle.steps.proofs.send.Reads.Post
+steps-send κs a x y s t = same
+
+pub steps-receive : One Rattle.steps.proofs.receive.Kinds.ps Rattle.steps.proofs.receive.Kinds.r Rattle.steps.proofs.receive.Reads.Post
+steps-receive κs a x y s t = same
+
+pub steps-call : One Rattle.steps.proofs.call.Kinds.ps Rattle.steps.proofs.call.Kinds.r Rattle.steps.proofs.call.Reads.Post
+steps-call κs a x y s t = same
+
+pub steps-result : One Rattle.steps.proofs.result.Kinds.ps Rattle.steps.proofs.result.Kinds.r Rattle.steps.proofs.result.Reads.Post
+steps-result κs a x y s t = same
+
+pub steps-hand-back : One Rattle.steps.proofs.hand_back.Kinds.ps Rattle.steps.proofs.hand_back.Kinds.r Rattle.steps.proofs.hand_back.Reads.Post
+steps-hand-back κs a x y s t = same
+
+pub steps-timeout : One Rattle.steps.proofs.timeout.Kinds.ps Rattle.steps.proofs.timeout.Kinds.r Rattle.steps.proofs.timeout.Reads.Post
+steps-timeout κs a x y s t = same
+
+pub steps-end : One Rattle.steps.proofs.end.Kinds.ps Rattle.steps.proofs.end.Kinds.r Rattle.steps.proofs.end.Reads.Post
+steps-end κs a x y s t = same
+
+pub steps-spawn : One Rattle.steps.proofs.spawn.Kinds.ps Rattle.steps.proofs.spawn.Kinds.r Rattle.steps.proofs.spawn.Reads.Post
+steps-spawn κs a x y s t = same
+
+pub steps-tick : One Rattle.steps.proofs.tick.Kinds.ps Rattle.steps.proofs.tick.Kinds.r Rattle.steps.proofs.tick.Reads.Post
+steps-tick κs a x y s t = same
+
+pub steps-wait : One Rattle.steps.proofs.wait.Kinds.ps Rattle.steps.proofs.wait.Kinds.r Rattle.steps.proofs.wait.Reads.Post
+steps-wait κs a x y s t = same
+
+-- ---- machine
+
+pub machine-possible : One Rattle.machine.proofs.possible.Kinds.ps Rattle.machine.proofs.possible.Kinds.r Rattle.machine.proofs.possible.Reads.Post
+machine-possible κs a x y s t = same
+
+pub machine-inner : One Rattle.machine.proofs.inner.Kinds.ps Rattle.machine.proofs.inner.Kinds.r Rattle.machine.proofs.inner.Reads.Post
+machine-inner κs a x y s t = same
+
+pub machine-step : One Rattle.machine.proofs.step.Kinds.ps Rattle.machine.proofs.step.Kinds.r Rattle.machine.proofs.step.Reads.Post
+machine-step κs a x y s t = same
+
+-- ---- judging
+
+pub judging-judge : One Rattle.judging.proofs.judge.Kinds.ps Rattle.judging.proofs.judge.Kinds.r Rattle.judging.proofs.judge.Reads.Post
+judging-judge κs a x y s t = same
+
+pub judging-line-of : One Rattle.judging.proofs.line_of.Kinds.ps Rattle.judging.proofs.line_of.Kinds.r Rattle.judging.proofs.line_of.Reads.Post
+judging-line-of κs a x y s t = same
