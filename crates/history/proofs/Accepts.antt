@@ -20,19 +20,20 @@ use Rattle.config.specs.Tables.{runnableConfIn, operationConfIn}
 use Rattle.entries.specs.Faults.{isServer}
 use Rattle.state.specs.declared.State.{State}
 use Rattle.state.specs.declared.Stepped.{Stepped}
-use Rattle.state.specs.Tables.{maxSlots, runnableIn, areaIn, operationIn, slotIn}
+use Rattle.state.specs.Tables.{maxSlots, runnableIn, areaIn, operationIn, timerIn, slotIn}
 use Rattle.rules.specs.Sound.{soundOf}
 use Rattle.rules.specs.Refusals.{instanceRefusal, schedulerRefusal}
-use Rattle.rules.specs.Steps.{refused, took, enterOf, onTop, exitOf, requestsFull, called, callOf, closed, answers, handBackOf, timeoutOf, endOf, maySpawn, lowestEmpty, spawned, spawnOf, operationsLet, timersLet, runnablesLet, waitOf}
+use Rattle.rules.specs.Steps.{refused, took, enterOf, onTop, exitOf, requestsFull, called, callOf, closed, answers, handBackOf, timeoutOf, endOf, maySpawn, lowestEmpty, spawned, spawnOf, tickOf, operationsLet, timersLet, runnablesLet, waitOf}
 use Rattle.rules.specs.Step.{instanceActOf, schedulerActOf, instanceStepOf, schedulerStepOf, possibleOf, onAnswer, claimedOf, innerOf, stepOf}
 use Rattle.keep.specs.Facts.{Sound}
 use Rattle.keep.proofs.Told.{told}
-use Rattle.keep.proofs.Says.{Acting, readsVariable, writesVariable, reads, writes, updates, invalidates, receives, sends, calls, results, handsBack, Scheduling, ticks, waits, acting, scheduling, Let, LetRun, let-told, run-told, says-enter, says-exit, says-call, says-hand-back, says-end, says-spawn, says-timeout, says-wait}
+use Rattle.keep.proofs.Says.{Acting, readsVariable, writesVariable, reads, writes, updates, invalidates, receives, sends, calls, results, handsBack, Scheduling, acting, scheduling, Let, LetRun, let-told, run-told, says-enter, says-exit, says-call, says-hand-back, says-end, says-spawn, says-timeout, says-tick, says-wait}
 use Rattle.keep.proofs.Says as says
 use Rattle.history.specs.History.{timeOf}
+use Rattle.history.proofs.Timed.{still}
 use Rattle.history.proofs.Passes.{entered, exited, Calm, calm-same}
 use Rattle.history.proofs.Passes as pass
-use Rattle.history.proofs.Deeds.{Quiet, enters, exits, stays, Deed, emptied, finished, passes, starts, returns, lates, ends, serves, spawns, timesOut}
+use Rattle.history.proofs.Deeds.{Quiet, enters, exits, stays, ticks, waits, keeps, Deed, emptied, finished, passes, starts, returns, lates, ends, serves, spawns, timesOut}
 
 -- ---- the step before its claim
 
@@ -74,11 +75,6 @@ quiet s n c h = record {
     bad : (m : ℕ) → either (ltb m 11) (either (eqb m 12) (ltb 16 m)) ≡ false → n ≡ m → ⊥
     bad m f e = clash _ h (rw e f)
 
--- and lets no time pass
-untimed : (s : Step) (n : ℕ) → eqb n 18 ≡ false → s .code ≡ n → timeOf s ≡ 0
-unfolding timeOf
-untimed s n f c = rw (c, f)
-
 given : {v w : Value} → Taken v ≡ Taken w → w ≡ v
 given h = cc
 
@@ -105,7 +101,7 @@ module _ (cfg : Config) (st : State) (s : Step) where
       go : (x y w : Bool) → operationIn (st .operations) (s .what) .calling ≡ x → eqb (operationIn (st .operations) (s .what) .number) 65535 ≡ y
           → requestsFull cfg (st .runnables) (operationConfIn (cfg .operations) (s .what) .server) ≡ w
           → chosen x y w .answer ≡ Taken (s .claim) → Deed cfg st s (chosen x y w .state)
-      go true y w a b d k = passes (rw (untimed s 11 refl c) (pass.alike-same st)) (open-still (given k)) (stays (λ e. omega (arith, c, e)) (λ e. omega (arith, c, e)) (calm-same st .unmoved))
+      go true y w a b d k = passes (rw (still s (λ e. omega (arith, c, e))) (pass.alike-same st)) (open-still (given k)) (stays (λ e. omega (arith, c, e)) (λ e. omega (arith, c, e)) (calm-same st .unmoved)) (keeps (λ e. omega (arith, c, e)) (λ e. omega (arith, c, e)) refl)
       go false true w a b d k = absurd (never k)
       go false false true a b d k = absurd (never k)
       go false false false a b d k = starts c (given k) (says-call cfg st (s .who) (s .what) (s .argument) z a b d) refl
@@ -180,8 +176,8 @@ module _ (cfg : Config) (st : State) (s : Step) where
       go : (x : Bool) → areaIn (st .areas) (s .what) .taken ≡ x → chosen x .answer ≡ Taken (s .claim) → Deed cfg st s (chosen x .state)
       go true a k = absurd (never k)
       go false a k =
-          passes (rw (untimed s 3 refl c) (pass.enter-alike st (s .who) (s .what))) (quiet s 3 c refl)
-          (enters c (says-enter cfg st (s .who) (s .what) (s .argument) z a) refl)
+          passes (rw (still s (λ e. omega (arith, c, e))) (pass.enter-alike st (s .who) (s .what))) (quiet s 3 c refl)
+          (enters c (says-enter cfg st (s .who) (s .what) (s .argument) z a) refl) (keeps (λ e. omega (arith, c, e)) (λ e. omega (arith, c, e)) refl)
 
   deed-exit : s .code ≡ 4 → Let cfg st 4 (s .who) (s .what) (s .argument) → exitOf st (s .who) (s .what) .answer ≡ Taken (s .claim) → Deed cfg st s (exitOf st (s .who) (s .what) .state)
   unfolding exitOf
@@ -192,8 +188,8 @@ module _ (cfg : Config) (st : State) (s : Step) where
 
       go : (x : Bool) → onTop (slotIn (st .slots) (s .who)) (s .what) ≡ x → chosen x .answer ≡ Taken (s .claim) → Deed cfg st s (chosen x .state)
       go true a k =
-          passes (rw (untimed s 4 refl c) (pass.exit-alike st (s .who) (s .what))) (quiet s 4 c refl)
-          (exits c (says-exit cfg st (s .who) (s .what) (s .argument) z a) refl)
+          passes (rw (still s (λ e. omega (arith, c, e))) (pass.exit-alike st (s .who) (s .what))) (quiet s 4 c refl)
+          (exits c (says-exit cfg st (s .who) (s .what) (s .argument) z a) refl) (keeps (λ e. omega (arith, c, e)) (λ e. omega (arith, c, e)) refl)
       go false a k = absurd (never k)
 
   deed-wait : Sound cfg st → s .code ≡ 18 → waitOf cfg st (s .argument .number) .answer ≡ Taken (s .claim) → Deed cfg st s (waitOf cfg st (s .argument .number) .state)
@@ -209,35 +205,49 @@ module _ (cfg : Config) (st : State) (s : Step) where
       go : (x : Bool) → both (operationsLet cfg (st .operations) t) (both (timersLet cfg (st .timers) t) (runnablesLet cfg (st .runnables) t)) ≡ x → chosen x .answer ≡ Taken (s .claim)
           → Deed cfg st s (chosen x .state)
       go true a k =
-          let w = pass.wait-calm cfg st t g (says-wait cfg st t a) in
-          passes (rw c (w .alike)) (quiet s 18 c refl) (stays (λ e. omega (arith, c, e)) (λ e. omega (arith, c, e)) (w .unmoved))
+          let w = says-wait cfg st t a in
+          passes (rw c (pass.wait-alike cfg st t g w)) (quiet s 18 c refl) (stays (λ e. omega (arith, c, e)) (λ e. omega (arith, c, e)) (pass.wait-unmoved cfg st t g w)) (waits c w refl)
       go false a k = absurd (never k)
 
-  calm : {st′ : State} (n : ℕ) → either (ltb n 11) (either (eqb n 12) (ltb 16 n)) ≡ true → eqb n 18 ≡ false → either (eqb n 3) (eqb n 4) ≡ false → s .code ≡ n → Calm 0 st st′
-      → Deed cfg st s st′
-  calm n q f g c a =
-      passes (rw (untimed s n f c) (a .alike)) (quiet s n c q) (stays (λ e. bad 3 refl (sym c ∙ e)) (λ e. bad 4 refl (sym c ∙ e)) (a .unmoved))
+  deed-tick : s .code ≡ 17 → LetRun cfg 17 (s .what) → tickOf cfg st (s .what) .answer ≡ Taken (s .claim) → Deed cfg st s (tickOf cfg st (s .what) .state)
+  unfolding tickOf
+  deed-tick c z h = go (eqb (timerIn (st .timers) (s .what) .count) 0) refl h
     where
-      bad : (m : ℕ) → either (eqb m 3) (eqb m 4) ≡ true → n ≡ m → ⊥
-      bad m t e = clash _ (rw e t) g
+      chosen : Bool → Stepped
+      chosen x = pick x (took voidV (pass.ticked cfg st (s .what))) (refused 14 st)
+
+      go : (x : Bool) → eqb (timerIn (st .timers) (s .what) .count) 0 ≡ x → chosen x .answer ≡ Taken (s .claim) → Deed cfg st s (chosen x .state)
+      go true a k =
+          passes (rw (still s (λ e. omega (arith, c, e))) (pass.tick-alike cfg st (s .what))) (quiet s 17 c refl) (stays (λ e. omega (arith, c, e)) (λ e. omega (arith, c, e)) (pass.tick-unmoved cfg st (s .what)))
+          (ticks c (says-tick cfg st (s .what) z a) refl)
+      go false a k = absurd (never k)
+
+  calm : {st′ : State} (n : ℕ) → either (ltb n 11) (either (eqb n 12) (ltb 16 n)) ≡ true → either (eqb n 3) (either (eqb n 4) (either (eqb n 17) (eqb n 18))) ≡ false → s .code ≡ n → Calm 0 st st′
+      → Deed cfg st s st′
+  calm n q f c a =
+      passes (rw (still s (λ e. bad 18 refl (sym c ∙ e))) (a .alike)) (quiet s n c q) (stays (λ e. bad 3 refl (sym c ∙ e)) (λ e. bad 4 refl (sym c ∙ e)) (a .unmoved))
+      (keeps (λ e. bad 17 refl (sym c ∙ e)) (λ e. bad 18 refl (sym c ∙ e)) (a .timers))
+    where
+      bad : (m : ℕ) → either (eqb m 3) (either (eqb m 4) (either (eqb m 17) (eqb m 18))) ≡ true → n ≡ m → ⊥
+      bad m t e = clash _ (rw e t) f
 
   -- ---- by code
 
   deed-acting : {n : ℕ} → Acting n → s .code ≡ n → Let cfg st n (s .who) (s .what) (s .argument) → instanceActOf cfg st n (s .who) (s .what) (s .argument) .answer ≡ Taken (s .claim)
       → Deed cfg st s (instanceActOf cfg st n (s .who) (s .what) (s .argument) .state)
   unfolding instanceActOf
-  deed-acting readsVariable c z h = calm 1 refl refl refl c (pass.read-variable-calm st (s .what))
-  deed-acting writesVariable c z h = calm 2 refl refl refl c (pass.write-variable-calm st (s .what) (s .argument))
+  deed-acting readsVariable c z h = calm 1 refl refl c (pass.read-variable-calm st (s .what))
+  deed-acting writesVariable c z h = calm 2 refl refl c (pass.write-variable-calm st (s .what) (s .argument))
   deed-acting says.enters c z h = deed-enter c z h
   deed-acting says.exits c z h = deed-exit c z h
-  deed-acting reads c z h = calm 5 refl refl refl c (pass.read-calm st (s .what))
-  deed-acting writes c z h = calm 6 refl refl refl c (pass.write-calm cfg st (s .what) (s .argument))
-  deed-acting updates c z h = calm 7 refl refl refl c (pass.updated-calm st (s .what))
-  deed-acting invalidates c z h = calm 8 refl refl refl c (pass.invalidate-calm cfg st (s .what))
-  deed-acting receives c z h = calm 9 refl refl refl c (pass.receive-calm st (s .what))
-  deed-acting sends c z h = calm 10 refl refl refl c (pass.send-calm cfg st (s .what) (s .argument))
+  deed-acting reads c z h = calm 5 refl refl c (pass.read-calm st (s .what))
+  deed-acting writes c z h = calm 6 refl refl c (pass.write-calm cfg st (s .what) (s .argument))
+  deed-acting updates c z h = calm 7 refl refl c (pass.updated-calm st (s .what))
+  deed-acting invalidates c z h = calm 8 refl refl c (pass.invalidate-calm cfg st (s .what))
+  deed-acting receives c z h = calm 9 refl refl c (pass.receive-calm st (s .what))
+  deed-acting sends c z h = calm 10 refl refl c (pass.send-calm cfg st (s .what) (s .argument))
   deed-acting calls c z h = deed-call c z h
-  deed-acting results c z h = calm 12 refl refl refl c (pass.result-calm cfg st (s .who) (s .what))
+  deed-acting results c z h = calm 12 refl refl c (pass.result-calm cfg st (s .who) (s .what))
   deed-acting handsBack c z h = deed-back c z h
   deed-acting says.ends c z h = deed-end c z h
 
@@ -246,8 +256,8 @@ module _ (cfg : Config) (st : State) (s : Step) where
   unfolding schedulerActOf
   deed-scheduling g says.spawns c z h = deed-spawn c z h
   deed-scheduling g says.timesOut c z h = deed-timeout c z h
-  deed-scheduling g ticks c z h = calm 17 refl refl refl c (pass.tick-calm cfg st (s .what))
-  deed-scheduling g waits c z h = deed-wait g c h
+  deed-scheduling g says.ticks c z h = deed-tick c z h
+  deed-scheduling g says.waits c z h = deed-wait g c h
 
   deed-instance : 1 ≤ s .code → s .code < 15 → instanceStepOf cfg st s .answer ≡ Taken (s .claim) → Deed cfg st s (instanceStepOf cfg st s .state)
   unfolding instanceStepOf

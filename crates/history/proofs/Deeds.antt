@@ -13,13 +13,13 @@ use Rattle.values.specs.declared.Value.{Value}
 use Rattle.values.specs.declared.Step.{Step}
 use Rattle.values.specs.Values.{numberV, okV, timeoutV, sameValue}
 use Rattle.config.specs.declared.Config.{Config}
-use Rattle.config.specs.Tables.{runnableConfIn}
+use Rattle.config.specs.Tables.{runnableConfIn, timerConfIn}
 use Rattle.entries.specs.Faults.{isServer}
 use Rattle.state.specs.declared.State.{State}
 use Rattle.state.specs.Parts.{noSlot}
-use Rattle.state.specs.Tables.{runnableIn, slotIn, withRunnable, withSlot, withRunnables, withSlots}
-use Rattle.rules.specs.Steps.{called, closed, answers, finishing, leaving, isDue, lowestEmpty, spawned}
-use Rattle.keep.specs.Facts.{Sound, CanEnter, CanExit, CanCall, CanHandBack, CanEnd, CanSpawn, CanTimeout}
+use Rattle.state.specs.Tables.{runnableIn, slotIn, withRunnable, withTimer, withSlot, withRunnables, withSlots}
+use Rattle.rules.specs.Steps.{called, closed, answers, finishing, leaving, isDue, lowestEmpty, spawned, timersAfter}
+use Rattle.keep.specs.Facts.{Sound, CanEnter, CanExit, CanCall, CanHandBack, CanEnd, CanSpawn, CanTimeout, CanTick, CanWait}
 use Rattle.history.specs.History.{noRequest, byTimeout, byInstance, History, passed, begins, closes, takes, takesOldest, takenBy, observe, timeOf}
 use Rattle.history.proofs.Tied.{Alike, Tied, tied-alike}
 use Rattle.history.proofs.Passes.{Unmoved, entered, exited}
@@ -49,8 +49,14 @@ pub data Moves (cfg : Config) (st : State) (s : Step) (st′ : State) : Type 0 w
   exits : s .code ≡ 4 → CanExit cfg st (s .who) (s .what) → st′ ≡ exited st (s .who) (s .what) → Moves cfg st s st′
   stays : (s .code ≡ 3 → ⊥) → (s .code ≡ 4 → ⊥) → Unmoved st st′ → Moves cfg st s st′
 
+-- and to timers: one ticks, a wait lowers all, or they are as they were
+pub data Clocks (cfg : Config) (st : State) (s : Step) (st′ : State) : Type 0 where
+  ticks : s .code ≡ 17 → CanTick cfg st (s .what) → st′ .timers ≡ withTimer (st .timers) (s .what) (record { count = timerConfIn (cfg .timers) (s .what) .period }) → Clocks cfg st s st′
+  waits : s .code ≡ 18 → CanWait cfg st (s .argument .number) → st′ .timers ≡ timersAfter cfg (st .timers) (s .argument .number) → Clocks cfg st s st′
+  keeps : (s .code ≡ 17 → ⊥) → (s .code ≡ 18 → ⊥) → st′ .timers ≡ st .timers → Clocks cfg st s st′
+
 pub data Deed (cfg : Config) (st : State) (s : Step) (st′ : State) : Type 0 where
-  passes : Alike (timeOf s) st st′ → Quiet s → Moves cfg st s st′ → Deed cfg st s st′
+  passes : Alike (timeOf s) st st′ → Quiet s → Moves cfg st s st′ → Clocks cfg st s st′ → Deed cfg st s st′
   starts : s .code ≡ 11 → s .claim ≡ okV → CanCall cfg st (s .who) (s .what) (s .argument) → st′ ≡ called cfg st (s .who) (s .what) (s .argument) → Deed cfg st s st′
   returns :
       s .code ≡ 13 → s .claim ≡ numberV 1 → CanHandBack cfg st (s .who) (s .argument) → answers (st .operations) (slotIn (st .slots) (s .who) .owed .client) ≡ true
@@ -127,7 +133,7 @@ unfolding isDue
 due-server cfg st r e z = ltb-true _ _ (rw (server-capacity cfg r e) at (z .due))
 
 pub tied-deed : (cfg : Config) (st : State) (s : Step) (st′ : State) (h : History) → Sound cfg st → Deed cfg st s st′ → Tied st h → Tied st′ (observe cfg h s)
-tied-deed cfg st s st′ h g (passes a q m) t = rw (passes-adds cfg h s q) (tied-alike st st′ h a t)
+tied-deed cfg st s st′ h g (passes a q m w) t = rw (passes-adds cfg h s q) (tied-alike st st′ h a t)
 tied-deed cfg st s st′ h g (starts c k z e) t = rw (starts-adds cfg h s c k, e) (tied-call cfg st h (s .who) (s .what) (s .argument) g z t)
 tied-deed cfg st s st′ h g (returns c k z a e) t = rw (returns-adds cfg h s c k, e) (tied-answer cfg st h (s .who) (s .argument) z a t)
 tied-deed cfg st s st′ h g (lates c k z e) t = rw (lates-adds cfg h s c k, e) (tied-late cfg st h (s .who) (s .argument) z t)

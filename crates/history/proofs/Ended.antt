@@ -85,7 +85,7 @@ ended-deed cfg st s st′ rs d t n k l = go d
     kept = all-more cfg rs (s ∷ []) (h .endings) l
 
     go : Deed cfg st s st′ → AllEnded cfg (rs ++ (s ∷ [])) (observe cfg h s .endings)
-    go (passes a q m) = rw (passes-adds cfg h s q) kept
+    go (passes a q m w) = rw (passes-adds cfg h s q) kept
     go (starts c q z e) = rw (starts-adds cfg h s c q) kept
     go (returns c q z a e) =
         let w = answered st h (s .who) (z .serving) a t in

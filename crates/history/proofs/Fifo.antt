@@ -148,7 +148,7 @@ module _ (cfg : Config) (r : ℕ) (rs : List Step) (h : History) (s : Step) (f :
 
 pub fifo-deed : (cfg : Config) (st : State) (s : Step) (st′ : State) (r : ℕ) (rs : List Step) (h : History) → Deed cfg st s st′ → Tied st h → h .place ≡ length rs → isServer cfg r ≡ true
     → r < 16 → Fifo cfg r rs h → Fifo cfg r (rs ++ (s ∷ [])) (observe cfg h s)
-fifo-deed cfg st s st′ r rs h (passes a q m) t p y b f = rw (passes-adds cfg h s q) (fifo-quiet cfg r rs h s f (passed h) refl (q .call) (q .spawn))
+fifo-deed cfg st s st′ r rs h (passes a q m w) t p y b f = rw (passes-adds cfg h s q) (fifo-quiet cfg r rs h s f (passed h) refl (q .call) (q .spawn))
 fifo-deed cfg st s st′ r rs h (starts c k z e) t p y b f = rw (starts-adds cfg h s c k) (fifo-begins cfg r rs h s f c k p (omega (arith, t .queues .size, b)))
 fifo-deed cfg st s st′ r rs h (returns c k z a e) t p y b f = rw (returns-adds cfg h s c k) (fifo-quiet cfg r rs h s f _ refl (λ q w. omega (arith, c, q)) (λ q. omega (arith, c, q)))
 fifo-deed cfg st s st′ r rs h (lates c k z e) t p y b f = rw (lates-adds cfg h s c k) (fifo-quiet cfg r rs h s f _ refl (λ q w. omega (arith, c, q)) (λ q. omega (arith, c, q)))

@@ -153,7 +153,7 @@ result-told cfg st s n c h =
 -- ---- timeouts, hand backs that end a call, and spawns of servers
 
 pub timed : (cfg : Config) (st : State) (s : Step) (st′ : State) → s .code ≡ 16 → Deed cfg st s st′ → CanTimeout cfg st (s .what)
-timed cfg st s st′ q (passes a z m) = absurd (z .timeout q)
+timed cfg st s st′ q (passes a z m w) = absurd (z .timeout q)
 timed cfg st s st′ q (starts c k z e) = absurd (omega (arith, c, q))
 timed cfg st s st′ q (returns c k z a e) = absurd (omega (arith, c, q))
 timed cfg st s st′ q (lates c k z e) = absurd (omega (arith, c, q))
@@ -163,7 +163,7 @@ timed cfg st s st′ q (spawns c k y z e) = absurd (omega (arith, c, q))
 timed cfg st s st′ q (timesOut c z e) = z
 
 pub back : (cfg : Config) (st : State) (s : Step) (st′ : State) (h : History) → s .code ≡ 13 → s .claim ≡ numberV 1 → Deed cfg st s st′ → Tied st h → Answered st h (s .who)
-back cfg st s st′ h q v (passes a z m) t = absurd (z .back q)
+back cfg st s st′ h q v (passes a z m w) t = absurd (z .back q)
 back cfg st s st′ h q v (starts c k z e) t = absurd (omega (arith, c, q))
 back cfg st s st′ h q v (returns c k z a e) t = answered st h (s .who) (z .serving) a t
 back cfg st s st′ h q v (lates c k z e) t = absurd (omega (arith, ap (λ (x : Value). x .number) (sym v ∙ k)))
@@ -174,7 +174,7 @@ back cfg st s st′ h q v (timesOut c z e) t = absurd (omega (arith, c, q))
 
 -- the slot that a spawn answers is one of the thirty-two
 spawn-inside : (cfg : Config) (st : State) (s : Step) (st′ : State) → s .code ≡ 15 → Deed cfg st s st′ → s .claim .number < 32
-spawn-inside cfg st s st′ q (passes a z m) = absurd (z .spawn q)
+spawn-inside cfg st s st′ q (passes a z m w) = absurd (z .spawn q)
 spawn-inside cfg st s st′ q (starts c k z e) = absurd (omega (arith, c, q))
 spawn-inside cfg st s st′ q (returns c k z a e) = absurd (omega (arith, c, q))
 spawn-inside cfg st s st′ q (lates c k z e) = absurd (omega (arith, c, q))
@@ -186,7 +186,7 @@ spawn-inside cfg st s st′ q (timesOut c z e) = absurd (omega (arith, c, q))
 -- a server that is spawned has a request
 pub serves-one : (cfg : Config) (st : State) (s : Step) (st′ : State) → s .code ≡ 15 → isServer cfg (s .what) ≡ true → Deed cfg st s st′ → 0 < runnableIn (st .runnables) (s .what) .requests .queued
 unfolding isServer isDue
-serves-one cfg st s st′ q y (passes a z m) = absurd (z .spawn q)
+serves-one cfg st s st′ q y (passes a z m w) = absurd (z .spawn q)
 serves-one cfg st s st′ q y (starts c k z e) = absurd (omega (arith, c, q))
 serves-one cfg st s st′ q y (returns c k z a e) = absurd (omega (arith, c, q))
 serves-one cfg st s st′ q y (lates c k z e) = absurd (omega (arith, c, q))

@@ -2,7 +2,7 @@
 -- Every deed enters one area, exits one, or leaves all of them and the stacks as they were (`moves`), and so keeps that (`holds-deed`).
 -- With a sound state it is the whole of it: the area stands there once, on no other stack, and is taken (`held-by`).
 -- Assumes nothing.
-use Prim.Native.Nat.{ℕ, _+_, _≤_, _<_}
+use Prim.Native.Nat.{ℕ, _≤_, _<_}
 use mathlib.Core.Bool.{Bool, true, false}
 use mathlib.Core.List.{List, [], _∷_, _++_}
 use mathlib.Core.Option.{Option, none, some}
@@ -84,7 +84,7 @@ moves cfg st s st′ g d = go d
     one i x ss e a k = slot-kept (λ y. timesIn a (y .stack)) ss i x (e a) k
 
     go : Deed cfg st s st′ → Moves cfg st s st′
-    go (passes a q m) = m
+    go (passes a q m w) = m
     go (starts c k z e) = still 11 c refl refl (record { areas = λ a. rw e; stacks = λ a k. rw e (one (s .who) _ (st .slots) (call-stack cfg (s .what) (slotIn (st .slots) (s .who))) a k) })
     go (returns c k z a e) = still 13 c refl refl (record { areas = λ a. rw e; stacks = λ a k. rw e (one (s .who) (finishing (slotIn (st .slots) (s .who))) (st .slots) (λ b. refl) a k) })
     go (lates c k z e) = still 13 c refl refl (record { areas = λ a. rw e; stacks = λ a k. rw e (one (s .who) (finishing (slotIn (st .slots) (s .who))) (st .slots) (λ b. refl) a k) })
@@ -105,7 +105,7 @@ exiting-told cfg st s st′ q (exits c z e) = z
 exiting-told cfg st s st′ q (stays n m u) = absurd (m q)
 
 pub ending-told : (cfg : Config) (st : State) (s : Step) (st′ : State) → s .code ≡ 14 → Deed cfg st s st′ → CanEnd st (s .who)
-ending-told cfg st s st′ q (passes a z m) = absurd (z .end q)
+ending-told cfg st s st′ q (passes a z m w) = absurd (z .end q)
 ending-told cfg st s st′ q (starts c k z e) = absurd (omega (arith, c, q))
 ending-told cfg st s st′ q (returns c k z a e) = absurd (omega (arith, c, q))
 ending-told cfg st s st′ q (lates c k z e) = absurd (omega (arith, c, q))

@@ -11,6 +11,7 @@ pub mod Start
 pub mod Named
 pub mod Fifo
 pub mod Timed
+pub mod Ticked
 pub mod Ended
 pub mod Accepts
 pub mod Finals

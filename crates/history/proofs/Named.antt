@@ -66,7 +66,7 @@ module _ (rs : List Step) (h : History) (s : Step) (n : Named rs h) where
   named-oldest i r = record { place = next; latest = keeps }
 
 pub named-deed : (cfg : Config) (st : State) (s : Step) (st′ : State) (rs : List Step) (h : History) → Deed cfg st s st′ → Named rs h → Named (rs ++ (s ∷ [])) (observe cfg h s)
-named-deed cfg st s st′ rs h (passes a q m) n = rw (passes-adds cfg h s q) (named-passed rs h s n)
+named-deed cfg st s st′ rs h (passes a q m w) n = rw (passes-adds cfg h s q) (named-passed rs h s n)
 named-deed cfg st s st′ rs h (starts c k z e) n = rw (starts-adds cfg h s c k) (named-begins rs h s n cfg c k)
 named-deed cfg st s st′ rs h (returns c k z a e) n = rw (returns-adds cfg h s c k) (named-closes rs h s n (takenBy h (s .who) .on) _)
 named-deed cfg st s st′ rs h (lates c k z e) n = rw (lates-adds cfg h s c k) (named-passed rs h s n)

@@ -1,7 +1,7 @@
 -- The steps that start, take and end no call leave a state alike in all that the tie reads. All but the wait do so refused or not, and no fact of the state is asked.
 -- Most write other tables; a slot that enters, exits or runs on owes what it owed; a runnable that wakes or waits keeps its requests. A wait that is taken
--- takes its time from the count of every open call (`wait-calm`), which had as much left (`lets`) and is of an operation that is there (`open-there`).
--- But for enter and exit they leave areas and stacks as they were too (`Calm`).
+-- takes its time from the count of every open call (`wait-alike`), which had as much left (`lets`) and is of an operation that is there (`open-there`).
+-- But for enter, exit, tick and wait they leave areas, stacks and timers as they were too (`Calm`).
 -- Assumes nothing.
 use Prim.Native.Nat.{ℕ, _-_, _≤_, _<_}
 use mathlib.Core.Bool.{Bool, true, false}
@@ -22,9 +22,9 @@ use Rattle.state.specs.declared.Operations.{Operations}
 use Rattle.state.specs.declared.State.{State}
 use Rattle.state.specs.declared.Stepped.{Stepped}
 use Rattle.state.specs.Parts.{noOperation}
-use Rattle.state.specs.Tables.{runnableIn, areaIn, elementIn, operationIn, timerIn, slotIn, withArea, withSlot, withRunnables, withAreas, withOperations, withTimers, withSlots}
+use Rattle.state.specs.Tables.{runnableIn, areaIn, elementIn, operationIn, slotIn, withRunnable, withArea, withTimer, withSlot, withRunnables, withAreas, withOperations, withTimers, withSlots}
 use Rattle.rules.specs.Sound.{timesIn, operationSound, operationsSound}
-use Rattle.rules.specs.Steps.{readVariableOf, writeVariableOf, entering, exiting, readOf, updatedOf, fed, writeOf, invalidateOf, sendOf, receiveOf, runningOn, pollOf, collectOf, resultOf, woken, tickOf, operationLets, operationsLet, operationAfter, operationsAfter, timersAfter, runnablesAfter}
+use Rattle.rules.specs.Steps.{readVariableOf, writeVariableOf, entering, exiting, readOf, updatedOf, fed, writeOf, invalidateOf, sendOf, receiveOf, runningOn, pollOf, collectOf, resultOf, woken, operationLets, operationsLet, operationAfter, operationsAfter, timersAfter, runnablesAfter}
 use Rattle.keep.specs.Facts.{Sound, CanWait}
 use Rattle.keep.proofs.Told.{operations-length}
 use Rattle.keep.proofs.Kept.{runnable-kept, slot-kept, fed-kept, after-kept, waited-kept}
@@ -43,17 +43,22 @@ pub record Unmoved (st st′ : State) : Type 0 where
   pub areas : (a : ℕ) → areaIn (st′ .areas) a .taken ≡ areaIn (st .areas) a .taken
   pub stacks : (a k : ℕ) → timesIn a (slotIn (st′ .slots) k .stack) ≡ timesIn a (slotIn (st .slots) k .stack)
 
--- alike, and unmoved
+-- alike, unmoved, and with the same timers
 pub record Calm (t : ℕ) (st st′ : State) : Type 0 where
   pub alike : Alike t st st′
   pub unmoved : Unmoved st st′
+  pub timers : st′ .timers ≡ st .timers
 
 pub calm-same : (st : State) → Calm 0 st st
-calm-same st = record { alike = alike-same st; unmoved = record { areas = λ a. refl; stacks = λ a k. refl } }
+calm-same st = record { alike = alike-same st; unmoved = record { areas = λ a. refl; stacks = λ a k. refl }; timers = refl }
 
 -- a step that writes neither areas nor slots
-still : {t : ℕ} (st st′ : State) → st′ .areas ≡ st .areas → st′ .slots ≡ st .slots → Alike t st st′ → Calm t st st′
-still st st′ e f a = record { alike = a; unmoved = record { areas = λ k. rw e; stacks = λ b k. rw f } }
+unmoved-by : (st st′ : State) → st′ .areas ≡ st .areas → st′ .slots ≡ st .slots → Unmoved st st′
+unmoved-by st st′ e f = record { areas = λ k. rw e; stacks = λ b k. rw f }
+
+-- nor timers
+still : {t : ℕ} (st st′ : State) → st′ .areas ≡ st .areas → st′ .slots ≡ st .slots → st′ .timers ≡ st .timers → Alike t st st′ → Calm t st st′
+still st st′ e f g a = record { alike = a; unmoved = unmoved-by st st′ e f; timers = g }
 
 -- a step that is refused or taken
 choice : (st : State) (b : Bool) (x y : Stepped) → Calm 0 st (x .state) → Calm 0 st (y .state) → Calm 0 st (pick b x y .state)
@@ -67,11 +72,11 @@ read-variable-calm st v = calm-same st
 
 pub write-variable-calm : (st : State) (v : ℕ) (x : Value) → Calm 0 st (writeVariableOf st v x .state)
 unfolding writeVariableOf
-write-variable-calm st v x = still st _ refl refl (record { operations = same-calls (st .operations); requests = λ r. refl; owed = λ k. refl })
+write-variable-calm st v x = still st _ refl refl refl (record { operations = same-calls (st .operations); requests = λ r. refl; owed = λ k. refl })
 
 pub read-calm : (st : State) (q : ℕ) → Calm 0 st (readOf st q .state)
 unfolding readOf
-read-calm st q = still st _ refl refl (record { operations = same-calls (st .operations); requests = λ r. refl; owed = λ k. refl })
+read-calm st q = still st _ refl refl refl (record { operations = same-calls (st .operations); requests = λ r. refl; owed = λ k. refl })
 
 pub updated-calm : (st : State) (q : ℕ) → Calm 0 st (updatedOf st q .state)
 unfolding updatedOf
@@ -79,7 +84,7 @@ updated-calm st q = calm-same st
 
 fed-calm : (cfg : Config) (st : State) (p : ℕ) (v : Value) → Calm 0 st (fed cfg st p v)
 unfolding fed
-fed-calm cfg st p v = still st _ refl refl (record { operations = same-calls (st .operations); requests = fed-kept (λ x. x .requests) (λ x. refl) cfg (st .elements) p (st .runnables); owed = λ k. refl })
+fed-calm cfg st p v = still st _ refl refl refl (record { operations = same-calls (st .operations); requests = fed-kept (λ x. x .requests) (λ x. refl) cfg (st .elements) p (st .runnables); owed = λ k. refl })
 
 pub write-calm : (cfg : Config) (st : State) (p : ℕ) (v : Value) → Calm 0 st (writeOf cfg st p v .state)
 unfolding writeOf
@@ -87,7 +92,7 @@ write-calm cfg st p v = fed-calm cfg st p v
 
 pub invalidate-calm : (cfg : Config) (st : State) (p : ℕ) → Calm 0 st (invalidateOf cfg st p .state)
 unfolding invalidateOf
-invalidate-calm cfg st p = still st _ refl refl (record { operations = same-calls (st .operations); requests = λ r. refl; owed = λ k. refl })
+invalidate-calm cfg st p = still st _ refl refl refl (record { operations = same-calls (st .operations); requests = λ r. refl; owed = λ k. refl })
 
 pub send-calm : (cfg : Config) (st : State) (p : ℕ) (v : Value) → Calm 0 st (sendOf cfg st p v .state)
 unfolding sendOf
@@ -97,7 +102,7 @@ pub receive-calm : (st : State) (q : ℕ) → Calm 0 st (receiveOf st q .state)
 unfolding receiveOf
 receive-calm st q =
     choice st (eqb (elementIn (st .elements) q .queue .queued) 0) _ _ (calm-same st)
-    (still st _ refl refl (record { operations = same-calls (st .operations); requests = λ r. refl; owed = λ k. refl }))
+    (still st _ refl refl refl (record { operations = same-calls (st .operations); requests = λ r. refl; owed = λ k. refl }))
 
 -- ---- areas
 
@@ -128,6 +133,7 @@ collect-calm st i o =
     (record {
       alike = record { operations = same-calls (st .operations); requests = λ r. refl; owed = slot-kept (λ x. x .owed) (st .slots) i (runningOn (slotIn (st .slots) i)) refl };
       unmoved = record { areas = λ a. refl; stacks = λ a. slot-kept (λ x. timesIn a (x .stack)) (st .slots) i (runningOn (slotIn (st .slots) i)) refl };
+      timers = refl;
     })
 
 pub result-calm : (cfg : Config) (st : State) (i o : ℕ) → Calm 0 st (resultOf cfg st i o .state)
@@ -136,17 +142,21 @@ result-calm cfg st i o = choice st (operationConfIn (cfg .operations) o .asynchr
 
 -- ---- time
 
-pub tick-calm : (cfg : Config) (st : State) (t : ℕ) → Calm 0 st (tickOf cfg st t .state)
-unfolding tickOf
-tick-calm cfg st t =
-    choice st (eqb (timerIn (st .timers) t .count) 0) _ _
-    (still st _ refl refl
-    (record {
-      operations = same-calls (st .operations);
-      requests = runnable-kept (λ x. x .requests) (st .runnables) (timerConfIn (cfg .timers) t .runnable) (woken (runnableIn (st .runnables) (timerConfIn (cfg .timers) t .runnable))) refl;
-      owed = λ k. refl;
-    }))
-    (calm-same st)
+-- the state after the timer t has ticked
+abbrev pub ticked : Config → State → ℕ → State
+ticked cfg st t =
+    withRunnables (withTimers st (withTimer (st .timers) t (record { count = timerConfIn (cfg .timers) t .period })))
+    (withRunnable (st .runnables) (timerConfIn (cfg .timers) t .runnable) (woken (runnableIn (st .runnables) (timerConfIn (cfg .timers) t .runnable))))
+
+pub tick-alike : (cfg : Config) (st : State) (t : ℕ) → Alike 0 st (ticked cfg st t)
+tick-alike cfg st t = record {
+  operations = same-calls (st .operations);
+  requests = runnable-kept (λ x. x .requests) (st .runnables) (timerConfIn (cfg .timers) t .runnable) (woken (runnableIn (st .runnables) (timerConfIn (cfg .timers) t .runnable))) refl;
+  owed = λ k. refl;
+}
+
+pub tick-unmoved : (cfg : Config) (st : State) (t : ℕ) → Unmoved st (ticked cfg st t)
+tick-unmoved cfg st t = unmoved-by st _ refl refl
 
 -- the state after t has passed
 abbrev pub later : Config → State → ℕ → State
@@ -190,5 +200,8 @@ module _ (cfg : Config) (st : State) (t : ℕ) (g : Sound cfg st) (z : CanWait c
       done : (x : Operation) → operationAfter t x .done ≡ x .done
       done x = pick-has (λ (y : Operation). y .done ≡ x .done) (x .calling) _ x (λ e. refl) (λ e. refl)
 
-  pub wait-calm : Calm t st (later cfg st t)
-  wait-calm = still st _ refl refl (record { operations = waited; requests = after-kept (λ x. x .requests) t (λ x. refl) cfg (st .runnables); owed = λ k. refl })
+  pub wait-alike : Alike t st (later cfg st t)
+  wait-alike = record { operations = waited; requests = after-kept (λ x. x .requests) t (λ x. refl) cfg (st .runnables); owed = λ k. refl }
+
+  pub wait-unmoved : Unmoved st (later cfg st t)
+  wait-unmoved = unmoved-by st _ refl refl

@@ -27,13 +27,14 @@ use Rattle.keep.proofs.Kept.{here}
 use Rattle.keep.proofs.Areas.{times-none, exit-stack}
 use Rattle.keep.proofs.Clients.{requests-told}
 use Rattle.history.specs.History.{noRequest, History, historyOf, takenBy, holderOf, allQueued, allSpawns}
-use Rattle.history.specs.Promises.{Run, OfRuns, OfSteps, StaysSound, AreasHeld, EntersFree, ExitsHeld, EndsEmpty, RequestsFit, ValuesFit, EndsOnce, EndsProperly, TimeoutAtZero, TimeoutInTime, BackInTime, OpenInTime, CountIsRest, NumberIsFinal, DoneIsFinal, OpenIsUnended, LatestStarted, QueuesFollowed, ServedFollowed, FirstInFirstOut, SpawnTakesNext}
+use Rattle.history.specs.Promises.{Run, OfRuns, OfSteps, StaysSound, AreasHeld, EntersFree, ExitsHeld, EndsEmpty, RequestsFit, ValuesFit, EndsOnce, EndsProperly, TimeoutAtZero, TimeoutInTime, BackInTime, TicksInTime, OpenInTime, CountIsRest, NumberIsFinal, DoneIsFinal, OpenIsUnended, LatestStarted, QueuesFollowed, ServedFollowed, FirstInFirstOut, SpawnTakesNext}
 use Rattle.history.proofs.Tied.{Tied}
 use Rattle.history.proofs.Runs.{Halves, halves, first, history-one}
 use Rattle.history.proofs.Deeds.{Deed}
 use Rattle.history.proofs.Accepts.{accepted, deed}
 use Rattle.history.proofs.Ended.{ended-at}
-use Rattle.history.proofs.Reached.{sound-along, sound-at, tied-at, named-at, fifo-at, timed-at, ended-along, holds-at, ends-grow}
+use Rattle.history.proofs.Reached.{sound-along, sound-at, tied-at, named-at, fifo-at, timed-at, ticked-at, ended-along, holds-at, ends-grow}
+use Rattle.history.proofs.Ticked.{clocks, ticking}
 use Rattle.history.proofs.Held.{Holds, moves, entering-told, exiting-told, ending-told, held-by, free-none, stack-holder}
 use Rattle.history.proofs.Finals.{values-told, done-final, result-told, timed, back, serves-one, took-oldest}
 
@@ -113,6 +114,12 @@ back-in-time cfg before after s st c e q v =
     let m = halves cfg (startOf cfg) st before (s ∷ after) e in
     let w = back cfg (m .mid) s _ (historyOf cfg before) q v (deed cfg (m .mid) s (first cfg (m .mid) st s after (m .after))) (tied-at cfg before (m .mid) (m .before)) in
     rw (w .latest) (omega (arith, timed-at cfg before (m .mid) (m .before) .rest (takenBy (historyOf cfg before) (s .who) .on) (w .calling)))
+
+pub ticks-in-time : OfSteps TicksInTime
+ticks-in-time cfg before after s st c e q =
+    let m = found cfg before after s st c e in
+    let z = ticking cfg (m .mid) s _ q (clocks cfg (m .mid) s _ (deed-there cfg before after s st c e)) in
+    omega (arith, ticked-at cfg before (m .mid) (m .before) .rest (s .what) (z .inside), z .zero)
 
 pub number-is-final : OfSteps NumberIsFinal
 number-is-final cfg before after s st c e n q k =

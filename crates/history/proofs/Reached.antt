@@ -1,6 +1,6 @@
 -- What holds of every run and the state that it reaches, each by the one induction over the recording (`along`): the state is sound (`sound-at`) and tied to the
 -- history (`tied-at`), the history's places are started calls (`named-at`), each server's queue is first in, first out (`fifo-at`), the counts of open calls are
--- what is left of their time (`timed-at`), each ending stands at its step, in time (`ended-along`), and areas stand with whoever entered them (`holds-at`).
+-- what is left of their time (`timed-at`), as those of timers are of their periods (`ticked-at`), each ending stands at its step, in time (`ended-along`), and areas stand with whoever entered them (`holds-at`).
 -- Endings are only added: a call has ended at least as often after more steps (`ends-grow`).
 -- Assumes nothing.
 use Prim.Native.Nat.{ℕ, _≤_, _<_}
@@ -31,6 +31,7 @@ use Rattle.history.proofs.Start.{tied-start}
 use Rattle.history.proofs.Named.{Named, named-start, named-deed}
 use Rattle.history.proofs.Fifo.{Fifo, fifo-start, fifo-deed}
 use Rattle.history.proofs.Timed.{Timed, timed-start, timed-deed}
+use Rattle.history.proofs.Ticked.{Ticked, ticked-start, clocks, ticked-deed}
 use Rattle.history.proofs.Ended.{AllEnded, ended-start, ended-deed}
 use Rattle.history.proofs.Held.{Holds, holder-one, moves, holds-start, holds-deed}
 
@@ -82,6 +83,12 @@ ended-along cfg rs st e =
     rw (history-one cfg before s)
     (ended-deed cfg m s (stepOf cfg m s .state) before (deed cfg m s a) (tied-at cfg before m r) (named-at cfg before m r) (timed-at cfg before m r) l))
     (ended-start cfg) rs st e
+
+pub ticked-at : (cfg : Config) (rs : List Step) (st : State) → Run cfg rs st → Ticked cfg (st .timers) rs
+ticked-at cfg rs st e =
+    along cfg (λ before m. Ticked cfg (m .timers) before)
+    (λ before s m r t a. ticked-deed cfg m s (stepOf cfg m s .state) before (told cfg m (accepted cfg m s (s .claim) a .0)) (clocks cfg m s (stepOf cfg m s .state) (deed cfg m s a)) t)
+    (ticked-start cfg) rs st e
 
 pub holds-at : (cfg : Config) (rs : List Step) (st : State) (a : ℕ) → Run cfg rs st → Holds st a (holderOf a rs)
 holds-at cfg rs st a e =

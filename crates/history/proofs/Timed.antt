@@ -46,15 +46,15 @@ time-one : (s : Step) → timeIn (s ∷ []) ≡ timeOf s
 unfolding timeIn
 time-one s = omega arith
 
-since-more : (k : ℕ) (rs : List Step) (s : Step) → k ≤ length rs → timeSince k (rs ++ (s ∷ [])) ≡ timeSince k rs + timeOf s
+pub since-more : (k : ℕ) (rs : List Step) (s : Step) → k ≤ length rs → timeSince k (rs ++ (s ∷ [])) ≡ timeSince k rs + timeOf s
 since-more k rs s b = rw (drop-append-le k rs (s ∷ []) b) (omega (arith, time-append (drop k rs) (s ∷ []), time-one s))
 
-since-now : (k : ℕ) (rs : List Step) → length rs ≡ k → timeSince k rs ≡ 0
+pub since-now : (k : ℕ) (rs : List Step) → length rs ≡ k → timeSince k rs ≡ 0
 unfolding timeIn
 since-now k rs e = rw (← e, drop-length rs)
 
 -- a step that is no wait
-still : (s : Step) → (s .code ≡ 18 → ⊥) → timeOf s ≡ 0
+pub still : (s : Step) → (s .code ≡ 18 → ⊥) → timeOf s ≡ 0
 unfolding timeOf
 still s n = rw (ne-eqb (s .code) 18 n)
 
@@ -117,7 +117,7 @@ timed-deed cfg st s st′ rs h g d t n k = go d
     still-so m f c = timed-still cfg os (h .latest) rs s past k (not-wait m f c)
 
     go : Deed cfg st s st′ → Timed cfg (st′ .operations) (observe cfg h s .latest) (rs ++ (s ∷ []))
-    go (passes a q m) = rw (passes-adds cfg h s q) (timed-passed cfg os (h .latest) rs s past k (st′ .operations) (a .operations))
+    go (passes a q m w) = rw (passes-adds cfg h s q) (timed-passed cfg os (h .latest) rs s past k (st′ .operations) (a .operations))
     go (starts c q z e) =
         rw (starts-adds cfg h s c q, e, n .place)
         (timed-begins cfg os (h .latest) rs s past k (s .what) (opening (operationConfIn (cfg .operations) (s .what) .timeout) (operationIn os (s .what))) (not-wait 11 refl c) (omega (arith, operations-length cfg st g, operations-most cfg (g .config), z .inside))

@@ -6,7 +6,7 @@ use Rattle.values.specs.declared.Step.{Step}
 use Rattle.state.specs.Start.{startOf}
 use Rattle.history.specs.Promises.{Run, OfRuns, OfSteps, Followed, AtMoment, AtStep, Demand3}
 use Rattle.history.proofs.Runs.{halves}
-use Rattle.history.proofs.Proofs.{stays-sound, areas-held, enters-free, exits-held, ends-empty, requests-fit, values-fit, ends-once, ends-properly, timeout-at-zero, timeout-in-time, back-in-time, open-in-time, number-is-final, done-is-final, open-is-unended, latest-started, count-is-rest, queues-followed, served-followed, first-in-first-out, spawn-takes-next}
+use Rattle.history.proofs.Proofs.{stays-sound, areas-held, enters-free, exits-held, ends-empty, requests-fit, values-fit, ends-once, ends-properly, timeout-at-zero, timeout-in-time, back-in-time, ticks-in-time, open-in-time, number-is-final, done-is-final, open-is-unended, latest-started, count-is-rest, queues-followed, served-followed, first-in-first-out, spawn-takes-next}
 
 followed : OfRuns Followed
 followed cfg rs st c e = record {
@@ -40,6 +40,7 @@ at-step cfg before after s st c e = record {
   zero = timeout-at-zero cfg before after s st c e;
   timeout = timeout-in-time cfg before after s st c e;
   back = back-in-time cfg before after s st c e;
+  tick = ticks-in-time cfg before after s st c e;
   number = number-is-final cfg before after s st c e;
   spawn = spawn-takes-next cfg before after s st c e;
 }

@@ -165,6 +165,15 @@ timeIn (s ∷ rs) = timeOf s + timeIn rs
 abbrev pub timeSince : ℕ → List Step → ℕ
 timeSince k rs = timeIn (drop k rs)
 
+-- where the timer k last ticked: last, or the last tick among rs, before which n steps stand ("The eighteen steps", 17)
+unfoldable pub tickFrom : ℕ → ℕ → ℕ → List Step → ℕ
+tickFrom k last n [] = last
+tickFrom k last n (s ∷ rs) = tickFrom k (pick (both (eqb (s .code) 17) (eqb (s .what) k)) (n + 1) last) (n + 1) rs
+
+-- the place of the last tick of the timer k, 0 before any ("The eighteen steps", 17)
+unfoldable pub lastTick : ℕ → List Step → ℕ
+lastTick k rs = tickFrom k 0 0 rs
+
 -- how long a call lasted that ended so, with this timeout: exactly that long, or no longer ("The eighteen steps", 16 and Wait)
 abbrev pub InTime : ℕ → ℕ → How → Type 0
 InTime t top byTimeout = t ≡ top

@@ -8,13 +8,15 @@ use mathlib.Core.List.{List, [], _∷_, _++_, List·Memᴰ}
 use mathlib.Core.Logic.{_↔_}
 use mathlib.Core.Option.{Option, none, some}
 use mathlib.Core.Path.{_≡_}
+use lib.Dec.{eqb}
 use lib.ListN.{length, getD, drop}
+use Rattle.laws.specs.Choice.{pick}
 use Rattle.values.specs.declared.Value.{Value}
 use Rattle.values.specs.declared.Step.{Step}
 use Rattle.values.specs.declared.Answer.{Answer}
 use Rattle.values.specs.Values.{numberV, refusalIn, valueIn}
 use Rattle.config.specs.declared.Config.{Config}
-use Rattle.config.specs.Tables.{maxRunnableConfs, maxAreaConfs, maxRequiredConfs, maxOperationConfs, runnableConfIn, requiredConfIn, operationConfIn}
+use Rattle.config.specs.Tables.{maxRunnableConfs, maxAreaConfs, maxRequiredConfs, maxOperationConfs, runnableConfIn, requiredConfIn, operationConfIn, timerConfIn}
 use Rattle.entries.specs.Faults.{configSound}
 use Rattle.state.specs.declared.Client.{Client}
 use Rattle.state.specs.declared.State.{State}
@@ -23,7 +25,7 @@ use Rattle.state.specs.Tables.{maxSlots, runnableIn, areaIn, elementIn, operati
 use Rattle.state.specs.Start.{startOf}
 use Rattle.rules.specs.Sound.{timesIn, soundOf}
 use Rattle.rules.specs.Step.{stepOf}
-use Rattle.history.specs.History.{Request, noRequest, byInstance, Ending, historyOf, queuedAt, takenBy, latestOn, endsOf, lastOn, Started, EndedBy, timeSince, InTime, holderOf, allQueued, allSpawns}
+use Rattle.history.specs.History.{Request, noRequest, byInstance, Ending, historyOf, queuedAt, takenBy, latestOn, endsOf, lastOn, Started, EndedBy, timeSince, lastTick, InTime, holderOf, allQueued, allSpawns}
 
 -- an answer says that the step was taken, with this value: by the number and the value that stand for it; no refusal has the number 0 (`never-zero` in crate keep) ("Numbers of refusal")
 abbrev pub Answers : Answer → Value → Type 0
@@ -126,6 +128,11 @@ OpenInTime cfg rs st =
     (o : ℕ) → o < maxOperationConfs → 0 < latestOn (historyOf cfg rs) o → endsOf (latestOn (historyOf cfg rs) o) (historyOf cfg rs .endings) ≡ 0
     → timeSince (latestOn (historyOf cfg rs) o) rs ≤ operationConfIn (cfg .operations) o .timeout
 
+-- from one tick of a timer to its next exactly its period passes, and before its first tick no time at all ("The eighteen steps", 17 and Wait)
+abbrev pub TicksInTime : Config → List Step → Step → List Step → Type 0
+TicksInTime cfg before s after =
+    s .code ≡ 17 → timeSince (lastTick (s .what) before) before ≡ pick (eqb (lastTick (s .what) before) 0) 0 (timerConfIn (cfg .timers) (s .what) .period)
+
 -- who gets a Number as a result gets what an instance handed back that was spawned for the latest call that ended there; and nowhere in the whole recording, before or after, does that call end again, by a timeout or otherwise ("How tight the contracts are", demand 3)
 abbrev pub NumberIsFinal : Config → List Step → Step → List Step → Type 0
 NumberIsFinal cfg before s after =
@@ -215,6 +222,7 @@ pub record AtStep (cfg : Config) (before : List Step) (s : Step) (after : List S
   pub zero : TimeoutAtZero cfg before s after
   pub timeout : TimeoutInTime cfg before s after
   pub back : BackInTime cfg before s after
+  pub tick : TicksInTime cfg before s after
   pub number : NumberIsFinal cfg before s after
   pub spawn : SpawnTakesNext cfg before s after
 

@@ -49,6 +49,10 @@ module _ (cfg : Config) (h : configSound cfg ≡ true) where
   unfolding countOf maxOf
   operations-most = kind 6 (omega arith) .room
 
+  pub timers-most : cfg .timers .n ≤ 8
+  unfolding countOf maxOf
+  timers-most = kind 7 (omega arith) .room
+
   -- ---- runnables
 
   -- in use: no init flag on a server, and a capacity that a queue has room for

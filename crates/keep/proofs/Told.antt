@@ -67,6 +67,9 @@ module _ (cfg : Config) (st : State) (s : Sound cfg st) where
   pub operations-length : length (st .operations .at) ≡ 8
   operations-length = shape-told st (s .shape) .operations
 
+  pub timers-length : length (st .timers .at) ≡ 8
+  timers-length = shape-told st (s .shape) .timers
+
   pub slots-length : length (st .slots .at) ≡ 32
   slots-length = shape-told st (s .shape) .slots
 

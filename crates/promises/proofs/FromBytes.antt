@@ -15,8 +15,10 @@ use Rattle.config.specs.declared.Config.{Config}
 use Rattle.state.specs.declared.State.{State}
 use Rattle.state.specs.Start.{startOf}
 use Rattle.entries.specs.Faults.{configSound}
-use Rattle.rules.specs.Step.{stepOf}
+use Rattle.rules.specs.Sound.{soundOf}
+use Rattle.rules.specs.Step.{innerOf, stepOf}
 use Rattle.keep.proofs.Start.{start-sound}
+use Rattle.keep.proofs.Keeps.{once, kept}
 use Rattle.reading.specs.declared.Outcome.{Outcome}
 use Rattle.reading.specs.declared.Outcome.the-variants.{Whole, Refused as NotRead}
 use Rattle.reading.specs.Reading.{configOf, refusalIn as Outcome·refusalIn, placeIn as Outcome·placeIn}
@@ -29,7 +31,8 @@ use Rattle.judging.specs.declared.Line.the-variants.{Configuration, TooLong}
 use Rattle.judging.specs.Judging.{refusalIn, placeIn, formIn, judged, judgeFrom, judgeOf}
 use Rattle.judging.specs.Line.{maxConfig, maxRecording, allowed, verdictLine, judgedLine, readLine, lineOf, formIn as Line·formIn, countIn, placeIn as Line·placeIn, refusalIn as Line·refusalIn}
 use Rattle.history.specs.Promises.{Run}
-use Rattle.promises.specs.Claims.{Says, FirstRun, CountedIsRun, AcceptedIsWhole, UnfinishedIsCut, Stops, RefusedIsStopped, Fits, Readable, AcceptedIsRun, RefusedIsRun, UnfinishedIsRun, ConfigurationIsUnread, TooLongIsLong}
+use Rattle.promises.specs.Claims.{Says, FirstRun, UntestedIsSame, CountedIsRun, AcceptedIsWhole, UnfinishedIsCut, Stops, RefusedIsStopped, Fits, Readable, AcceptedIsRun, RefusedIsRun, UnfinishedIsRun, ConfigurationIsUnread, TooLongIsLong}
+use Rattle.judging.proofs.Laws.{judged-same}
 use Rattle.promises.proofs.Counted.{counted, accepted-whole, unfinished-more}
 use Rattle.promises.proofs.Stopped.{stopped-at}
 use Rattle.promises.proofs.Told.{whole-judged, cut-judged, stopped-judged}
@@ -40,6 +43,11 @@ use Rattle.promises.proofs.Told.{whole-judged, cut-judged, stopped-judg
 from-start : (cfg : Config) (t : List ℕ) (a : ℕ) → configSound cfg ≡ true → judgeOf cfg (startOf cfg) t a ≡ judgeFrom (stepOf cfg) a t 0 (startOf cfg)
 unfolding judgeOf
 from-start cfg t a h = rw (start-sound cfg h)
+
+pub untested-is-same : UntestedIsSame
+untested-is-same cfg t a h =
+    from-start cfg t a h
+    ∙ sym (judged-same (innerOf cfg) (stepOf cfg) (soundOf cfg) (λ st s e. sym (once cfg st s e)) (λ st s e. kept cfg st s e) a t 0 (startOf cfg) (start-sound cfg h))
 
 -- a verdict by its form
 is-accepted : (v : Verdict) → formIn v ≡ 0 → v ≡ Accepted

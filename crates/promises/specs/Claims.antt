@@ -14,13 +14,13 @@ use Rattle.config.specs.declared.Config.{Config}
 use Rattle.state.specs.declared.State.{State}
 use Rattle.state.specs.Start.{startOf}
 use Rattle.entries.specs.Faults.{configSound}
-use Rattle.rules.specs.Step.{stepOf}
+use Rattle.rules.specs.Step.{innerOf, stepOf}
 use Rattle.wire.proofs.Laws.{Bytes}
 use Rattle.reading.specs.Reading.{configOf, refusalIn as Outcome·refusalIn, placeIn as Outcome·placeIn}
 use Rattle.recording.specs.Recording.{refusalIn as Field·refusalIn, pastIn}
 use Rattle.recording.specs.Whole.{wholeOf, stepsIn, isSound, textOf}
 use Rattle.judging.specs.declared.Judged.{Judged}
-use Rattle.judging.specs.Judging.{refusalIn as Verdict·refusalIn, placeIn as Verdict·placeIn, formIn as Verdict·formIn, judgeOf}
+use Rattle.judging.specs.Judging.{refusalIn as Verdict·refusalIn, placeIn as Verdict·placeIn, formIn as Verdict·formIn, judgeFrom, judgeOf}
 use Rattle.judging.specs.Line.{maxConfig, maxRecording, allowed, lineOf, formIn, countIn, placeIn, refusalIn as Line·refusalIn}
 use Rattle.history.specs.Promises.{Run, Demand3}
 
@@ -34,6 +34,10 @@ Says j form n st = (Verdict·formIn (j .verdict) ≡ form) × (j .count ≡ n) �
 pub record FirstRun (config : Config) (t : List ℕ) (n : ℕ) (state : State) : Type 0 where
   pub there : n ≤ length (stepsIn t)
   pub run : Run config (take n (stepsIn t)) state
+
+-- the test of soundness can be left out: with the step that does not make it, the judgment is the same
+abbrev pub UntestedIsSame : Type 0
+UntestedIsSame = (cfg : Config) (t : List ℕ) (a : ℕ) → configSound cfg ≡ true → judgeOf cfg (startOf cfg) t a ≡ judgeFrom (innerOf cfg) a t 0 (startOf cfg)
 
 -- whatever the verdict, the steps that it counts are the first of the bytes, accepted up to the state that it gives
 abbrev pub CountedIsRun : Type 0
