@@ -38,17 +38,9 @@ use Rattle.history.proofs.Ticked.{clocks, ticking}
 use Rattle.history.proofs.Held.{Holds, moves, entering-told, exiting-told, ending-told, held-by, free-none, stack-holder}
 use Rattle.history.proofs.Finals.{values-told, done-final, result-told, timed, back, serves-one, took-oldest}
 
--- ---- states
+-- ---- a step inside a recording
 
-pub stays-sound : OfRuns StaysSound
-stays-sound = sound-along
-
--- ---- areas and queues
-
-pub areas-held : OfRuns AreasHeld
-areas-held cfg rs st c e a b = held-by cfg st a (sound-at cfg rs st c e) b (holderOf a rs) (holds-at cfg rs st a e)
-
--- what a step finds: the state before it is sound, areas stand with whoever entered them, and the deed says what the step relied on
+-- what a step finds: the state before it, which is sound, and the deed that it is
 module _ (cfg : Config) (before after : List Step) (s : Step) (st : State) (c : configSound cfg ≡ true) (e : Run cfg (before ++ (s ∷ after)) st) where
   abbrev found : Halves cfg (startOf cfg) st before (s ∷ after)
   found = halves cfg (startOf cfg) st before (s ∷ after) e
@@ -58,6 +50,16 @@ module _ (cfg : Config) (before after : List Step) (s : Step) (st : State) (c : 
 
   deed-there : Deed cfg (found .mid) s (stepOf cfg (found .mid) s .state)
   deed-there = deed cfg (found .mid) s (first cfg (found .mid) st s after (found .after))
+
+-- ---- states
+
+pub stays-sound : OfRuns StaysSound
+stays-sound = sound-along
+
+-- ---- areas and queues
+
+pub areas-held : OfRuns AreasHeld
+areas-held cfg rs st c e a b = held-by cfg st a (sound-at cfg rs st c e) b (holderOf a rs) (holds-at cfg rs st a e)
 
 pub enters-free : OfSteps EntersFree
 enters-free cfg before after s st c e q =
@@ -97,22 +99,22 @@ ends-properly cfg rs st c e x m = ended-at cfg rs x _ (ended-along cfg rs st e) 
 
 pub timeout-at-zero : OfSteps TimeoutAtZero
 timeout-at-zero cfg before after s st c e q =
-    let m = halves cfg (startOf cfg) st before (s ∷ after) e in
-    let z = timed cfg (m .mid) s _ q (deed cfg (m .mid) s (first cfg (m .mid) st s after (m .after))) in
+    let m = found cfg before after s st c e in
+    let z = timed cfg (m .mid) s _ q (deed-there cfg before after s st c e) in
     let t = tied-at cfg before (m .mid) (m .before) in
     let b = t .calls .begun (s .what) (z .calling) in
     (m .mid, m .before, z .calling, z .zero, named-at cfg before (m .mid) (m .before) .latest (s .what) b, omega (arith, rw (z .calling) at (t .calls .state (s .what) b)))
 
 pub timeout-in-time : OfSteps TimeoutInTime
 timeout-in-time cfg before after s st c e q =
-    let m = halves cfg (startOf cfg) st before (s ∷ after) e in
-    let z = timed cfg (m .mid) s _ q (deed cfg (m .mid) s (first cfg (m .mid) st s after (m .after))) in
+    let m = found cfg before after s st c e in
+    let z = timed cfg (m .mid) s _ q (deed-there cfg before after s st c e) in
     omega (arith, timed-at cfg before (m .mid) (m .before) .rest (s .what) (z .calling), z .zero)
 
 pub back-in-time : OfSteps BackInTime
 back-in-time cfg before after s st c e q v =
-    let m = halves cfg (startOf cfg) st before (s ∷ after) e in
-    let w = back cfg (m .mid) s _ (historyOf cfg before) q v (deed cfg (m .mid) s (first cfg (m .mid) st s after (m .after))) (tied-at cfg before (m .mid) (m .before)) in
+    let m = found cfg before after s st c e in
+    let w = back cfg (m .mid) s _ (historyOf cfg before) q v (deed-there cfg before after s st c e) (tied-at cfg before (m .mid) (m .before)) in
     rw (w .latest) (omega (arith, timed-at cfg before (m .mid) (m .before) .rest (takenBy (historyOf cfg before) (s .who) .on) (w .calling)))
 
 pub ticks-in-time : OfSteps TicksInTime
@@ -123,7 +125,7 @@ ticks-in-time cfg before after s st c e q =
 
 pub number-is-final : OfSteps NumberIsFinal
 number-is-final cfg before after s st c e n q k =
-    let m = halves cfg (startOf cfg) st before (s ∷ after) e in
+    let m = found cfg before after s st c e in
     let a = first cfg (m .mid) st s after (m .after) in
     let r = result-told cfg (m .mid) s n q (ap (λ (x : Stepped). x .answer) (sym (accepted cfg (m .mid) s (s .claim) a .1)) ∙ a ∙ ap Taken k) in
     let f = done-final (m .mid) (historyOf cfg before) (s .what) n (tied-at cfg before (m .mid) (m .before)) (r .0) (r .1) in
@@ -171,11 +173,11 @@ first-in-first-out cfg rs st c e r b q = fifo-at cfg rs st r (lt-ltb 0 _ q) (ome
 pub spawn-takes-next : OfSteps SpawnTakesNext
 unfolding isServer
 spawn-takes-next cfg before after s st c e q b =
-    let m = halves cfg (startOf cfg) st before (s ∷ after) e in
+    let m = found cfg before after s st c e in
     let y : isServer cfg (s .what) ≡ true = lt-ltb 0 _ b in
     let t = tied-at cfg before (m .mid) (m .before) in
     let f = fifo-at cfg before (m .mid) (s .what) y (omega (arith, server-there cfg c (s .what) y, runnables-most cfg c)) (m .before) in
-    let d = deed cfg (m .mid) s (first cfg (m .mid) st s after (m .after)) in (
+    let d = deed-there cfg before after s st c e in (
       omega (arith, serves-one cfg (m .mid) s _ q y d, t .queues .each (s .what) .size, ap length (f .queue), length-drop (allSpawns (s .what) before) (allQueued cfg (s .what) 0 before)),
       ap (λ (h : History). takenBy h (s .claim .number)) (history-one cfg before s)
           ∙ took-oldest cfg (m .mid) s _ (historyOf cfg before) q y d t
