@@ -2,5 +2,6 @@
 pub mod Counted
 pub mod Stopped
 pub mod Told
+pub mod Verdicts
 pub mod FromBytes
 pub mod Kept

@@ -1,6 +1,6 @@
 -- Each contract of a public function has one answer: no two that differ meet it, nor two that leave differing bytes in a lent buffer.
 -- The contracts are those of the code itself: `Reads.Post` is what the `ensures` lines of a function ask of its result and of what it leaves in the places lent to it, so that a
--- contract that says less than it did breaks its line here. One law serves them all: what equals one thing is equal (`same`).
+-- contract that says less than it did breaks its line here. One law serves them all: what equals one thing is equal (`same`; of a written text `written-once`).
 -- Every public function has its line; tools/listed holds this page to the code. `board::step_lent`, which is proved by hand, has `lent-one` in crate board; crate desk,
 -- which reads and prints, has none (docs/contracts.md).
 -- Assumes nothing.
@@ -11,6 +11,7 @@ use contract.Lifetimes.{Lfts}
 use denote.Triple.Clauses.{AtExit}
 use borrow.Fn.Kind.{PK, RK}
 use borrow.Fn.Kinds.{Dens, resT, endedOf, Out}
+use Rattle.wire.proofs.Laws.{written-once}
 
 -- ---- the law
 
@@ -276,7 +277,7 @@ pub wire-length-of : One Rattle.wire.proofs.length_of.Kinds.ps Rattle.wire.pro
 wire-length-of κs a x y s t = same
 
 pub wire-write : Lent Rattle.wire.proofs.write.Kinds.ps Rattle.wire.proofs.write.Kinds.r Rattle.wire.proofs.write.Reads.Post (λ κs s. s .0 .now)
-wire-write κs a x y s t p q = (same (p .answer) (q .answer), same (p .bytes) (q .bytes))
+wire-write κs a x y s t p q = written-once _ _ _ _ _ _ _ p q
 
 -- ---- recording
 
@@ -287,7 +288,7 @@ pub recording-write-step : Lent Rattle.recording.proofs.write_step.Kinds.ps Rat
 recording-write-step κs a x y s t p q = (same (p .0) (q .0), same (p .1) (q .1))
 
 pub recording-write-end : Lent Rattle.recording.proofs.write_end.Kinds.ps Rattle.recording.proofs.write_end.Kinds.r Rattle.recording.proofs.write_end.Reads.Post (λ κs s. s .0 .now)
-recording-write-end κs a x y s t p q = (same (p .answer) (q .answer), same (p .bytes) (q .bytes))
+recording-write-end κs a x y s t p q = written-once _ _ _ _ _ _ _ p q
 
 pub recording-is-sound : One Rattle.recording.proofs.is_sound.Kinds.ps Rattle.recording.proofs.is_sound.Kinds.r Rattle.recording.proofs.is_sound.Reads.Post
 recording-is-sound κs a x y s t = same
