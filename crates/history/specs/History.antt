@@ -1,4 +1,4 @@
--- The calls of a recording, as its steps and their answers show them under its configuration. No state of the machine is used here, and no number of an operation.
+-- The calls of a recording, the time that passes in it and who holds its areas, as its steps and their answers show them under its configuration. No state of the machine is used here, and no number of an operation.
 -- The name of a call is where its step stands in the recording, from 1 on, and 0 names none; an accepted step has the answer that it claims.
 -- Assumes nothing.
 use Prim.Native.Nat.{ℕ, zero, suc, _+_, _≤_}
