@@ -28,6 +28,12 @@ pastIn (IsStep s n) = 0
 pastIn End = 0
 pastIn (Refused r p) = p
 
+-- which field it is: 0 a step, 1 the end, 2 a refusal ("The files", recording)
+abbrev pub formIn : Field → ℕ
+formIn (IsStep s n) = 0
+formIn End = 1
+formIn (Refused r p) = 2
+
 -- a step's two values are good ("The files", last sentence)
 unfoldable pub valuesGood : Step → Bool
 valuesGood s = both (isGood (s .argument)) (isGood (s .claim))

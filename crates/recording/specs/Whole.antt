@@ -1,8 +1,9 @@
 -- A whole recording: the steps that a text says, and the text of steps ("The files", recording).
 -- Assumes nothing.
 use Prim.Native.Nat.{ℕ, zero, suc}
-use mathlib.Core.Bool.{Bool, true, false}
+use mathlib.Core.Bool.{Bool}
 use mathlib.Core.List.{List, [], _∷_, _++_}
+use lib.Dec.{eqb}
 use lib.ListN.{length, drop}
 use Rattle.laws.specs.Choice.{pick}
 use Rattle.values.specs.declared.Step.{Step}
@@ -11,7 +12,7 @@ use Rattle.wire.specs.declared.Wrote.{Wrote}
 use Rattle.wire.specs.declared.Wrote.the-variants.{Refused as NotWritten}
 use Rattle.recording.specs.declared.Field.{Field}
 use Rattle.recording.specs.declared.Field.the-variants.{Step as IsStep, End, Refused}
-use Rattle.recording.specs.Recording.{fieldOf, bytesOf, Recorded}
+use Rattle.recording.specs.Recording.{formIn, fieldOf, bytesOf, Recorded}
 
 -- a text read to its first field that is no step: the steps before it, and that field ("The files", recording)
 pub record Whole : Type 0 where
@@ -39,9 +40,7 @@ stepsIn t = wholeOf t .steps
 
 -- a field is the end of a recording ("The files")
 abbrev pub isEnd : Field → Bool
-isEnd (IsStep s n) = false
-isEnd End = true
-isEnd (Refused r p) = false
+isEnd f = eqb (formIn f) 1
 
 -- a text is a recording: its steps are followed by the end, and that by nothing ("The files", recording)
 abbrev pub isSound : List ℕ → Bool
