@@ -309,6 +309,14 @@ reading-read-config κs a x y s t = same
 pub writing-write-config : Lent Rattle.writing.proofs.write_config.Kinds.ps Rattle.writing.proofs.write_config.Kinds.r Rattle.writing.proofs.write_config.Reads.Post (λ κs s. s .0 .now)
 writing-write-config κs a x y s t p q = (same (p .0) (q .0), same (p .1) (q .1))
 
+-- ---- lines
+
+pub lines-put-decimal : Lent Rattle.lines.proofs.put_decimal.Kinds.ps Rattle.lines.proofs.put_decimal.Kinds.r Rattle.lines.proofs.put_decimal.Reads.Post (λ κs s. s .0 .now)
+lines-put-decimal κs a x y s t p q = written-once _ _ _ _ _ _ _ (p .0) (q .0)
+
+pub lines-put-line : Lent Rattle.lines.proofs.put_line.Kinds.ps Rattle.lines.proofs.put_line.Kinds.r Rattle.lines.proofs.put_line.Reads.Post (λ κs s. s .0 .now)
+lines-put-line κs a x y s t p q = written-once _ _ _ _ _ _ _ p q
+
 -- ---- trip
 
 pub trip-rewrite-config : Lent Rattle.trip.proofs.rewrite_config.Kinds.ps Rattle.trip.proofs.rewrite_config.Kinds.r Rattle.trip.proofs.rewrite_config.Reads.Post (λ κs s. s .1 .0 .now)
@@ -407,3 +415,8 @@ judging-judge κs a x y s t = same
 
 pub judging-line-of : One Rattle.judging.proofs.line_of.Kinds.ps Rattle.judging.proofs.line_of.Kinds.r Rattle.judging.proofs.line_of.Reads.Post
 judging-line-of κs a x y s t = same
+
+-- ---- printing
+
+pub printing-put-printed : Lent Rattle.printing.proofs.put_printed.Kinds.ps Rattle.printing.proofs.put_printed.Kinds.r Rattle.printing.proofs.put_printed.Reads.Post (λ κs s. s .0 .now)
+printing-put-printed κs a x y s t p q = written-once _ _ _ _ _ _ _ p q
