@@ -5,8 +5,8 @@
 -- which reads and prints, has none (docs/contracts.md).
 -- Assumes nothing.
 use Prim.Native.Nat.{ℕ}
-use mathlib.Core.List.{List}
-use mathlib.Core.Path.{_≡_, sym, _∙_}
+use mathlib.Core.List.{List, _++_}
+use mathlib.Core.Path.{_≡_, sym, ap₂, _∙_}
 use contract.Lifetimes.{Lfts}
 use denote.Triple.Clauses.{AtExit}
 use borrow.Fn.Kind.{PK, RK}
@@ -420,3 +420,22 @@ judging-line-of κs a x y s t = same
 
 pub printing-put-printed : Lent Rattle.printing.proofs.put_printed.Kinds.ps Rattle.printing.proofs.put_printed.Kinds.r Rattle.printing.proofs.put_printed.Reads.Post (λ κs s. s .0 .now)
 printing-put-printed κs a x y s t p q = written-once _ _ _ _ _ _ _ p q
+
+-- ---- mending
+
+pub mending-mend : Lent Rattle.mending.proofs.mend.Kinds.ps Rattle.mending.proofs.mend.Kinds.r Rattle.mending.proofs.mend.Reads.Post (λ κs s. s .1 .1 .1 .0 .now ++ s .1 .1 .1 .1 .0 .now)
+mending-mend κs a x y s t p q = (same (p .0) (q .0), ap₂ _++_ (same (p .1 .0) (q .1 .0)) (same (p .1 .1) (q .1 .1)))
+
+-- ---- mender
+
+pub mender-mend-files : Lent Rattle.mender.proofs.mend_files.Kinds.ps Rattle.mender.proofs.mend_files.Kinds.r Rattle.mender.proofs.mend_files.Reads.Post (λ κs s. s .1 .1 .0 .now ++ s .1 .1 .1 .0 .now)
+mender-mend-files κs a x y s t p q = (same (p .0) (q .0), ap₂ _++_ (same (p .1 .0) (q .1 .0)) (same (p .1 .1) (q .1 .1)))
+
+pub mender-put-note : Lent Rattle.mender.proofs.put_note.Kinds.ps Rattle.mender.proofs.put_note.Kinds.r Rattle.mender.proofs.put_note.Reads.Post (λ κs s. s .0 .now)
+mender-put-note κs a x y s t p q = written-once _ _ _ _ _ _ _ p q
+
+pub mender-put-told : Lent Rattle.mender.proofs.put_told.Kinds.ps Rattle.mender.proofs.put_told.Kinds.r Rattle.mender.proofs.put_told.Reads.Post (λ κs s. s .0 .now)
+mender-put-told κs a x y s t p q = written-once _ _ _ _ _ _ _ p q
+
+pub mender-size-of : One Rattle.mender.proofs.size_of.Kinds.ps Rattle.mender.proofs.size_of.Kinds.r Rattle.mender.proofs.size_of.Reads.Post
+mender-size-of κs a x y s t p q = same (p .0) (q .0)

@@ -1,0 +1,2 @@
+-- What the mender answers for two files.
+pub mod Telling

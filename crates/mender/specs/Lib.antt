@@ -1,0 +1,2 @@
+-- What the mender says of two files, and how it prints it.
+pub mod Told

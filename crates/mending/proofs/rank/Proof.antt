@@ -1,0 +1,27 @@
+-- `rank` meets its contract.
+-- Assumes nothing.
+use borrow.Author.Needs.{needs}
+use Prim.Native.Nat.{ℕ}
+use mathlib.Core.Path.{sym, ap, _∙_}
+use native.Mathlib.Omega.{arith}
+use Rattle.mending.specs.Going.{sizeOf}
+use Rattle.mending.proofs.Searching.{size-rests}
+use Rattle.mending.proofs.Ranking.{rank-none, rank-one, rank-two, rank-three}
+use Rattle.mending.proofs.rank.Statement.{statement}
+use Rattle.mending.proofs.rank.Tie as tie
+
+returns : tie.Need-returns
+returns c = (rank-none _ _ (c .before .before .stepper .ensures .0) (c .before .size-of .ensures .0 ∙ ap (λ (m : ℕ). sizeOf m 0) (c .before .before .before .count-of .ensures .is) ∙ sym (size-rests _ 0 (omega arith))) (c .if1 .taken), omega (arith, c .before .before .stepper .ensures .1))
+
+returns-2 : tie.Need-returns-2
+returns-2 c = (rank-one _ _ (c .before .before .before .before .before .stepper .ensures .0) (c .before .before .before .before .size-of .ensures .0 ∙ ap (λ (m : ℕ). sizeOf m 0) (c .before .before .before .before .before .before .count-of .ensures .is) ∙ sym (size-rests _ 0 (omega arith))) (c .before .before .before .if1 .left) (c .before .before .stepper2 .ensures .0) (c .before .size-of2 .ensures .0 ∙ ap (λ (m : ℕ). sizeOf m 1) (c .before .before .before .before .before .before .count-of .ensures .is) ∙ sym (size-rests _ 1 (omega arith))) (c .if2 .taken), omega (arith, c .before .before .before .before .size-of .ensures .2 (omega arith), c .before .before .stepper2 .ensures .1))
+
+returns-3 : tie.Need-returns-3
+returns-3 c = (rank-two _ _ (c .before .before .before .before .before .before .before .before .stepper .ensures .0) (c .before .before .before .before .before .before .before .size-of .ensures .0 ∙ ap (λ (m : ℕ). sizeOf m 0) (c .before .before .before .before .before .before .before .before .before .count-of .ensures .is) ∙ sym (size-rests _ 0 (omega arith))) (c .before .before .before .before .before .before .if1 .left) (c .before .before .before .before .before .stepper2 .ensures .0) (c .before .before .before .before .size-of2 .ensures .0 ∙ ap (λ (m : ℕ). sizeOf m 1) (c .before .before .before .before .before .before .before .before .before .count-of .ensures .is) ∙ sym (size-rests _ 1 (omega arith))) (c .before .before .before .if2 .left) (c .before .before .stepper3 .ensures .0) (c .before .size-of3 .ensures .0 ∙ ap (λ (m : ℕ). sizeOf m 2) (c .before .before .before .before .before .before .before .before .before .count-of .ensures .is) ∙ sym (size-rests _ 2 (omega arith))) (c .if3 .taken), omega (arith, c .before .before .before .before .before .before .before .size-of .ensures .2 (omega arith), c .before .before .before .before .size-of2 .ensures .2 (omega arith), c .if3 .taken, c .before .size-of3 .ensures .2 (omega arith)))
+
+returns-4 : tie.Need-returns-4
+returns-4 c = (rank-three _ _ (c .before .before .before .before .before .before .before .before .before .stepper .ensures .0) (c .before .before .before .before .before .before .before .before .size-of .ensures .0 ∙ ap (λ (m : ℕ). sizeOf m 0) (c .before .before .before .before .before .before .before .before .before .before .count-of .ensures .is) ∙ sym (size-rests _ 0 (omega arith))) (c .before .before .before .before .before .before .before .if1 .left) (c .before .before .before .before .before .before .stepper2 .ensures .0) (c .before .before .before .before .before .size-of2 .ensures .0 ∙ ap (λ (m : ℕ). sizeOf m 1) (c .before .before .before .before .before .before .before .before .before .before .count-of .ensures .is) ∙ sym (size-rests _ 1 (omega arith))) (c .before .before .before .before .if2 .left) (c .before .before .before .stepper3 .ensures .0) (c .before .before .size-of3 .ensures .0 ∙ ap (λ (m : ℕ). sizeOf m 2) (c .before .before .before .before .before .before .before .before .before .before .count-of .ensures .is) ∙ sym (size-rests _ 2 (omega arith))) (c .before .if3 .left) (c .stepper4 .ensures .0), omega (arith, c .before .before .before .before .before .before .before .before .size-of .ensures .2 (omega arith), c .before .before .before .before .before .size-of2 .ensures .2 (omega arith), c .before .before .size-of3 .ensures .2 (omega arith), c .stepper4 .ensures .1))
+
+pub rank-spec : {M : Type 1} → statement M
+rank-spec =
+    tie.close (tie.spec (λ c κs. search needs) (λ c κs. search needs) (λ c κs. search needs) returns (λ c κs. search needs) (λ c κs. search needs) (λ c. search needs) returns-2 (λ c κs. search needs) (λ c κs. search needs) (λ c. search needs) (λ c. search needs) returns-3 (λ c κs. search needs) (λ c. search needs) (λ c. search needs) (λ c. search needs) returns-4)

@@ -1,0 +1,129 @@
+-- Mending as code goes about it: a choice by its number, how many sequences there are, the sequence of a rank by its digits, and the state that taken choices lead to.
+-- That each is what the definitions of crate gaps say is shown in proofs/.
+-- Assumes nothing.
+use Prim.Native.Nat.{ℕ, _+_, _-_, _*_, _/_, _%_, _≤_, _<_}
+use mathlib.Core.Bool.{true}
+use mathlib.Core.List.{List, [], _∷_, _++_}
+use mathlib.Core.Path.{_≡_}
+use lib.Dec.{ltb, eqb}
+use lib.ListN.{length}
+use Rattle.laws.specs.Choice.{pick}
+use Rattle.values.specs.declared.Value.{Value}
+use Rattle.values.specs.declared.Step.{Step}
+use Rattle.values.specs.declared.Answer.{Answer}
+use Rattle.values.specs.Values.{valueIn}
+use Rattle.config.specs.declared.Config.{Config}
+use Rattle.state.specs.declared.State.{State}
+use Rattle.rules.specs.Step.{possibleOf, innerOf}
+use Rattle.wire.specs.Bytes.{bytes32}
+use Rattle.recording.specs.Recording.{valuesGood, bytesOf}
+use Rattle.gaps.specs.declared.Choices.{Choices}
+use Rattle.gaps.specs.Gaps.{choice, countsOf, rankOf, canFill, fillOf, turnOf, turnSteps}
+use Rattle.gaps.specs.Report.{placeBytes, surveyOf}
+use Rattle.gaps.specs.declared.Mended.the-variants.{Whole}
+use Rattle.mending.specs.declared.Picks.{Picks}
+use Rattle.mending.specs.declared.Crossed.{Crossed}
+
+-- how many choices there are
+abbrev pub countIn : Choices → ℕ
+countIn n = n .spawns + n .timeouts + n .ticks
+
+-- what counting them tells: the count, which is small because each of the three counts is a byte
+pub record Counted (n : Choices) (r : ℕ) : Type 0 where
+  pub is : r ≡ countIn n
+  pub most : r ≤ 765
+  pub spawns : n .spawns < 256
+  pub timeouts : n .timeouts < 256
+  pub ticks : n .ticks < 256
+
+-- the choice with the number k
+unfoldable pub choiceAt : Choices → ℕ → Step
+choiceAt n k =
+    pick (ltb k (n .spawns)) (choice 15 (k % 256))
+    (pick (ltb k (n .spawns + n .timeouts)) (choice 16 ((k - n .spawns) % 256))
+    (choice 17 ((k - (n .spawns + n .timeouts)) % 256)))
+
+-- how many sequences of length m there are, m at most 3
+unfoldable pub sizeOf : ℕ → ℕ → ℕ
+sizeOf k m = pick (eqb m 0) 1 (pick (eqb m 1) k (pick (eqb m 2) (k * k) (k * (k * k))))
+
+-- how many there are in all
+abbrev pub mostOf : ℕ → ℕ
+mostOf k = 1 + (k + (k * k + k * (k * k)))
+
+-- a sequence of so many choices, by their numbers
+abbrev pub picks : ℕ → ℕ → ℕ → ℕ → Picks
+picks length first second third = record { length = length; first = first; second = second; third = third }
+
+-- the sequence of a rank, by the numbers of its choices
+unfoldable pub picksOf : ℕ → ℕ → Picks
+picksOf k rank =
+    pick (ltb rank 1) (picks 0 0 0 0)
+    (pick (ltb (rank - 1) k) (picks 1 (rank - 1) 0 0)
+    (pick (ltb (rank - 1 - k) (k * k)) (picks 2 ((rank - 1 - k) / k) ((rank - 1 - k) % k) 0)
+    (pick (ltb (rank - 1 - k - k * k) (k * (k * k)))
+    (picks 3 ((rank - 1 - k - k * k) / (k * k)) ((rank - 1 - k - k * k) % (k * k) / k) ((rank - 1 - k - k * k) % (k * k) % k))
+    (picks 0 0 0 0))))
+
+-- what is left of a sequence behind its first choice
+abbrev pub restOf : Picks → Picks
+restOf p = picks (p .length - 1) (p .second) (p .third) 0
+
+-- the choices of a sequence
+unfoldable pub picked : Choices → Picks → List Step
+picked n p =
+    pick (eqb (p .length) 0) []
+    (choiceAt n (p .first)
+    ∷ pick (eqb (p .length) 1) []
+    (choiceAt n (p .second)
+    ∷ pick (eqb (p .length) 2) []
+    (choiceAt n (p .third) ∷ [])))
+
+-- the state behind choices that are taken one after the other
+unfoldable pub takenAll : Config → State → List Step → State
+takenAll cfg st [] = st
+takenAll cfg st (x ∷ xs) = takenAll cfg (possibleOf cfg st x .state) xs
+
+-- ---- writing
+
+-- a step with another claim
+abbrev pub claimedOf : Step → Value → Step
+claimedOf x v = record { code = x .code; who = x .who; what = x .what; argument = x .argument; claim = v }
+
+-- a step with an answer as its claim
+abbrev pub claimingOf : Step → Answer → Step
+claimingOf x a = claimedOf x (valueIn a)
+
+-- the bytes of step fields, one behind the other
+unfoldable pub fieldsOf : List Step → List ℕ
+fieldsOf [] = []
+fieldsOf (s ∷ rs) = bytesOf s ++ fieldsOf rs
+
+-- the sixteen bytes of a note
+abbrev pub noteOf : ℕ → ℕ → ℕ → Value → ℕ → List ℕ
+noteOf kind code what v place = kind ∷ code ∷ what ∷ v .kind ∷ (bytes32 (v .number) ++ placeBytes place)
+
+-- so many steps and notes have room in buffers of these lengths
+pub record Room (steps notes out report : ℕ) : Type 0 where
+  pub text : steps * 16 ≤ out
+  pub note : notes * 16 ≤ report
+
+-- what is known of a gap before it is written: some sequence fills it and it is not the empty one, the recorded step can be written, and there is room
+pub record Fillable (cfg : Config) (st : State) (s : Step) (all : Choices) (steps notes out report : ℕ) : Type 0 where
+  pub counts : all ≡ countsOf cfg
+  pub fills : canFill (innerOf cfg) cfg st s ≡ true
+  pub gap : 0 < rankOf (innerOf cfg) cfg st s
+  pub good : valuesGood s ≡ true
+  pub room : Room (steps + length (turnSteps (turnOf (innerOf cfg) cfg st s))) (notes + length (turnSteps (turnOf (innerOf cfg) cfg st s))) out report
+
+-- what is known of a recording before it is written: it can be mended, and there is room for the text with its end and for the report
+pub record Mendable (cfg : Config) (st : State) (t : List ℕ) (out report : ℕ) : Type 0 where
+  pub steps : ℕ
+  pub notes : ℕ
+  pub survey : surveyOf (innerOf cfg) cfg st t ≡ Whole steps notes
+  pub text : steps * 16 + 3 ≤ out
+  pub note : notes * 16 ≤ report
+
+-- the state behind a gap and its step, and how many steps were inserted
+abbrev pub crossedOf : Config → State → Step → Crossed
+crossedOf cfg st s = record { state = innerOf cfg (takenAll cfg st (fillOf (innerOf cfg) cfg st s)) s .state; inserted = length (fillOf (innerOf cfg) cfg st s) }
