@@ -1,6 +1,6 @@
 // The lent state: a step taken in place, for a board that keeps one state only.
 ghost use mathlib.Core.Path.{_≡_};
-ghost use Rattle.rules.specs.Step.{stepOf};
+ghost use Rattle.effects.specs.Step.{stepOf};
 use config::Config;
 use state::State;
 use values::Answer;

@@ -4,6 +4,8 @@
 use Prim.Native.Nat.{ℕ, _+_, _-_}
 use mathlib.Core.Bool.{Bool, true, not}
 use lib.Dec.{ltb, leb, eqb}
+use Rattle.numbers.specs.Refusals.{badPair, namesNothing, outOfRange, tooMany}
+use Rattle.numbers.specs.Tags.{partKinds, runnableTag, variableTag, areaTag, requiredTag, providedTag, operationTag, timerTag, linkTag, dataEventTag, returnEventTag}
 use Rattle.laws.specs.Choice.{pick, both, either, alike}
 use Rattle.laws.specs.Loop.{allBelow}
 use Rattle.config.specs.declared.Config.{Config}
@@ -30,23 +32,23 @@ isTime n = both (ltb 0 n) (leb n maxTime)
 -- the numbers of an entry are in range; numbers of parts are not looked at here ("Numbers of refusal", 24)
 unfoldable pub inRange : ℕ → Entry → Bool
 inRange tag e =
-    pick (eqb tag 0x10) (both (leb (e .first) maxComponent) (both (leb (e .second) 3) (both (leb (e .number) maxTime) (leb (e .third) maxCapacity))))
-    (pick (eqb tag 0x11) (both (leb (e .first) maxComponent) (leb (e .second) 1))
-    (pick (eqb tag 0x12) (leb (e .first) maxComponent)
-    (pick (eqb tag 0x13) (both (leb (e .first) maxComponent) (leb (e .second) maxCapacity))
-    (pick (eqb tag 0x14) (both (leb (e .first) maxComponent) (leb (e .second) 1))
-    (pick (eqb tag 0x16) (both (leb (e .first) maxComponent) (both (leb (e .second) 1) (isTime (e .number))))
-    (pick (eqb tag 0x17) (isTime (e .number))
+    pick (eqb tag runnableTag) (both (leb (e .first) maxComponent) (both (leb (e .second) 3) (both (leb (e .number) maxTime) (leb (e .third) maxCapacity))))
+    (pick (eqb tag variableTag) (both (leb (e .first) maxComponent) (leb (e .second) 1))
+    (pick (eqb tag areaTag) (leb (e .first) maxComponent)
+    (pick (eqb tag requiredTag) (both (leb (e .first) maxComponent) (leb (e .second) maxCapacity))
+    (pick (eqb tag providedTag) (both (leb (e .first) maxComponent) (leb (e .second) 1))
+    (pick (eqb tag operationTag) (both (leb (e .first) maxComponent) (both (leb (e .second) 1) (isTime (e .number))))
+    (pick (eqb tag timerTag) (isTime (e .number))
     true))))))
 
 -- every part that an entry names is there ("Numbers of refusal", 25)
 unfoldable pub namesThere : Config → ℕ → Entry → Bool
 namesThere cfg tag e =
-    pick (eqb tag 0x15) (both (ltb (e .first) (cfg .provided .n)) (ltb (e .second) (cfg .required .n)))
-    (pick (eqb tag 0x16) (ltb (e .third) (cfg .runnables .n))
-    (pick (eqb tag 0x17) (ltb (e .first) (cfg .runnables .n))
-    (pick (eqb tag 0x18) (both (ltb (e .first) (cfg .runnables .n)) (ltb (e .second) (cfg .required .n)))
-    (pick (eqb tag 0x19) (both (ltb (e .first) (cfg .runnables .n)) (ltb (e .second) (cfg .operations .n)))
+    pick (eqb tag linkTag) (both (ltb (e .first) (cfg .provided .n)) (ltb (e .second) (cfg .required .n)))
+    (pick (eqb tag operationTag) (ltb (e .third) (cfg .runnables .n))
+    (pick (eqb tag timerTag) (ltb (e .first) (cfg .runnables .n))
+    (pick (eqb tag dataEventTag) (both (ltb (e .first) (cfg .runnables .n)) (ltb (e .second) (cfg .required .n)))
+    (pick (eqb tag returnEventTag) (both (ltb (e .first) (cfg .runnables .n)) (ltb (e .second) (cfg .operations .n)))
     true))))
 
 -- a runnable with a request capacity is a server, any other plain ("The files", below the table)
@@ -68,13 +70,13 @@ risesAt cfg tag i e = either (eqb i 0) (rises (entryOf cfg tag (i - 1)) e)
 -- no bad pairing: no init flag on a server, no initial without its mark, links join like kinds, operations stand on servers, timers and events on plain runnables, and link and event pairs rise ("Numbers of refusal", 26)
 unfoldable pub pairsWell : Config → ℕ → ℕ → Entry → Bool
 pairsWell cfg tag i e =
-    pick (eqb tag 0x10) (either (leb (e .second) 1) (eqb (e .third) 0))
-    (pick (eqb tag 0x11) (either (eqb (e .second) 1) (eqb (e .number) 0))
-    (pick (eqb tag 0x15) (both (alike (providedConfIn (cfg .provided) (e .first) .queued) (isQueued cfg (e .second))) (risesAt cfg tag i e))
-    (pick (eqb tag 0x16) (isServer cfg (e .third))
-    (pick (eqb tag 0x17) (not (isServer cfg (e .first)))
-    (pick (eqb tag 0x18) (both (not (isServer cfg (e .first))) (risesAt cfg tag i e))
-    (pick (eqb tag 0x19) (both (not (isServer cfg (e .first))) (risesAt cfg tag i e))
+    pick (eqb tag runnableTag) (either (leb (e .second) 1) (eqb (e .third) 0))
+    (pick (eqb tag variableTag) (either (eqb (e .second) 1) (eqb (e .number) 0))
+    (pick (eqb tag linkTag) (both (alike (providedConfIn (cfg .provided) (e .first) .queued) (isQueued cfg (e .second))) (risesAt cfg tag i e))
+    (pick (eqb tag operationTag) (isServer cfg (e .third))
+    (pick (eqb tag timerTag) (not (isServer cfg (e .first)))
+    (pick (eqb tag dataEventTag) (both (not (isServer cfg (e .first))) (risesAt cfg tag i e))
+    (pick (eqb tag returnEventTag) (both (not (isServer cfg (e .first))) (risesAt cfg tag i e))
     true))))))
 
 -- the first fault of an entry at place i of its kind: too many, a number out of range, a part that isn't there, a bad pairing; 0 for none ("Numbers of refusal", 23 to 26)
@@ -85,10 +87,10 @@ entryFault cfg tag i e =
     (pick (namesThere cfg tag e)
     (pick (pairsWell cfg tag i e)
     0
-    26)
-    25)
-    24)
-    23
+    badPair)
+    namesNothing)
+    outOfRange)
+    tooMany
 
 -- an entry of zeros ("A sound state", unused places)
 unfoldable pub isNoEntry : Entry → Bool
@@ -106,4 +108,4 @@ kindSound cfg tag =
 
 -- a sound configuration: all ten kinds are sound, with the tags from 10 to 19 ("A sound state", first sentence)
 unfoldable pub configSound : Config → Bool
-configSound cfg = allBelow (λ (j : ℕ). kindSound cfg (0x10 + j)) 10
+configSound cfg = allBelow (λ (j : ℕ). kindSound cfg (runnableTag + j)) partKinds

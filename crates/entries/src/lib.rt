@@ -63,16 +63,16 @@ pub fn max_of(tag: u8) -> u8
     ensures { λ r. ⌜ r ≡ maxOf tag ⌝ }
 {
     match tag {
-        0x10 => RunnableConfs::MAX as u8,
-        0x11 => VariableConfs::MAX as u8,
-        0x12 => AreaConfs::MAX as u8,
-        0x13 => RequiredConfs::MAX as u8,
-        0x14 => ProvidedConfs::MAX as u8,
-        0x15 => Links::MAX as u8,
-        0x16 => OperationConfs::MAX as u8,
-        0x17 => TimerConfs::MAX as u8,
-        0x18 => DataEvents::MAX as u8,
-        0x19 => ReturnEvents::MAX as u8,
+        numbers::TAG_RUNNABLE => RunnableConfs::MAX as u8,
+        numbers::TAG_VARIABLE => VariableConfs::MAX as u8,
+        numbers::TAG_AREA => AreaConfs::MAX as u8,
+        numbers::TAG_REQUIRED => RequiredConfs::MAX as u8,
+        numbers::TAG_PROVIDED => ProvidedConfs::MAX as u8,
+        numbers::TAG_LINK => Links::MAX as u8,
+        numbers::TAG_OPERATION => OperationConfs::MAX as u8,
+        numbers::TAG_TIMER => TimerConfs::MAX as u8,
+        numbers::TAG_DATA_EVENT => DataEvents::MAX as u8,
+        numbers::TAG_RETURN_EVENT => ReturnEvents::MAX as u8,
         _ => 0,
     }
 }
@@ -82,16 +82,16 @@ pub fn count_of(cfg: Config, tag: u8) -> u8
     ensures { λ r. ⌜ r ≡ countOf cfg tag ⌝ }
 {
     match tag {
-        0x10 => cfg.runnables.n,
-        0x11 => cfg.variables.n,
-        0x12 => cfg.areas.n,
-        0x13 => cfg.required.n,
-        0x14 => cfg.provided.n,
-        0x15 => cfg.links.n,
-        0x16 => cfg.operations.n,
-        0x17 => cfg.timers.n,
-        0x18 => cfg.devents.n,
-        0x19 => cfg.revents.n,
+        numbers::TAG_RUNNABLE => cfg.runnables.n,
+        numbers::TAG_VARIABLE => cfg.variables.n,
+        numbers::TAG_AREA => cfg.areas.n,
+        numbers::TAG_REQUIRED => cfg.required.n,
+        numbers::TAG_PROVIDED => cfg.provided.n,
+        numbers::TAG_LINK => cfg.links.n,
+        numbers::TAG_OPERATION => cfg.operations.n,
+        numbers::TAG_TIMER => cfg.timers.n,
+        numbers::TAG_DATA_EVENT => cfg.devents.n,
+        numbers::TAG_RETURN_EVENT => cfg.revents.n,
         _ => 0,
     }
 }
@@ -305,43 +305,43 @@ pub fn entry_of(cfg: Config, tag: u8, i: u8) -> Entry
     ensures { λ r. ⌜ r ≡ entryOf cfg tag i ⌝ }
 {
     match tag {
-        0x10 => {
+        numbers::TAG_RUNNABLE => {
             let t = cfg.runnables;
             runnable_entry(t.get(i))
         }
-        0x11 => {
+        numbers::TAG_VARIABLE => {
             let t = cfg.variables;
             variable_entry(t.get(i))
         }
-        0x12 => {
+        numbers::TAG_AREA => {
             let t = cfg.areas;
             area_entry(t.get(i))
         }
-        0x13 => {
+        numbers::TAG_REQUIRED => {
             let t = cfg.required;
             required_entry(t.get(i))
         }
-        0x14 => {
+        numbers::TAG_PROVIDED => {
             let t = cfg.provided;
             provided_entry(t.get(i))
         }
-        0x15 => {
+        numbers::TAG_LINK => {
             let t = cfg.links;
             link_entry(t.get(i))
         }
-        0x16 => {
+        numbers::TAG_OPERATION => {
             let t = cfg.operations;
             operation_entry(t.get(i))
         }
-        0x17 => {
+        numbers::TAG_TIMER => {
             let t = cfg.timers;
             timer_entry(t.get(i))
         }
-        0x18 => {
+        numbers::TAG_DATA_EVENT => {
             let t = cfg.devents;
             data_event_entry(t.get(i))
         }
-        0x19 => {
+        numbers::TAG_RETURN_EVENT => {
             let t = cfg.revents;
             return_event_entry(t.get(i))
         }
@@ -454,16 +454,16 @@ pub fn placed(cfg: Config, tag: u8, e: Entry) -> Config
     ensures { λ r. ⌜ r ≡ placed cfg tag e ⌝ }
 {
     match tag {
-        0x10 => place_runnable(cfg, e),
-        0x11 => place_variable(cfg, e),
-        0x12 => place_area(cfg, e),
-        0x13 => place_required(cfg, e),
-        0x14 => place_provided(cfg, e),
-        0x15 => place_link(cfg, e),
-        0x16 => place_operation(cfg, e),
-        0x17 => place_timer(cfg, e),
-        0x18 => place_data_event(cfg, e),
-        0x19 => place_return_event(cfg, e),
+        numbers::TAG_RUNNABLE => place_runnable(cfg, e),
+        numbers::TAG_VARIABLE => place_variable(cfg, e),
+        numbers::TAG_AREA => place_area(cfg, e),
+        numbers::TAG_REQUIRED => place_required(cfg, e),
+        numbers::TAG_PROVIDED => place_provided(cfg, e),
+        numbers::TAG_LINK => place_link(cfg, e),
+        numbers::TAG_OPERATION => place_operation(cfg, e),
+        numbers::TAG_TIMER => place_timer(cfg, e),
+        numbers::TAG_DATA_EVENT => place_data_event(cfg, e),
+        numbers::TAG_RETURN_EVENT => place_return_event(cfg, e),
         _ => cfg,
     }
 }
@@ -517,13 +517,13 @@ pub fn in_range(tag: u8, e: Entry) -> bool
     ensures { λ r. ⌜ r ≡ inRange tag e ⌝ }
 {
     match tag {
-        0x10 => runnable_ranges(e),
-        0x11 => ranges(e, 1),
-        0x12 => e.first <= Entry::MAX_COMPONENT,
-        0x13 => ranges(e, Entry::MAX_CAPACITY),
-        0x14 => ranges(e, 1),
-        0x16 => operation_ranges(e),
-        0x17 => is_time(e.number),
+        numbers::TAG_RUNNABLE => runnable_ranges(e),
+        numbers::TAG_VARIABLE => ranges(e, 1),
+        numbers::TAG_AREA => e.first <= Entry::MAX_COMPONENT,
+        numbers::TAG_REQUIRED => ranges(e, Entry::MAX_CAPACITY),
+        numbers::TAG_PROVIDED => ranges(e, 1),
+        numbers::TAG_OPERATION => operation_ranges(e),
+        numbers::TAG_TIMER => is_time(e.number),
         _ => true,
     }
 }
@@ -543,11 +543,11 @@ pub fn names_there(cfg: Config, tag: u8, e: Entry) -> bool
     ensures { λ r. ⌜ r ≡ namesThere cfg tag e ⌝ }
 {
     match tag {
-        0x15 => pair_there(e, cfg.provided.n, cfg.required.n),
-        0x16 => e.third < cfg.runnables.n,
-        0x17 => e.first < cfg.runnables.n,
-        0x18 => pair_there(e, cfg.runnables.n, cfg.required.n),
-        0x19 => pair_there(e, cfg.runnables.n, cfg.operations.n),
+        numbers::TAG_LINK => pair_there(e, cfg.provided.n, cfg.required.n),
+        numbers::TAG_OPERATION => e.third < cfg.runnables.n,
+        numbers::TAG_TIMER => e.first < cfg.runnables.n,
+        numbers::TAG_DATA_EVENT => pair_there(e, cfg.runnables.n, cfg.required.n),
+        numbers::TAG_RETURN_EVENT => pair_there(e, cfg.runnables.n, cfg.operations.n),
         _ => true,
     }
 }
@@ -656,13 +656,13 @@ pub fn pairs_well(cfg: Config, tag: u8, i: u8, e: Entry) -> bool
     ensures { λ r. ⌜ r ≡ pairsWell cfg tag i e ⌝ }
 {
     match tag {
-        0x10 => runnable_pairs(e),
-        0x11 => variable_pairs(e),
-        0x15 => link_pairs(cfg, tag, i, e),
-        0x16 => is_server(cfg, e.third),
-        0x17 => is_plain(cfg, e.first),
-        0x18 => event_pairs(cfg, tag, i, e),
-        0x19 => event_pairs(cfg, tag, i, e),
+        numbers::TAG_RUNNABLE => runnable_pairs(e),
+        numbers::TAG_VARIABLE => variable_pairs(e),
+        numbers::TAG_LINK => link_pairs(cfg, tag, i, e),
+        numbers::TAG_OPERATION => is_server(cfg, e.third),
+        numbers::TAG_TIMER => is_plain(cfg, e.first),
+        numbers::TAG_DATA_EVENT => event_pairs(cfg, tag, i, e),
+        numbers::TAG_RETURN_EVENT => event_pairs(cfg, tag, i, e),
         _ => true,
     }
 }
@@ -677,13 +677,13 @@ pub fn entry_fault(cfg: Config, tag: u8, i: u8, e: Entry) -> u8
                 if pairs_well(cfg, tag, i, e) {
                     return 0;
                 }
-                return 26;
+                return numbers::BAD_PAIR;
             }
-            return 25;
+            return numbers::NAMES_NOTHING;
         }
-        return 24;
+        return numbers::OUT_OF_RANGE;
     }
-    23
+    numbers::TOO_MANY
 }
 
 pub fn is_no_entry(e: Entry) -> bool
@@ -734,7 +734,7 @@ pub fn config_sound(cfg: Config) -> bool
 {
     let mut j: u8 = 0;
     while j < 10 {
-        if kind_sound(cfg, 0x10 + j) {
+        if kind_sound(cfg, numbers::TAG_RUNNABLE + j) {
             j = j + 1;
         } else {
             return false;

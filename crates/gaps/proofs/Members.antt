@@ -8,6 +8,7 @@ use native.Mathlib.Decide.{decLt}
 use native.Mathlib.Nat.{not-suc-le-zero}
 use native.Mathlib.Omega.{arith}
 use lib.ListN.{length, getD, length-append}
+use Rattle.numbers.specs.Codes.{spawnCode, timeoutCode, tickCode}
 use Rattle.values.specs.declared.Step.{Step}
 use Rattle.gaps.specs.declared.Choices.{Choices}
 use Rattle.gaps.specs.Orders.{each, behind, sequences, upToThree}
@@ -35,29 +36,29 @@ each-has f (suc n) k l = go (decLt k n) (λ h. each-has f n k h)
 -- ---- the choices
 
 abbrev pub ChoiceIn : Choices → Step → Type 0
-ChoiceIn n x = ((k : ℕ) × (k < n .spawns) × (x ≡ choice 15 k)) ⊎ (((k : ℕ) × (k < n .timeouts) × (x ≡ choice 16 k)) ⊎ ((k : ℕ) × (k < n .ticks) × (x ≡ choice 17 k)))
+ChoiceIn n x = ((k : ℕ) × (k < n .spawns) × (x ≡ choice spawnCode k)) ⊎ (((k : ℕ) × (k < n .timeouts) × (x ≡ choice timeoutCode k)) ⊎ ((k : ℕ) × (k < n .ticks) × (x ≡ choice tickCode k)))
 
 pub length-choices : (n : Choices) → length (choicesIn n) ≡ n .spawns + n .timeouts + n .ticks
 unfolding choicesIn
 length-choices n =
-    length-append (each (choice 15) (n .spawns)) (each (choice 16) (n .timeouts) ++ each (choice 17) (n .ticks))
-    ∙ omega (arith, length-append (each (choice 16) (n .timeouts)) (each (choice 17) (n .ticks)), length-each (choice 15) (n .spawns), length-each (choice 16) (n .timeouts), length-each (choice 17) (n .ticks))
+    length-append (each (choice spawnCode) (n .spawns)) (each (choice timeoutCode) (n .timeouts) ++ each (choice tickCode) (n .ticks))
+    ∙ omega (arith, length-append (each (choice timeoutCode) (n .timeouts)) (each (choice tickCode) (n .ticks)), length-each (choice spawnCode) (n .spawns), length-each (choice timeoutCode) (n .timeouts), length-each (choice tickCode) (n .ticks))
 
 pub choices-told : (n : Choices) (x : Step) → List·Memᴰ x (choicesIn n) → ChoiceIn n x
 unfolding choicesIn
 choices-told n x m =
-    ⊎-elim (λ (a : List·Memᴰ x (each (choice 15) (n .spawns))). inl (each-told (choice 15) (n .spawns) a))
-    (λ (b : List·Memᴰ x (each (choice 16) (n .timeouts) ++ each (choice 17) (n .ticks))).
-    ⊎-elim (λ (c : List·Memᴰ x (each (choice 16) (n .timeouts))). inr (inl (each-told (choice 16) (n .timeouts) c)))
-    (λ (c : List·Memᴰ x (each (choice 17) (n .ticks))). inr (inr (each-told (choice 17) (n .ticks) c)))
-    (List·Memᴰ·append-cases (each (choice 16) (n .timeouts)) b))
-    (List·Memᴰ·append-cases (each (choice 15) (n .spawns)) m)
+    ⊎-elim (λ (a : List·Memᴰ x (each (choice spawnCode) (n .spawns))). inl (each-told (choice spawnCode) (n .spawns) a))
+    (λ (b : List·Memᴰ x (each (choice timeoutCode) (n .timeouts) ++ each (choice tickCode) (n .ticks))).
+    ⊎-elim (λ (c : List·Memᴰ x (each (choice timeoutCode) (n .timeouts))). inr (inl (each-told (choice timeoutCode) (n .timeouts) c)))
+    (λ (c : List·Memᴰ x (each (choice tickCode) (n .ticks))). inr (inr (each-told (choice tickCode) (n .ticks) c)))
+    (List·Memᴰ·append-cases (each (choice timeoutCode) (n .timeouts)) b))
+    (List·Memᴰ·append-cases (each (choice spawnCode) (n .spawns)) m)
 
 pub choices-has : (n : Choices) (x : Step) → ChoiceIn n x → List·Memᴰ x (choicesIn n)
 unfolding choicesIn
-choices-has n x (inl h) = Memᴰ·cast (h .2) (Memᴰ·append-left (each (choice 16) (n .timeouts) ++ each (choice 17) (n .ticks)) (each-has (choice 15) (n .spawns) (h .0) (h .1)))
-choices-has n x (inr (inl h)) = Memᴰ·cast (h .2) (Memᴰ·append-right (each (choice 15) (n .spawns)) (Memᴰ·append-left (each (choice 17) (n .ticks)) (each-has (choice 16) (n .timeouts) (h .0) (h .1))))
-choices-has n x (inr (inr h)) = Memᴰ·cast (h .2) (Memᴰ·append-right (each (choice 15) (n .spawns)) (Memᴰ·append-right (each (choice 16) (n .timeouts)) (each-has (choice 17) (n .ticks) (h .0) (h .1))))
+choices-has n x (inl h) = Memᴰ·cast (h .2) (Memᴰ·append-left (each (choice timeoutCode) (n .timeouts) ++ each (choice tickCode) (n .ticks)) (each-has (choice spawnCode) (n .spawns) (h .0) (h .1)))
+choices-has n x (inr (inl h)) = Memᴰ·cast (h .2) (Memᴰ·append-right (each (choice spawnCode) (n .spawns)) (Memᴰ·append-left (each (choice tickCode) (n .ticks)) (each-has (choice timeoutCode) (n .timeouts) (h .0) (h .1))))
+choices-has n x (inr (inr h)) = Memᴰ·cast (h .2) (Memᴰ·append-right (each (choice spawnCode) (n .spawns)) (Memᴰ·append-right (each (choice timeoutCode) (n .timeouts)) (each-has (choice tickCode) (n .ticks) (h .0) (h .1))))
 
 -- ---- sequences
 

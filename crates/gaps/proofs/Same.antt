@@ -7,6 +7,7 @@ use mathlib.Core.Path.{_≡_, refl, ap, _∙_}
 use lib.Dec.{ltb, eqb}
 use lib.ListN.{length, getD}
 use borrow.Author.Tests.{eq-eqb}
+use Rattle.numbers.specs.Refusals.{otherAnswer}
 use Rattle.laws.specs.Choice.{pick, both}
 use Rattle.values.specs.declared.Value.{Value}
 use Rattle.values.specs.declared.Step.{Step}
@@ -17,9 +18,9 @@ use Rattle.config.specs.declared.Config.{Config}
 use Rattle.state.specs.declared.State.{State}
 use Rattle.state.specs.declared.Stepped.{Stepped}
 use Rattle.rules.specs.Sound.{soundOf}
-use Rattle.rules.specs.Refusals.{instanceRefusal, schedulerRefusal}
-use Rattle.rules.specs.Steps.{refused}
-use Rattle.rules.specs.Step.{onAnswer, instanceStepOf, schedulerStepOf, possibleOf, claimedOf, innerOf, stepOf}
+use Rattle.rules.specs.Refusals.{instanceRefusal, schedulerRefusal, refusalBy, refusalOf}
+use Rattle.effects.specs.Steps.{refused}
+use Rattle.effects.specs.Step.{onAnswer, possibleOf, claimedOf, innerOf, stepOf}
 use Rattle.keep.proofs.Keeps.{once, kept-step}
 use Rattle.recording.specs.Whole.{wholeOf, stepsIn}
 use Rattle.gaps.specs.Gaps.{Turn, sequencesOf, isTaken, answered, fills, rankOf, canFill, fillOf, answeredAll, stateAfter, turnOf, turnSteps, turnsOf, mendedSteps}
@@ -31,7 +32,7 @@ use Rattle.gaps.proofs.Ordered.{passed-same}
 
 -- whether a step could be taken does not hang on its claim
 pub possible-claimed : (cfg : Config) (st : State) (x : Step) (v : Value) → possibleOf cfg st (record { code = x .code; who = x .who; what = x .what; argument = x .argument; claim = v }) ≡ possibleOf cfg st x
-unfolding possibleOf instanceStepOf schedulerStepOf instanceRefusal schedulerRefusal
+unfolding possibleOf refusalOf refusalBy instanceRefusal schedulerRefusal
 possible-claimed cfg st x v = refl
 
 pub possible-answered : (cfg : Config) (st : State) (x : Step) → possibleOf cfg st (answered cfg st x) ≡ possibleOf cfg st x
@@ -45,7 +46,7 @@ claimed-itself : (st : State) (r : Stepped) → claimedOf (valueIn (r .answer)) 
 unfolding claimedOf
 claimed-itself st r = go (r .answer)
   where
-    go : (a : Answer) → onAnswer a (λ (v : Value). pick (sameValue v (valueIn a)) r (refused 17 st)) (λ (n : ℕ). r) ≡ r
+    go : (a : Answer) → onAnswer a (λ (v : Value). pick (sameValue v (valueIn a)) r (refused otherAnswer st)) (λ (n : ℕ). r) ≡ r
     go (Taken v) = rw (same-self v)
     go (Barred n) = refl
 

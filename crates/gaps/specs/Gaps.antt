@@ -6,6 +6,7 @@ use mathlib.Core.Bool.{Bool, true, false}
 use mathlib.Core.List.{List, [], _∷_, _++_}
 use lib.Dec.{ltb}
 use lib.ListN.{length, getD}
+use Rattle.numbers.specs.Codes.{spawnCode, timeoutCode, tickCode}
 use Rattle.laws.specs.Choice.{pick, both}
 use Rattle.values.specs.declared.Step.{Step}
 use Rattle.values.specs.declared.Answer.{Answer}
@@ -14,7 +15,7 @@ use Rattle.values.specs.Values.{voidV, valueIn}
 use Rattle.config.specs.declared.Config.{Config}
 use Rattle.state.specs.declared.State.{State}
 use Rattle.state.specs.declared.Stepped.{Stepped}
-use Rattle.rules.specs.Step.{possibleOf}
+use Rattle.effects.specs.Step.{possibleOf}
 use Rattle.gaps.specs.declared.Choices.{Choices}
 use Rattle.gaps.specs.Orders.{each, passedOver, upToThree}
 
@@ -30,7 +31,7 @@ countsOf cfg = record { spawns = cfg .runnables .n; timeouts = cfg .operations .
 
 -- all choices in order: spawns by runnable, then timeouts by operation, then ticks by timer (W-209, order)
 unfoldable pub choicesIn : Choices → List Step
-choicesIn n = each (choice 15) (n .spawns) ++ (each (choice 16) (n .timeouts) ++ each (choice 17) (n .ticks))
+choicesIn n = each (choice spawnCode) (n .spawns) ++ (each (choice timeoutCode) (n .timeouts) ++ each (choice tickCode) (n .ticks))
 
 -- every sequence of at most three of a configuration's choices, in the order in which they are tried (W-209, order)
 unfoldable pub sequencesOf : Config → List (List Step)

@@ -4,13 +4,15 @@ use Prim.Native.Nat.{ℕ, _+_, _*_, _/_}
 use mathlib.Core.List.{List, [], _∷_, _++_}
 use lib.Dec.{leb, eqb}
 use lib.ListN.{length}
+use Rattle.numbers.specs.Refusals.{badField, noRoom, notSound, noFill}
+use Rattle.numbers.specs.Tags.{stepSize, endSize}
 use Rattle.laws.specs.Choice.{pick, both}
 use Rattle.values.specs.declared.Step.{Step}
 use Rattle.config.specs.declared.Config.{Config}
 use Rattle.state.specs.declared.State.{State}
 use Rattle.state.specs.declared.Stepped.{Stepped}
 use Rattle.rules.specs.Sound.{soundOf}
-use Rattle.rules.specs.Step.{stepOf}
+use Rattle.effects.specs.Step.{stepOf}
 use Rattle.wire.specs.Bytes.{bytes32, putAt}
 use Rattle.recording.specs.declared.Field.{Field}
 use Rattle.recording.specs.declared.Field.the-variants.{Step as IsStep, End, Refused as NoField}
@@ -61,25 +63,25 @@ noteCount (t ∷ ts) = pick (eqb (t .passed) 0) 0 (length (t .inserted) + 1) + n
 
 -- what the field behind the n steps of a text says: the end, or a refusal (W-209, 18)
 abbrev pub onLast : Field → ℕ → Mended → Mended
-onLast (IsStep s size) n whole = Refused (n + 1) 18
+onLast (IsStep s size) n whole = Refused (n + 1) badField
 onLast End n whole = whole
-onLast (NoField k past) n whole = Refused (n + 1 + past) k
+onLast (NoField past k) n whole = Refused (n + 1 + past) k
 
 -- the answer but for soundness and room: 31 at the first gap that can't be filled, then what the text's last field says (W-209, refusals)
 unfoldable pub surveyOf : (State → Step → Stepped) → Config → State → List ℕ → Mended
 surveyOf step cfg st t =
     pick (eqb (length (turnsOf step cfg st (stepsIn t))) (length (stepsIn t)))
     (onLast (wholeOf t .last) (length (stepsIn t)) (Whole (length (mendedSteps (turnsOf step cfg st (stepsIn t)))) (noteCount (turnsOf step cfg st (stepsIn t)))))
-    (Refused (length (turnsOf step cfg st (stepsIn t)) + 1) 31)
+    (Refused (length (turnsOf step cfg st (stepsIn t)) + 1) noFill)
 
 -- 27, last of all, where the text or the report does not fit its buffer (W-209, 27)
 abbrev pub fitted : List ℕ → List ℕ → Mended → Mended
-fitted b p (Whole steps notes) = pick (both (leb (steps * 16 + 3) (length b)) (leb (notes * 16) (length p))) (Whole steps notes) (Refused 0 27)
+fitted b p (Whole steps notes) = pick (both (leb (steps * stepSize + endSize) (length b)) (leb (notes * 16) (length p))) (Whole steps notes) (Refused 0 noRoom)
 fitted b p (Refused place number) = Refused place number
 
 -- the answer: 1 at place 0 before all (W-209, refusals)
 unfoldable pub mendTo : Config → State → List ℕ → List ℕ → List ℕ → Mended
-mendTo cfg st t b p = pick (soundOf cfg st) (fitted b p (surveyOf (stepOf cfg) cfg st t)) (Refused 0 1)
+mendTo cfg st t b p = pick (soundOf cfg st) (fitted b p (surveyOf (stepOf cfg) cfg st t)) (Refused 0 notSound)
 
 -- the buffer of the text afterwards; a refusal leaves it (W-209, the mended text)
 abbrev pub mendWritten : Config → State → List ℕ → List ℕ → List ℕ → List ℕ

@@ -1,130 +1,148 @@
 // Refusals 2 to 5; a slot's steps have all four, the scheduler's steps have refusals 2 and 3 only. What a code's entries are to be, whether the parts are there, whose they are, and what an instance may do as it lives.
 ghost use mathlib.Core.Path.{_≡_};
-ghost use Rattle.rules.specs.Refusals.{partOf, queueingOf, argumentOf, argues, formed, partThere, queuesAs, partOwn, asksSynchronous, lifeLets, instanceRefusal, schedulerRefusal};
 ghost use mathlib.Core.Bool.{not};
 ghost use lib.Dec.{eqb};
 ghost use Rattle.laws.specs.Choice.{both, either};
-ghost use Rattle.gate.specs.Owned.{ownedRefusal};
+ghost use Rattle.numbers.specs.Codes.{resultCode, endCode};
+ghost use Rattle.rules.specs.Rows.{rowOf};
+ghost use Rattle.rules.specs.Refusals.{argues, formed, partThere, queuesAs, partOwn, asksSynchronous, lifeLets, ownedRefusal, instanceRefusal, schedulerRefusal};
 use config::Config;
+use rules::Row;
 use state::Life;
 use state::Slots;
 use values::Step;
 use values::Value;
 
-// Which entries a code uses, by codes from 0: the kind of part that it names, by its tag; whether an element is to be unqueued (1) or queued (2); and its argument: none (0), a payload (1), a Number (2).
-const PARTS: [u8; 19] = [
-    0,
-    0x11,
-    0x11,
-    0x12,
-    0x12,
-    0x13,
-    0x14,
-    0x13,
-    0x14,
-    0x13,
-    0x14,
-    0x16,
-    0x16,
-    0,
-    0,
-    0x10,
-    0x16,
-    0x17,
-    0,
+// Who takes a step.
+const NOBODY: u8 = 0;
+
+const A_SLOT: u8 = 1;
+
+const SCHEDULER: u8 = 2;
+
+// What it names: the tag of the kind of part, or none.
+const NO_PART: u8 = 0;
+
+// Which queueing an element is to have.
+const ANYHOW: u8 = 0;
+
+const UNQUEUED: u8 = 1;
+
+const QUEUED: u8 = 2;
+
+// Its argument.
+const NOTHING: u8 = 0;
+
+const A_PAYLOAD: u8 = 1;
+
+const A_NUMBER: u8 = 2;
+
+// The table of steps, a row for each code from 0 on: who takes it, the part, the queueing, the argument.
+const ROWS: [[u8; 4]; 19] = [
+    [NOBODY, NO_PART, ANYHOW, NOTHING],
+    [A_SLOT, numbers::TAG_VARIABLE, ANYHOW, NOTHING],
+    [A_SLOT, numbers::TAG_VARIABLE, ANYHOW, A_PAYLOAD],
+    [A_SLOT, numbers::TAG_AREA, ANYHOW, NOTHING],
+    [A_SLOT, numbers::TAG_AREA, ANYHOW, NOTHING],
+    [A_SLOT, numbers::TAG_REQUIRED, UNQUEUED, NOTHING],
+    [A_SLOT, numbers::TAG_PROVIDED, UNQUEUED, A_PAYLOAD],
+    [A_SLOT, numbers::TAG_REQUIRED, UNQUEUED, NOTHING],
+    [A_SLOT, numbers::TAG_PROVIDED, UNQUEUED, NOTHING],
+    [A_SLOT, numbers::TAG_REQUIRED, QUEUED, NOTHING],
+    [A_SLOT, numbers::TAG_PROVIDED, QUEUED, A_PAYLOAD],
+    [A_SLOT, numbers::TAG_OPERATION, ANYHOW, A_PAYLOAD],
+    [A_SLOT, numbers::TAG_OPERATION, ANYHOW, NOTHING],
+    [A_SLOT, NO_PART, ANYHOW, A_PAYLOAD],
+    [A_SLOT, NO_PART, ANYHOW, NOTHING],
+    [SCHEDULER, numbers::TAG_RUNNABLE, ANYHOW, NOTHING],
+    [SCHEDULER, numbers::TAG_OPERATION, ANYHOW, NOTHING],
+    [SCHEDULER, numbers::TAG_TIMER, ANYHOW, NOTHING],
+    [SCHEDULER, NO_PART, ANYHOW, A_NUMBER],
 ];
 
-const QUEUEINGS: [u8; 19] = [0, 0, 0, 0, 0, 1, 1, 1, 1, 2, 2, 0, 0, 0, 0, 0, 0, 0, 0];
-
-const ARGUMENTS: [u8; 19] = [0, 0, 1, 0, 0, 0, 1, 0, 0, 0, 1, 1, 0, 1, 0, 0, 0, 0, 2];
-
-fn part_of(code: u8) -> u8
-    ensures { λ r. ⌜ r ≡ partOf code ⌝ }
+// The row of a code; a code without one is nobody's.
+fn row_of(code: u8) -> Row
+    ensures { λ r. ⌜ r ≡ rowOf code ⌝ }
 {
     let k = code as usize;
-    if k < 19 { PARTS[k] } else { 0 }
+    if k < 19 {
+        let l = ROWS[k];
+        return Row {
+            who: l[0],
+            part: l[1],
+            queueing: l[2],
+            argument: l[3],
+        };
+    }
+    Row {
+        who: NOBODY,
+        part: NO_PART,
+        queueing: ANYHOW,
+        argument: NOTHING,
+    }
 }
 
-fn queueing_of(code: u8) -> u8
-    ensures { λ r. ⌜ r ≡ queueingOf code ⌝ }
-{
-    let k = code as usize;
-    if k < 19 { QUEUEINGS[k] } else { 0 }
-}
-
-fn argument_of(code: u8) -> u8
-    ensures { λ r. ⌜ r ≡ argumentOf code ⌝ }
-{
-    let k = code as usize;
-    if k < 19 { ARGUMENTS[k] } else { 0 }
-}
-
+// A value is the argument asked for; none is Void.
 fn argues(k: u8, v: Value) -> bool
     ensures { λ r. ⌜ r ≡ argues k v ⌝ }
 {
-    if k == 0 {
+    if k == NOTHING {
         return v.is_void();
     }
-    if k == 1 {
+    if k == A_PAYLOAD {
         return v.is_payload();
     }
     v.kind == 1
 }
 
-fn formed(code: u8, what: u8, v: Value) -> bool
-    ensures { λ r. ⌜ r ≡ formed code what v ⌝ }
+// What and argument are as the row has them.
+fn formed(row: Row, what: u8, v: Value) -> bool
+    ensures { λ r. ⌜ r ≡ formed row what v ⌝ }
 {
-    if 0 < part_of(code) {
-        return argues(argument_of(code), v);
+    if NO_PART < row.part {
+        return argues(row.argument, v);
     }
-    if what == 0 {
-        return argues(argument_of(code), v);
-    }
-    false
+    what == 0 && argues(row.argument, v)
 }
 
+// The part that is named is there, if one is.
 fn part_there(cfg: Config, tag: u8, n: u8) -> bool
     ensures { λ r. ⌜ r ≡ partThere cfg tag n ⌝ }
 {
-    if tag == 0 {
-        return true;
-    }
-    n < entries::count_of(cfg, tag)
+    tag == NO_PART || n < entries::count_of(cfg, tag)
 }
 
 fn queues_as(cfg: Config, tag: u8, queueing: u8, n: u8) -> bool
     ensures { λ r. ⌜ r ≡ queuesAs cfg tag queueing n ⌝ }
 {
-    if queueing == 0 {
+    if queueing == ANYHOW {
         return true;
     }
     let e = entries::entry_of(cfg, tag, n);
     if 0 < e.second {
-        return queueing == 2;
+        return queueing == QUEUED;
     }
-    if queueing == 2 {
+    if queueing == QUEUED {
         return false;
     }
     true
 }
 
-fn part_own(cfg: Config, component: u8, tag: u8, queueing: u8, n: u8) -> bool
-    ensures { λ r. ⌜ r ≡ partOwn cfg component tag queueing n ⌝ }
+fn part_own(cfg: Config, component: u8, row: Row, n: u8) -> bool
+    ensures { λ r. ⌜ r ≡ partOwn cfg component row n ⌝ }
 {
-    if tag == 0 {
+    let tag = row.part;
+    if tag == NO_PART {
         return true;
     }
     let e = entries::entry_of(cfg, tag, n);
-    if e.first == component {
-        return queues_as(cfg, tag, queueing, n);
-    }
-    false
+    e.first == component && queues_as(cfg, tag, row.queueing, n)
 }
 
 fn asks_synchronous(cfg: Config, code: u8, what: u8) -> bool
     ensures { λ r. ⌜ r ≡ asksSynchronous cfg code what ⌝ }
 {
-    if code == 12 {
+    if code == numbers::CODE_RESULT {
         let t = cfg.operations;
         let c = t.get(what);
         if c.asynchronous {
@@ -147,23 +165,20 @@ fn may_ask(cfg: Config, waiting: bool, code: u8, what: u8) -> bool
 
 // A finished instance may end alone.
 fn finished_lets(finished: bool, code: u8) -> bool
-    ensures { λ r. ⌜ r ≡ either (not finished) (eqb code 14) ⌝ }
+    ensures { λ r. ⌜ r ≡ either (not finished) (eqb code endCode) ⌝ }
 {
     if finished {
-        return code == 14;
+        return code == numbers::CODE_END;
     }
     true
 }
 
 // A waiting instance may ask for that result alone.
 fn waiting_lets(waiting: bool, on: u8, code: u8, what: u8) -> bool
-    ensures { λ r. ⌜ r ≡ either (not waiting) (both (eqb code 12) (eqb on what)) ⌝ }
+    ensures { λ r. ⌜ r ≡ either (not waiting) (both (eqb code resultCode) (eqb on what)) ⌝ }
 {
     if waiting {
-        if code == 12 {
-            return on == what;
-        }
-        return false;
+        return code == numbers::CODE_RESULT && on == what;
     }
     true
 }
@@ -171,64 +186,60 @@ fn waiting_lets(waiting: bool, on: u8, code: u8, what: u8) -> bool
 fn life_lets(cfg: Config, l: Life, code: u8, what: u8) -> bool
     ensures { λ r. ⌜ r ≡ lifeLets cfg l code what ⌝ }
 {
-    if waiting_lets(l.waiting, l.on, code, what) {
-        if finished_lets(l.finished, code) {
-            return may_ask(cfg, l.waiting, code, what);
-        }
-        return false;
-    }
-    false
+    waiting_lets(l.waiting, l.on, code, what)
+        && (finished_lets(l.finished, code) && may_ask(cfg, l.waiting, code, what))
 }
 
 // For a step of a slot: the first of 2, 3, 4 and 5 that holds, or 0.
 pub fn instance_refusal(cfg: Config, slots: Slots, s: Step) -> u8
-    ensures { λ r. ⌜ r ≡ instanceRefusal cfg slots s ⌝ }
+    ensures { λ r. ⌜ r ≡ instanceRefusal cfg slots (rowOf (s .code)) s ⌝ }
 {
     let code = s.code;
     let what = s.what;
-    if formed(code, what, s.argument) {
+    let row = row_of(code);
+    if formed(row, what, s.argument) {
         let x = slots.get(s.who);
         let l = x.life;
         if x.used {
-            if part_there(cfg, part_of(code), what) {
-                return owned_refusal(cfg, l, code, what);
+            if part_there(cfg, row.part, what) {
+                return owned_refusal(cfg, l, row, code, what);
             }
-            return 3;
+            return numbers::NOT_THERE;
         }
-        return 3;
+        return numbers::NOT_THERE;
     }
-    2
+    numbers::MALFORMED
 }
 
 // The same from 4 on.
-fn owned_refusal(cfg: Config, l: Life, code: u8, what: u8) -> u8
-    ensures { λ r. ⌜ r ≡ ownedRefusal cfg l code what ⌝ }
+fn owned_refusal(cfg: Config, l: Life, row: Row, code: u8, what: u8) -> u8
+    ensures { λ r. ⌜ r ≡ ownedRefusal cfg l row code what ⌝ }
 {
     let t = cfg.runnables;
     let c = t.get(l.runnable);
-    if part_own(cfg, c.component, part_of(code), queueing_of(code), what) {
+    if part_own(cfg, c.component, row, what) {
         if life_lets(cfg, l, code, what) {
             return 0;
         }
-        return 5;
+        return numbers::BARRED;
     }
-    4
+    numbers::NOT_OWN
 }
 
 // For a step of the scheduler, in which who is unused: the first of 2 and 3 that holds, or 0.
 pub fn scheduler_refusal(cfg: Config, s: Step) -> u8
-    ensures { λ r. ⌜ r ≡ schedulerRefusal cfg s ⌝ }
+    ensures { λ r. ⌜ r ≡ schedulerRefusal cfg (rowOf (s .code)) s ⌝ }
 {
-    let code = s.code;
     let what = s.what;
+    let row = row_of(s.code);
     if s.who == 0 {
-        if formed(code, what, s.argument) {
-            if part_there(cfg, part_of(code), what) {
+        if formed(row, what, s.argument) {
+            if part_there(cfg, row.part, what) {
                 return 0;
             }
-            return 3;
+            return numbers::NOT_THERE;
         }
-        return 2;
+        return numbers::MALFORMED;
     }
-    2
+    numbers::MALFORMED
 }

@@ -1,73 +1,67 @@
--- What an accepted step does to calls, as one of eight deeds (`Deed`): it passes, or it starts, takes or ends one. A deed says which step it was, what the
+-- What an accepted step does to calls, as one of eight deeds (`Deed`), each by the name of its way: it passes, or it starts, takes or ends one. A deed says which step it was, what the
 -- step relied on and the state after it; all that follows goes by deeds, and no more by codes.
--- Each deed with what it adds to the history (`passes-adds` .. `timeout-adds`), and that every deed keeps the tie (`tied-deed`).
+-- Each deed with what it adds to the history (`pass-adds` .. `timeout-adds`), and that every deed keeps the tie (`tied-deed`).
 -- Assumes nothing.
 use Prim.Native.Nat.{ℕ, _<_}
 use mathlib.Core.Bool.{true, false}
-use mathlib.Core.Path.{_≡_, refl}
+use mathlib.Core.Path.{_≡_, refl, sym, _∙_}
 use native.Mathlib.Omega.{arith}
 use lib.Dec.{eqb}
 use borrow.Author.Tests.{ltb-true, ltb-false, eqb-true, eq-eqb, ne-eqb}
-use Rattle.laws.proofs.Choosing.{both-left, both-right, pick-has}
+use Rattle.numbers.specs.Codes.{enterCode, exitCode, callCode, handBackCode, endCode, spawnCode, timeoutCode, tickCode, waitCode}
+use Rattle.laws.proofs.Choosing.{clash, both-left, both-right, pick-has}
 use Rattle.values.specs.declared.Value.{Value}
 use Rattle.values.specs.declared.Step.{Step}
 use Rattle.values.specs.Values.{numberV, okV, timeoutV, sameValue}
 use Rattle.config.specs.declared.Config.{Config}
-use Rattle.config.specs.Tables.{runnableConfIn, timerConfIn}
+use Rattle.config.specs.Tables.{runnableConfIn}
 use Rattle.entries.specs.Faults.{isServer}
 use Rattle.state.specs.declared.State.{State}
-use Rattle.state.specs.Parts.{noSlot}
-use Rattle.state.specs.Tables.{runnableIn, slotIn, withRunnable, withTimer, withSlot, withRunnables, withSlots}
-use Rattle.rules.specs.Steps.{called, closed, answers, finishing, leaving, isDue, lowestEmpty, spawned, timersAfter}
+use Rattle.state.specs.Tables.{runnableIn}
+use Rattle.effects.specs.Steps.{entered, exited, called, closed, answers, clientOf, finished, answered, emptied, isDue, lowestEmpty, spawned, ticked, waited}
 use Rattle.keep.specs.Facts.{Sound, CanEnter, CanExit, CanCall, CanHandBack, CanEnd, CanSpawn, CanTimeout, CanTick, CanWait}
 use Rattle.history.specs.History.{noRequest, byTimeout, byInstance, History, passed, begins, closes, takes, takesOldest, takenBy, observe, timeOf}
 use Rattle.history.proofs.Tied.{Alike, Tied, tied-alike}
-use Rattle.history.proofs.Passes.{Unmoved, entered, exited}
+use Rattle.history.proofs.Passes.{Unmoved}
 use Rattle.history.proofs.Ties.{tied-call, tied-timeout, tied-answer, tied-late, tied-server, tied-plain, tied-end}
 
 -- a step that is no started call, hand back, end, spawn or timeout
 pub record Quiet (s : Step) : Type 0 where
-  pub call : s .code ≡ 11 → s .claim ≡ okV → ⊥
-  pub back : s .code ≡ 13 → ⊥
-  pub end : s .code ≡ 14 → ⊥
-  pub spawn : s .code ≡ 15 → ⊥
-  pub timeout : s .code ≡ 16 → ⊥
-
--- the state after an instance is gone
-abbrev pub emptied : State → ℕ → State
-emptied st i =
-    withSlots (withRunnables st (withRunnable (st .runnables) (slotIn (st .slots) i .life .runnable) (leaving (runnableIn (st .runnables) (slotIn (st .slots) i .life .runnable)))))
-    (withSlot (st .slots) i noSlot)
-
--- after an instance is finished
-abbrev pub finished : State → State → ℕ → State
-finished st m i = withSlots m (withSlot (st .slots) i (finishing (slotIn (st .slots) i)))
+  pub call : s .code ≡ callCode → s .claim ≡ okV → ⊥
+  pub back : s .code ≡ handBackCode → ⊥
+  pub end : s .code ≡ endCode → ⊥
+  pub spawn : s .code ≡ spawnCode → ⊥
+  pub timeout : s .code ≡ timeoutCode → ⊥
 
 -- what a step that starts, takes and ends no call does to areas: it enters one, exits one, or leaves them and the stacks as they were
 pub data Moves (cfg : Config) (st : State) (s : Step) (st′ : State) : Type 0 where
-  enters : s .code ≡ 3 → CanEnter cfg st (s .who) (s .what) → st′ ≡ entered st (s .who) (s .what) → Moves cfg st s st′
-  exits : s .code ≡ 4 → CanExit cfg st (s .who) (s .what) → st′ ≡ exited st (s .who) (s .what) → Moves cfg st s st′
-  stays : (s .code ≡ 3 → ⊥) → (s .code ≡ 4 → ⊥) → Unmoved st st′ → Moves cfg st s st′
+  enters : s .code ≡ enterCode → CanEnter cfg st (s .who) (s .what) → st′ ≡ entered st (s .who) (s .what) → Moves cfg st s st′
+  exits : s .code ≡ exitCode → CanExit cfg st (s .who) (s .what) → st′ ≡ exited st (s .who) (s .what) → Moves cfg st s st′
+  stays : (s .code ≡ enterCode → ⊥) → (s .code ≡ exitCode → ⊥) → Unmoved st st′ → Moves cfg st s st′
 
 -- and to timers: one ticks, a wait lowers all, or they are as they were
 pub data Clocks (cfg : Config) (st : State) (s : Step) (st′ : State) : Type 0 where
-  ticks : s .code ≡ 17 → CanTick cfg st (s .what) → st′ .timers ≡ withTimer (st .timers) (s .what) (record { count = timerConfIn (cfg .timers) (s .what) .period }) → Clocks cfg st s st′
-  waits : s .code ≡ 18 → CanWait cfg st (s .argument .number) → st′ .timers ≡ timersAfter cfg (st .timers) (s .argument .number) → Clocks cfg st s st′
-  keeps : (s .code ≡ 17 → ⊥) → (s .code ≡ 18 → ⊥) → st′ .timers ≡ st .timers → Clocks cfg st s st′
+  ticks : s .code ≡ tickCode → CanTick cfg st (s .what) → st′ .timers ≡ ticked cfg st (s .what) .timers → Clocks cfg st s st′
+  waits : s .code ≡ waitCode → CanWait cfg st (s .argument .number) → st′ .timers ≡ waited cfg st (s .argument .number) .timers → Clocks cfg st s st′
+  keeps : (s .code ≡ tickCode → ⊥) → (s .code ≡ waitCode → ⊥) → st′ .timers ≡ st .timers → Clocks cfg st s st′
 
 pub data Deed (cfg : Config) (st : State) (s : Step) (st′ : State) : Type 0 where
-  passes : Alike (timeOf s) st st′ → Quiet s → Moves cfg st s st′ → Clocks cfg st s st′ → Deed cfg st s st′
-  starts : s .code ≡ 11 → s .claim ≡ okV → CanCall cfg st (s .who) (s .what) (s .argument) → st′ ≡ called cfg st (s .who) (s .what) (s .argument) → Deed cfg st s st′
-  returns :
-      s .code ≡ 13 → s .claim ≡ numberV 1 → CanHandBack cfg st (s .who) (s .argument) → answers (st .operations) (slotIn (st .slots) (s .who) .owed .client) ≡ true
-      → st′ ≡ finished st (closed cfg st (slotIn (st .slots) (s .who) .owed .client .operation) (s .argument)) (s .who) → Deed cfg st s st′
-  lates : s .code ≡ 13 → s .claim ≡ numberV 0 → CanHandBack cfg st (s .who) (s .argument) → st′ ≡ finished st st (s .who) → Deed cfg st s st′
-  ends : s .code ≡ 14 → CanEnd st (s .who) → st′ ≡ emptied st (s .who) → Deed cfg st s st′
-  serves : s .code ≡ 15 → s .claim ≡ numberV (lowestEmpty (st .slots)) → isServer cfg (s .what) ≡ true → CanSpawn cfg st (s .what) → st′ ≡ spawned cfg st (s .what) (lowestEmpty (st .slots))
+  pass : Alike (timeOf s) st st′ → Quiet s → Moves cfg st s st′ → Clocks cfg st s st′ → Deed cfg st s st′
+  call : s .code ≡ callCode → s .claim ≡ okV → CanCall cfg st (s .who) (s .what) (s .argument) → st′ ≡ called cfg st (s .who) (s .what) (s .argument) → Deed cfg st s st′
+  answer :
+      s .code ≡ handBackCode → s .claim ≡ numberV 1 → CanHandBack cfg st (s .who) (s .argument) → answers (st .operations) (clientOf st (s .who)) ≡ true
+      → st′ ≡ answered cfg st (s .who) (s .argument) → Deed cfg st s st′
+  late : s .code ≡ handBackCode → s .claim ≡ numberV 0 → CanHandBack cfg st (s .who) (s .argument) → st′ ≡ finished st st (s .who) → Deed cfg st s st′
+  end : s .code ≡ endCode → CanEnd st (s .who) → st′ ≡ emptied st (s .who) → Deed cfg st s st′
+  server : s .code ≡ spawnCode → s .claim ≡ numberV (lowestEmpty (st .slots)) → isServer cfg (s .what) ≡ true → CanSpawn cfg st (s .what) → st′ ≡ spawned cfg st (s .what) (lowestEmpty (st .slots))
       → Deed cfg st s st′
-  spawns : s .code ≡ 15 → s .claim ≡ numberV (lowestEmpty (st .slots)) → isServer cfg (s .what) ≡ false → CanSpawn cfg st (s .what) → st′ ≡ spawned cfg st (s .what) (lowestEmpty (st .slots))
+  plain : s .code ≡ spawnCode → s .claim ≡ numberV (lowestEmpty (st .slots)) → isServer cfg (s .what) ≡ false → CanSpawn cfg st (s .what) → st′ ≡ spawned cfg st (s .what) (lowestEmpty (st .slots))
       → Deed cfg st s st′
-  timesOut : s .code ≡ 16 → CanTimeout cfg st (s .what) → st′ ≡ closed cfg st (s .what) timeoutV → Deed cfg st s st′
+  timeout : s .code ≡ timeoutCode → CanTimeout cfg st (s .what) → st′ ≡ closed cfg st (s .what) timeoutV → Deed cfg st s st′
+
+-- a step of one code is none of another
+pub other-code : {k n : ℕ} (m : ℕ) → k ≡ n → eqb n m ≡ false → k ≡ m → ⊥
+other-code {k} {n} m c f e = clash (eqb n m) (eq-eqb n m (sym c ∙ e)) f
 
 -- ---- what each adds to the history
 
@@ -80,39 +74,39 @@ same-value v w h =
     λ i. record { kind = k i; number = n i }
 
 module _ (cfg : Config) (h : History) (s : Step) where
-  pub passes-adds : Quiet s → observe cfg h s ≡ passed h
+  pub pass-adds : Quiet s → observe cfg h s ≡ passed h
   unfolding observe
-  passes-adds q =
-      rw (ne-eqb (s .code) 13 (q .back), ne-eqb (s .code) 14 (q .end), ne-eqb (s .code) 15 (q .spawn), ne-eqb (s .code) 16 (q .timeout))
-      (pick-has (λ x. x ≡ passed h) (eqb (s .code) 11) _ (passed h)
+  pass-adds q =
+      rw (ne-eqb (s .code) handBackCode (q .back), ne-eqb (s .code) endCode (q .end), ne-eqb (s .code) spawnCode (q .spawn), ne-eqb (s .code) timeoutCode (q .timeout))
+      (pick-has (λ x. x ≡ passed h) (eqb (s .code) callCode) _ (passed h)
       (λ c. pick-has (λ x. x ≡ passed h) (sameValue (s .claim) okV) _ (passed h) (λ k. absurd (q .call (eqb-true _ _ c) (same-value _ _ k))) (λ k. refl))
       (λ c. refl))
 
-  pub starts-adds : s .code ≡ 11 → s .claim ≡ okV → observe cfg h s ≡ begins cfg h (s .what) (s .argument)
+  pub call-adds : s .code ≡ callCode → s .claim ≡ okV → observe cfg h s ≡ begins cfg h (s .what) (s .argument)
   unfolding observe sameValue
-  starts-adds c k = rw (c, k)
+  call-adds c k = rw (c, k)
 
-  pub returns-adds : s .code ≡ 13 → s .claim ≡ numberV 1 → observe cfg h s ≡ closes h (takenBy h (s .who) .on) (byInstance (takenBy h (s .who) .at) (s .argument))
+  pub answer-adds : s .code ≡ handBackCode → s .claim ≡ numberV 1 → observe cfg h s ≡ closes h (takenBy h (s .who) .on) (byInstance (takenBy h (s .who) .at) (s .argument))
   unfolding observe
-  returns-adds c k = rw (c, k)
+  answer-adds c k = rw (c, k)
 
-  pub lates-adds : s .code ≡ 13 → s .claim ≡ numberV 0 → observe cfg h s ≡ passed h
+  pub late-adds : s .code ≡ handBackCode → s .claim ≡ numberV 0 → observe cfg h s ≡ passed h
   unfolding observe
-  lates-adds c k = rw (c, k)
+  late-adds c k = rw (c, k)
 
-  pub ends-adds : s .code ≡ 14 → observe cfg h s ≡ takes h (s .who) noRequest
+  pub end-adds : s .code ≡ endCode → observe cfg h s ≡ takes h (s .who) noRequest
   unfolding observe
-  ends-adds c = rw c
+  end-adds c = rw c
 
-  pub serves-adds : s .code ≡ 15 → isServer cfg (s .what) ≡ true → observe cfg h s ≡ takesOldest h (s .claim .number) (s .what)
+  pub server-adds : s .code ≡ spawnCode → isServer cfg (s .what) ≡ true → observe cfg h s ≡ takesOldest h (s .claim .number) (s .what)
   unfolding observe
-  serves-adds c e = rw (c, e)
+  server-adds c e = rw (c, e)
 
-  pub spawns-adds : s .code ≡ 15 → isServer cfg (s .what) ≡ false → observe cfg h s ≡ takes h (s .claim .number) noRequest
+  pub plain-adds : s .code ≡ spawnCode → isServer cfg (s .what) ≡ false → observe cfg h s ≡ takes h (s .claim .number) noRequest
   unfolding observe
-  spawns-adds c e = rw (c, e)
+  plain-adds c e = rw (c, e)
 
-  pub timeout-adds : s .code ≡ 16 → observe cfg h s ≡ closes h (s .what) byTimeout
+  pub timeout-adds : s .code ≡ timeoutCode → observe cfg h s ≡ closes h (s .what) byTimeout
   unfolding observe
   timeout-adds c = rw c
 
@@ -133,15 +127,15 @@ unfolding isDue
 due-server cfg st r e z = ltb-true _ _ (rw (server-capacity cfg r e) at (z .due))
 
 pub tied-deed : (cfg : Config) (st : State) (s : Step) (st′ : State) (h : History) → Sound cfg st → Deed cfg st s st′ → Tied st h → Tied st′ (observe cfg h s)
-tied-deed cfg st s st′ h g (passes a q m w) t = rw (passes-adds cfg h s q) (tied-alike st st′ h a t)
-tied-deed cfg st s st′ h g (starts c k z e) t = rw (starts-adds cfg h s c k, e) (tied-call cfg st h (s .who) (s .what) (s .argument) g z t)
-tied-deed cfg st s st′ h g (returns c k z a e) t = rw (returns-adds cfg h s c k, e) (tied-answer cfg st h (s .who) (s .argument) z a t)
-tied-deed cfg st s st′ h g (lates c k z e) t = rw (lates-adds cfg h s c k, e) (tied-late cfg st h (s .who) (s .argument) z t)
-tied-deed cfg st s st′ h g (ends c z e) t = rw (ends-adds cfg h s c, e) (tied-end cfg st h (s .who) g z t)
-tied-deed cfg st s st′ h g (serves c k y z e) t =
-    rw (serves-adds cfg h s c y, k, e)
+tied-deed cfg st s st′ h g (pass a q m w) t = rw (pass-adds cfg h s q) (tied-alike st st′ h a t)
+tied-deed cfg st s st′ h g (call c k z e) t = rw (call-adds cfg h s c k, e) (tied-call cfg st h (s .who) (s .what) (s .argument) g z t)
+tied-deed cfg st s st′ h g (answer c k z a e) t = rw (answer-adds cfg h s c k, e) (tied-answer cfg st h (s .who) (s .argument) z a t)
+tied-deed cfg st s st′ h g (late c k z e) t = rw (late-adds cfg h s c k, e) (tied-late cfg st h (s .who) (s .argument) z t)
+tied-deed cfg st s st′ h g (end c z e) t = rw (end-adds cfg h s c, e) (tied-end cfg st h (s .who) g z t)
+tied-deed cfg st s st′ h g (server c k y z e) t =
+    rw (server-adds cfg h s c y, k, e)
     (tied-server cfg st h (s .what) (lowestEmpty (st .slots)) g (z .slot) (server-capacity cfg (s .what) y) (due-server cfg st (s .what) y z) t)
-tied-deed cfg st s st′ h g (spawns c k y z e) t =
-    rw (spawns-adds cfg h s c y, k, e)
+tied-deed cfg st s st′ h g (plain c k y z e) t =
+    rw (plain-adds cfg h s c y, k, e)
     (tied-plain cfg st h (s .what) (lowestEmpty (st .slots)) g (z .slot) (plain-capacity cfg (s .what) y) t)
-tied-deed cfg st s st′ h g (timesOut c z e) t = rw (timeout-adds cfg h s c, e) (tied-timeout cfg st h (s .what) z t)
+tied-deed cfg st s st′ h g (timeout c z e) t = rw (timeout-adds cfg h s c, e) (tied-timeout cfg st h (s .what) z t)

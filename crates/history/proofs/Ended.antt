@@ -1,5 +1,5 @@
 -- Every ending stands at its place, behind its call, and in time (`AllEnded`): it was made there, by a step that the history before it explains.
--- A hand back that ends a call is by an instance that took the request of the latest call on an operation that is Calling (`answered`). While it is, the time since
+-- A hand back that ends a call is by an instance that took the request of the latest call on an operation that is Calling (`answer-latest`). While it is, the time since
 -- that call is no more than the timeout, and with nothing left on the count, as at a timeout, it is the timeout (`Timed`). Every deed keeps what stands (`ended-more`).
 -- Assumes nothing.
 use Prim.Native.Nat.{ℕ, _+_}
@@ -14,13 +14,13 @@ use Rattle.values.specs.declared.Step.{Step}
 use Rattle.config.specs.declared.Config.{Config}
 use Rattle.state.specs.declared.Client.{Client}
 use Rattle.state.specs.declared.State.{State}
-use Rattle.state.specs.Tables.{operationIn, slotIn}
-use Rattle.rules.specs.Steps.{answers}
+use Rattle.state.specs.Tables.{operationIn}
+use Rattle.effects.specs.Steps.{answers, serves, clientOf}
 use Rattle.history.specs.History.{Ending, History, nothing, historyOf, takenBy, latestOn, observe}
 use Rattle.history.specs.Promises.{Ended}
 use Rattle.history.proofs.Tied.{Tag, Tied}
 use Rattle.history.proofs.Named.{Named}
-use Rattle.history.proofs.Deeds.{Deed, passes, starts, returns, lates, ends, serves, spawns, timesOut, passes-adds, starts-adds, returns-adds, lates-adds, ends-adds, serves-adds, spawns-adds, timeout-adds}
+use Rattle.history.proofs.Deeds.{Deed, pass, call, answer, late, end, server, plain, timeout, pass-adds, call-adds, answer-adds, late-adds, end-adds, server-adds, plain-adds, timeout-adds}
 use Rattle.history.proofs.Timed.{Timed}
 
 -- ---- every ending stands at its step, in time
@@ -65,10 +65,10 @@ pub record Answered (st : State) (h : History) (i : ℕ) : Type 0 where
   pub calling : operationIn (st .operations) (takenBy h i .on) .calling ≡ true
   pub latest : takenBy h i .at ≡ latestOn h (takenBy h i .on)
 
-pub answered : (st : State) (h : History) (i : ℕ) → slotIn (st .slots) i .owed .serving ≡ true → answers (st .operations) (slotIn (st .slots) i .owed .client) ≡ true → Tied st h → Answered st h i
+pub answer-latest : (st : State) (h : History) (i : ℕ) → serves st i ≡ true → answers (st .operations) (clientOf st i) ≡ true → Tied st h → Answered st h i
 unfolding answers
-answered st h i v a t =
-    let c : Client = slotIn (st .slots) i .owed .client in
+answer-latest st h i v a t =
+    let c : Client = clientOf st i in
     let tag : Tag (st .operations) (h .latest) c (takenBy h i) = t .served .each i v in
     let open-still = both-left (operationIn (st .operations) (c .operation) .calling) _ a in
     let its-number = sym (eqb-true _ _ (both-right (operationIn (st .operations) (c .operation) .calling) _ a)) in
@@ -85,12 +85,12 @@ ended-deed cfg st s st′ rs d t n k l = go d
     kept = all-more cfg rs (s ∷ []) (h .endings) l
 
     go : Deed cfg st s st′ → AllEnded cfg (rs ++ (s ∷ [])) (observe cfg h s .endings)
-    go (passes a q m w) = rw (passes-adds cfg h s q) kept
-    go (starts c q z e) = rw (starts-adds cfg h s c q) kept
-    go (returns c q z a e) =
-        let w = answered st h (s .who) (z .serving) a t in
+    go (pass a q m w) = rw (pass-adds cfg h s q) kept
+    go (call c q z e) = rw (call-adds cfg h s c q) kept
+    go (answer c q z a e) =
+        let w = answer-latest st h (s .who) (z .serving) a t in
         let o = takenBy h (s .who) .on in
-        rw (returns-adds cfg h s c q)
+        rw (answer-adds cfg h s c q)
         (all-cons cfg (rs ++ (s ∷ [])) _ (h .endings)
         (record {
           before = rs;
@@ -103,11 +103,11 @@ ended-deed cfg st s st′ rs d t n k l = go d
           time = omega (arith, k .rest o (w .calling));
         })
         kept)
-    go (lates c q z e) = rw (lates-adds cfg h s c q) kept
-    go (ends c z e) = rw (ends-adds cfg h s c) kept
-    go (serves c q y z e) = rw (serves-adds cfg h s c y) kept
-    go (spawns c q y z e) = rw (spawns-adds cfg h s c y) kept
-    go (timesOut c z e) =
+    go (late c q z e) = rw (late-adds cfg h s c q) kept
+    go (end c z e) = rw (end-adds cfg h s c) kept
+    go (server c q y z e) = rw (server-adds cfg h s c y) kept
+    go (plain c q y z e) = rw (plain-adds cfg h s c y) kept
+    go (timeout c z e) =
         let o = s .what in
         rw (timeout-adds cfg h s c)
         (all-cons cfg (rs ++ (s ∷ [])) _ (h .endings)

@@ -13,6 +13,7 @@ use lib.Dec.{eqb}
 use lib.ListN.{length, drop, length-append, length-drop}
 use lib.Seq.{drop-append-le, drop-drop, getD-set-same, getD-set-other}
 use borrow.Author.Tests.{eq-eqb, ne-eqb, eqb-true}
+use Rattle.numbers.specs.Codes.{callCode, spawnCode}
 use Rattle.laws.specs.Choice.{pick, both, bit}
 use Rattle.laws.proofs.Choosing.{clash, both-left, both-right, pick-has}
 use Rattle.values.specs.declared.Step.{Step}
@@ -24,7 +25,7 @@ use Rattle.state.specs.declared.State.{State}
 use Rattle.history.specs.History.{Request, noRequest, History, nothing, passed, begins, takes, takesOldest, queuedAt, observe, allQueued, allSpawns}
 use Rattle.history.proofs.Beside.{all-alike}
 use Rattle.history.proofs.Tied.{Tied}
-use Rattle.history.proofs.Deeds.{Deed, passes, starts, returns, lates, ends, serves, spawns, timesOut, same-value, passes-adds, starts-adds, returns-adds, lates-adds, ends-adds, serves-adds, spawns-adds, timeout-adds, due-server}
+use Rattle.history.proofs.Deeds.{Deed, pass, call, answer, late, end, server, plain, timeout, same-value, pass-adds, call-adds, answer-adds, late-adds, end-adds, server-adds, plain-adds, timeout-adds, due-server}
 
 -- ---- what a recording queues at r, and how often it spawns r
 
@@ -34,7 +35,7 @@ queued-append cfg r n [] ys = rw add-zero
 queued-append cfg r n (x ∷ xs) ys =
     let rest : allQueued cfg r (n + 1) (xs ++ ys) ≡ allQueued cfg r (n + 1) xs ++ allQueued cfg r (n + length (x ∷ xs)) ys
     = queued-append cfg r (n + 1) xs ys ∙ ap (λ m. allQueued cfg r (n + 1) xs ++ allQueued cfg r m ys) (omega arith) in
-    go (both (eqb (x .code) 11) (both (sameValue (x .claim) okV) (eqb (operationConfIn (cfg .operations) (x .what) .server) r))) rest
+    go (both (eqb (x .code) callCode) (both (sameValue (x .claim) okV) (eqb (operationConfIn (cfg .operations) (x .what) .server) r))) rest
   where
     go : (b : Bool) → allQueued cfg r (n + 1) (xs ++ ys) ≡ allQueued cfg r (n + 1) xs ++ allQueued cfg r (n + length (x ∷ xs)) ys
         → pick b (record { at = n + 1; on = x .what; argument = x .argument } ∷ allQueued cfg r (n + 1) (xs ++ ys)) (allQueued cfg r (n + 1) (xs ++ ys))
@@ -48,26 +49,26 @@ spawned-append r [] ys = sym (zero-add _)
 spawned-append r (x ∷ xs) ys = omega (arith, spawned-append r xs ys)
 
 -- one step alone
-queues-none : (cfg : Config) (r n : ℕ) (s : Step) → (s .code ≡ 11 → s .claim ≡ okV → ⊥) → allQueued cfg r n (s ∷ []) ≡ []
+queues-none : (cfg : Config) (r n : ℕ) (s : Step) → (s .code ≡ callCode → s .claim ≡ okV → ⊥) → allQueued cfg r n (s ∷ []) ≡ []
 unfolding allQueued
 queues-none cfg r n s q =
-    pick-has (λ l. l ≡ []) (both (eqb (s .code) 11) (both (sameValue (s .claim) okV) mine)) _ []
-    (λ e. absurd (q (eqb-true _ _ (both-left (eqb (s .code) 11) _ e)) (same-value _ _ (both-left (sameValue (s .claim) okV) mine (both-right (eqb (s .code) 11) _ e)))))
+    pick-has (λ l. l ≡ []) (both (eqb (s .code) callCode) (both (sameValue (s .claim) okV) mine)) _ []
+    (λ e. absurd (q (eqb-true _ _ (both-left (eqb (s .code) callCode) _ e)) (same-value _ _ (both-left (sameValue (s .claim) okV) mine (both-right (eqb (s .code) callCode) _ e)))))
     (λ e. refl)
   where
     mine : Bool
     mine = eqb (operationConfIn (cfg .operations) (s .what) .server) r
 
-queues-one : (cfg : Config) (r n : ℕ) (s : Step) → s .code ≡ 11 → s .claim ≡ okV
+queues-one : (cfg : Config) (r n : ℕ) (s : Step) → s .code ≡ callCode → s .claim ≡ okV
     → allQueued cfg r n (s ∷ []) ≡ pick (eqb (operationConfIn (cfg .operations) (s .what) .server) r) (record { at = n + 1; on = s .what; argument = s .argument } ∷ []) []
 unfolding allQueued sameValue
 queues-one cfg r n s c k = rw (c, k)
 
-spawns-none : (r : ℕ) (s : Step) → (s .code ≡ 15 → ⊥) → allSpawns r (s ∷ []) ≡ 0
+spawns-none : (r : ℕ) (s : Step) → (s .code ≡ spawnCode → ⊥) → allSpawns r (s ∷ []) ≡ 0
 unfolding allSpawns
-spawns-none r s n = rw (ne-eqb (s .code) 15 n)
+spawns-none r s n = rw (ne-eqb (s .code) spawnCode n)
 
-spawns-one : (r : ℕ) (s : Step) → s .code ≡ 15 → allSpawns r (s ∷ []) ≡ bit (eqb (s .what) r)
+spawns-one : (r : ℕ) (s : Step) → s .code ≡ spawnCode → allSpawns r (s ∷ []) ≡ bit (eqb (s .what) r)
 unfolding allSpawns
 spawns-one r s c = rw c (add-zero _)
 
@@ -104,12 +105,12 @@ module _ (cfg : Config) (r : ℕ) (rs : List Step) (h : History) (s : Step) (f :
       all = queued-append cfg r 0 rs (s ∷ []) ∙ rw zero-add
 
   -- a step that leaves the queue as it is
-  fifo-quiet : (h′ : History) → queuedAt h′ r ≡ queuedAt h r → (s .code ≡ 11 → s .claim ≡ okV → ⊥) → (s .code ≡ 15 → ⊥) → Fifo cfg r (rs ++ (s ∷ [])) h′
+  fifo-quiet : (h′ : History) → queuedAt h′ r ≡ queuedAt h r → (s .code ≡ callCode → s .claim ≡ okV → ⊥) → (s .code ≡ spawnCode → ⊥) → Fifo cfg r (rs ++ (s ∷ [])) h′
   fifo-quiet h′ e n m = fifo-step h′ (rw (queues-none cfg r (length rs) s n, spawns-none r s m, append-nil (queuedAt h r)) e) (rw (spawns-none r s m) (omega arith))
 
   -- a call that starts: its request joins its server's queue
-  fifo-begins : s .code ≡ 11 → s .claim ≡ okV → h .place ≡ length rs → r < length (h .queued) → Fifo cfg r (rs ++ (s ∷ [])) (begins cfg h (s .what) (s .argument))
-  fifo-begins c k p b = fifo-step (begins cfg h (s .what) (s .argument)) (rw (none, queues-one cfg r (length rs) s c k) (go (ℕ-discrete r t))) (rw none (omega arith))
+  fifo-call : s .code ≡ callCode → s .claim ≡ okV → h .place ≡ length rs → r < length (h .queued) → Fifo cfg r (rs ++ (s ∷ [])) (begins cfg h (s .what) (s .argument))
+  fifo-call c k p b = fifo-step (begins cfg h (s .what) (s .argument)) (rw (none, queues-one cfg r (length rs) s c k) (go (ℕ-discrete r t))) (rw none (omega arith))
     where
       none : allSpawns r (s ∷ []) ≡ 0
       none = spawns-none r s (λ z. omega (arith, c, z))
@@ -122,7 +123,7 @@ module _ (cfg : Config) (r : ℕ) (rs : List Step) (h : History) (s : Step) (f :
       go (no n) = rw (ne-eqb t r (λ e. n (sym e)), append-nil (queuedAt h r)) (getD-set-other (h .queued) t r _ [] n)
 
   -- a spawn of a server takes the oldest
-  fifo-oldest : s .code ≡ 15 → r < length (h .queued) → (s .what ≡ r → 0 < length (queuedAt h r)) → (i : ℕ) → Fifo cfg r (rs ++ (s ∷ [])) (takesOldest h i (s .what))
+  fifo-oldest : s .code ≡ spawnCode → r < length (h .queued) → (s .what ≡ r → 0 < length (queuedAt h r)) → (i : ℕ) → Fifo cfg r (rs ++ (s ∷ [])) (takesOldest h i (s .what))
   fifo-oldest c b q i =
       fifo-step (takesOldest h i (s .what))
       (rw (none, spawns-one r s c, append-nil (queuedAt h r)) (go (ℕ-discrete r (s .what))))
@@ -140,7 +141,7 @@ module _ (cfg : Config) (r : ℕ) (rs : List Step) (h : History) (s : Step) (f :
       some (no n) = rw (ne-eqb (s .what) r (λ e. n (sym e))) (omega arith)
 
   -- a spawn of a plain runnable is none of a server
-  fifo-plain : s .code ≡ 15 → (s .what ≡ r → ⊥) → (i : ℕ) → Fifo cfg r (rs ++ (s ∷ [])) (takes h i noRequest)
+  fifo-plain : s .code ≡ spawnCode → (s .what ≡ r → ⊥) → (i : ℕ) → Fifo cfg r (rs ++ (s ∷ [])) (takes h i noRequest)
   fifo-plain c n i =
       let none : allQueued cfg r (length rs) (s ∷ []) ≡ [] = queues-none cfg r (length rs) s (λ z w. omega (arith, c, z)) in
       let zero : allSpawns r (s ∷ []) ≡ 0 = spawns-one r s c ∙ ap bit (ne-eqb (s .what) r n) in
@@ -148,13 +149,13 @@ module _ (cfg : Config) (r : ℕ) (rs : List Step) (h : History) (s : Step) (f :
 
 pub fifo-deed : (cfg : Config) (st : State) (s : Step) (st′ : State) (r : ℕ) (rs : List Step) (h : History) → Deed cfg st s st′ → Tied st h → h .place ≡ length rs → isServer cfg r ≡ true
     → r < 16 → Fifo cfg r rs h → Fifo cfg r (rs ++ (s ∷ [])) (observe cfg h s)
-fifo-deed cfg st s st′ r rs h (passes a q m w) t p y b f = rw (passes-adds cfg h s q) (fifo-quiet cfg r rs h s f (passed h) refl (q .call) (q .spawn))
-fifo-deed cfg st s st′ r rs h (starts c k z e) t p y b f = rw (starts-adds cfg h s c k) (fifo-begins cfg r rs h s f c k p (omega (arith, t .queues .size, b)))
-fifo-deed cfg st s st′ r rs h (returns c k z a e) t p y b f = rw (returns-adds cfg h s c k) (fifo-quiet cfg r rs h s f _ refl (λ q w. omega (arith, c, q)) (λ q. omega (arith, c, q)))
-fifo-deed cfg st s st′ r rs h (lates c k z e) t p y b f = rw (lates-adds cfg h s c k) (fifo-quiet cfg r rs h s f _ refl (λ q w. omega (arith, c, q)) (λ q. omega (arith, c, q)))
-fifo-deed cfg st s st′ r rs h (ends c z e) t p y b f = rw (ends-adds cfg h s c) (fifo-quiet cfg r rs h s f _ refl (λ q w. omega (arith, c, q)) (λ q. omega (arith, c, q)))
-fifo-deed cfg st s st′ r rs h (serves c k v z e) t p y b f =
-    rw (serves-adds cfg h s c v)
+fifo-deed cfg st s st′ r rs h (pass a q m w) t p y b f = rw (pass-adds cfg h s q) (fifo-quiet cfg r rs h s f (passed h) refl (q .call) (q .spawn))
+fifo-deed cfg st s st′ r rs h (call c k z e) t p y b f = rw (call-adds cfg h s c k) (fifo-call cfg r rs h s f c k p (omega (arith, t .queues .size, b)))
+fifo-deed cfg st s st′ r rs h (answer c k z a e) t p y b f = rw (answer-adds cfg h s c k) (fifo-quiet cfg r rs h s f _ refl (λ q w. omega (arith, c, q)) (λ q. omega (arith, c, q)))
+fifo-deed cfg st s st′ r rs h (late c k z e) t p y b f = rw (late-adds cfg h s c k) (fifo-quiet cfg r rs h s f _ refl (λ q w. omega (arith, c, q)) (λ q. omega (arith, c, q)))
+fifo-deed cfg st s st′ r rs h (end c z e) t p y b f = rw (end-adds cfg h s c) (fifo-quiet cfg r rs h s f _ refl (λ q w. omega (arith, c, q)) (λ q. omega (arith, c, q)))
+fifo-deed cfg st s st′ r rs h (server c k v z e) t p y b f =
+    rw (server-adds cfg h s c v)
     (fifo-oldest cfg r rs h s f c (omega (arith, t .queues .size, b)) (λ q. rw (← q) (omega (arith, due-server cfg st (s .what) v z, t .queues .each (s .what) .size))) (s .claim .number))
-fifo-deed cfg st s st′ r rs h (spawns c k v z e) t p y b f = rw (spawns-adds cfg h s c v) (fifo-plain cfg r rs h s f c (λ q. clash (isServer cfg r) y (rw q at v)) (s .claim .number))
-fifo-deed cfg st s st′ r rs h (timesOut c z e) t p y b f = rw (timeout-adds cfg h s c) (fifo-quiet cfg r rs h s f _ refl (λ q w. omega (arith, c, q)) (λ q. omega (arith, c, q)))
+fifo-deed cfg st s st′ r rs h (plain c k v z e) t p y b f = rw (plain-adds cfg h s c v) (fifo-plain cfg r rs h s f c (λ q. clash (isServer cfg r) y (rw q at v)) (s .claim .number))
+fifo-deed cfg st s st′ r rs h (timeout c z e) t p y b f = rw (timeout-adds cfg h s c) (fifo-quiet cfg r rs h s f _ refl (λ q w. omega (arith, c, q)) (λ q. omega (arith, c, q)))

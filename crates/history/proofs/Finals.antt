@@ -1,42 +1,37 @@
 -- From the facts of a reached state and its history to what the promises say of them.
 -- Areas: a count of one is one holder, which holds it once, and no other (`holder`); a count of none is none (`no-holder`). Queued values: `values-told`.
 -- Results: an operation Done with a Number holds what its last ending gave (`number-from`), that ending counts (`last-counts`) and so it is the only one of its
--- call (`done-final`); a result answered by a Number was of such an operation (`result-told`). Timeouts, hand backs that end a call, and spawns of servers: `timed`, `back`, `serves-one`, `took-oldest`.
+-- call (`done-final`). A spawn of a server takes the oldest request (`took-oldest`).
 -- Assumes nothing.
 use Prim.Native.Nat.{ℕ, _+_, _≤_, _<_}
 use mathlib.Core.Bool.{Bool, true, false, not}
 use mathlib.Core.List.{List, [], _∷_}
 use mathlib.Core.Option.{some}
-use mathlib.Core.Path.{_≡_, refl, sym, _∙_, ap, subst}
+use mathlib.Core.Path.{_≡_, refl, sym, _∙_, ap}
 use native.Mathlib.Omega.{arith}
 use lib.Dec.{ltb, leb, eqb}
 use lib.ListN.{getD}
 use lib.Seq.{getD-set-same}
-use borrow.Author.Tests.{leb-true, eqb-true, eq-eqb, ne-eqb, ltb-true, lt-ltb, le-ltb}
+use borrow.Author.Tests.{leb-true, eqb-true, eq-eqb}
+use Rattle.numbers.specs.Codes.{spawnCode}
 use Rattle.laws.specs.Choice.{pick, both, bit}
 use Rattle.laws.specs.Loop.{sumBelow}
-use Rattle.laws.proofs.Choosing.{both-left, both-right, all-told, clash}
+use Rattle.laws.proofs.Choosing.{both-left, both-right, all-told}
 use Rattle.laws.proofs.Looping.{all-at, sum-term, sum-two, sum-find, count-most}
 use Rattle.values.specs.declared.Value.{Value}
 use Rattle.values.specs.declared.Step.{Step}
-use Rattle.values.specs.declared.Answer.the-variants.{Taken}
-use Rattle.values.specs.Values.{numberV, noDataV, isVoid}
+use Rattle.values.specs.Values.{numberV, isVoid}
 use Rattle.config.specs.declared.Config.{Config}
-use Rattle.config.specs.Tables.{runnableConfIn, requiredConfIn, operationConfIn}
+use Rattle.config.specs.Tables.{requiredConfIn}
 use Rattle.entries.specs.Faults.{isServer}
 use Rattle.state.specs.declared.State.{State}
-use Rattle.state.specs.declared.Stepped.{Stepped}
-use Rattle.state.specs.Tables.{runnableIn, areaIn, elementIn, operationIn, slotIn, withSlot, withSlots}
+use Rattle.state.specs.Tables.{areaIn, elementIn, operationIn, slotIn}
 use Rattle.rules.specs.Sound.{isStored, valuesSound, elementSound, elementsSound, timesIn, holders, isNoSlot, slotSound, slotsSound}
-use Rattle.rules.specs.Refusals.{instanceRefusal}
-use Rattle.rules.specs.Steps.{refused, took, runningOn, pollOf, collectOf, resultOf, isDue}
-use Rattle.rules.specs.Step.{instanceActOf, instanceStepOf, possibleOf}
-use Rattle.keep.specs.Facts.{Sound, CanTimeout}
+use Rattle.effects.specs.Steps.{isOpen, lowestEmpty}
+use Rattle.keep.specs.Facts.{Sound, CanSpawn}
 use Rattle.history.specs.History.{noRequest, How, byTimeout, byInstance, Ending, History, takenBy, queuedAt, observe, endsOf, lastOn}
 use Rattle.history.proofs.Tied.{given, delivered, AllProper, Tied, Proper}
-use Rattle.history.proofs.Deeds.{Deed, passes, starts, returns, lates, ends, serves, spawns, timesOut, serves-adds}
-use Rattle.history.proofs.Accepts.{never}
-use Rattle.history.proofs.Ended.{Answered, answered}
+use Rattle.history.proofs.Deeds.{server-adds}
 
 -- ---- areas
 
@@ -105,99 +100,17 @@ last-counts o e (x ∷ xs) q = go (eqb (x .on) o) q (λ z. last-counts o e xs z)
     go true z rest = let y : x ≡ e = cc in omega (arith, ap bit (eq-eqb (x .call) (e .call) (ap (λ (w : Ending). w .call) y)))
     go false z rest = omega (arith, rest z)
 
-pub done-final : (st : State) (h : History) (o n : ℕ) → Tied st h → operationIn (st .operations) o .calling ≡ false → operationIn (st .operations) o .done ≡ numberV n
+pub done-final : (st : State) (h : History) (o n : ℕ) → Tied st h → isOpen st o ≡ false → operationIn (st .operations) o .done ≡ numberV n
     → (e : Ending) × (lastOn o (h .endings) ≡ some e) × (e .how ≡ byInstance (e .call) (numberV n)) × (endsOf (e .call) (h .endings) ≡ 1)
 done-final st h o n t c d =
     let f = number-from o n (h .endings) (t .calls .proper) (sym d ∙ t .calls .last o c) in
     (f .0, f .1, f .2, omega (arith, last-counts o (f .0) (h .endings) (f .1), t .calls .once (f .0 .call)))
 
--- the act of an instance's step that is taken
-act-told : (cfg : Config) (st : State) (s : Step) (v : Value) → 1 ≤ s .code → s .code < 15 → possibleOf cfg st s .answer ≡ Taken v
-    → instanceActOf cfg st (s .code) (s .who) (s .what) (s .argument) .answer ≡ Taken v
-unfolding possibleOf instanceStepOf
-act-told cfg st s v l m h = go (eqb (instanceRefusal cfg (st .slots) s) 0) (rw (le-ltb (s .code) 1 l, lt-ltb (s .code) 15 m) at h)
-  where
-    go : (x : Bool) → pick x (instanceActOf cfg st (s .code) (s .who) (s .what) (s .argument)) (refused (instanceRefusal cfg (st .slots) s) st) .answer ≡ Taken v
-        → instanceActOf cfg st (s .code) (s .who) (s .what) (s .argument) .answer ≡ Taken v
-    go true k = k
-    go false k = absurd (never k)
+-- ---- spawns of servers
 
--- the state of an operation whose result is a Number
-given-number : (cfg : Config) (st : State) (i o n : ℕ) → resultOf cfg st i o .answer ≡ Taken (numberV n)
-    → (operationIn (st .operations) o .calling ≡ false) × (operationIn (st .operations) o .done ≡ numberV n)
-unfolding resultOf pollOf collectOf
-given-number cfg st i o n h = go (operationConfIn (cfg .operations) o .asynchronous) (operationIn (st .operations) o .calling) refl h
-  where
-    chosen : Bool → Bool → Stepped
-    chosen y z =
-        pick y (pick z (took noDataV st) (took (operationIn (st .operations) o .done) st))
-        (pick z (refused 10 st) (took (operationIn (st .operations) o .done) (withSlots st (withSlot (st .slots) i (runningOn (slotIn (st .slots) i))))))
-
-    kind : {v w : Value} → Taken v ≡ Taken w → v ≡ w
-    kind q = cc
-
-    go : (y z : Bool) → operationIn (st .operations) o .calling ≡ z → chosen y z .answer ≡ Taken (numberV n)
-        → (operationIn (st .operations) o .calling ≡ false) × (operationIn (st .operations) o .done ≡ numberV n)
-    go true true e k = absurd (omega (arith, ap (λ (v : Value). v .kind) (kind k)))
-    go true false e k = (e, kind k)
-    go false true e k = absurd (never k)
-    go false false e k = (e, kind k)
-
-pub result-told : (cfg : Config) (st : State) (s : Step) (n : ℕ) → s .code ≡ 12 → possibleOf cfg st s .answer ≡ Taken (numberV n)
-    → (operationIn (st .operations) (s .what) .calling ≡ false) × (operationIn (st .operations) (s .what) .done ≡ numberV n)
-unfolding instanceActOf
-result-told cfg st s n c h =
-    given-number cfg st (s .who) (s .what) n
-    (subst (λ k. instanceActOf cfg st k (s .who) (s .what) (s .argument) .answer ≡ Taken (numberV n)) c (act-told cfg st s (numberV n) (omega (arith, c)) (omega (arith, c)) h))
-
--- ---- timeouts, hand backs that end a call, and spawns of servers
-
-pub timed : (cfg : Config) (st : State) (s : Step) (st′ : State) → s .code ≡ 16 → Deed cfg st s st′ → CanTimeout cfg st (s .what)
-timed cfg st s st′ q (passes a z m w) = absurd (z .timeout q)
-timed cfg st s st′ q (starts c k z e) = absurd (omega (arith, c, q))
-timed cfg st s st′ q (returns c k z a e) = absurd (omega (arith, c, q))
-timed cfg st s st′ q (lates c k z e) = absurd (omega (arith, c, q))
-timed cfg st s st′ q (ends c z e) = absurd (omega (arith, c, q))
-timed cfg st s st′ q (serves c k y z e) = absurd (omega (arith, c, q))
-timed cfg st s st′ q (spawns c k y z e) = absurd (omega (arith, c, q))
-timed cfg st s st′ q (timesOut c z e) = z
-
-pub back : (cfg : Config) (st : State) (s : Step) (st′ : State) (h : History) → s .code ≡ 13 → s .claim ≡ numberV 1 → Deed cfg st s st′ → Tied st h → Answered st h (s .who)
-back cfg st s st′ h q v (passes a z m w) t = absurd (z .back q)
-back cfg st s st′ h q v (starts c k z e) t = absurd (omega (arith, c, q))
-back cfg st s st′ h q v (returns c k z a e) t = answered st h (s .who) (z .serving) a t
-back cfg st s st′ h q v (lates c k z e) t = absurd (omega (arith, ap (λ (x : Value). x .number) (sym v ∙ k)))
-back cfg st s st′ h q v (ends c z e) t = absurd (omega (arith, c, q))
-back cfg st s st′ h q v (serves c k y z e) t = absurd (omega (arith, c, q))
-back cfg st s st′ h q v (spawns c k y z e) t = absurd (omega (arith, c, q))
-back cfg st s st′ h q v (timesOut c z e) t = absurd (omega (arith, c, q))
-
--- the slot that a spawn answers is one of the thirty-two
-spawn-inside : (cfg : Config) (st : State) (s : Step) (st′ : State) → s .code ≡ 15 → Deed cfg st s st′ → s .claim .number < 32
-spawn-inside cfg st s st′ q (passes a z m w) = absurd (z .spawn q)
-spawn-inside cfg st s st′ q (starts c k z e) = absurd (omega (arith, c, q))
-spawn-inside cfg st s st′ q (returns c k z a e) = absurd (omega (arith, c, q))
-spawn-inside cfg st s st′ q (lates c k z e) = absurd (omega (arith, c, q))
-spawn-inside cfg st s st′ q (ends c z e) = absurd (omega (arith, c, q))
-spawn-inside cfg st s st′ q (serves c k y z e) = omega (arith, ap (λ (v : Value). v .number) k, z .slot)
-spawn-inside cfg st s st′ q (spawns c k y z e) = omega (arith, ap (λ (v : Value). v .number) k, z .slot)
-spawn-inside cfg st s st′ q (timesOut c z e) = absurd (omega (arith, c, q))
-
--- a server that is spawned has a request
-pub serves-one : (cfg : Config) (st : State) (s : Step) (st′ : State) → s .code ≡ 15 → isServer cfg (s .what) ≡ true → Deed cfg st s st′ → 0 < runnableIn (st .runnables) (s .what) .requests .queued
-unfolding isServer isDue
-serves-one cfg st s st′ q y (passes a z m w) = absurd (z .spawn q)
-serves-one cfg st s st′ q y (starts c k z e) = absurd (omega (arith, c, q))
-serves-one cfg st s st′ q y (returns c k z a e) = absurd (omega (arith, c, q))
-serves-one cfg st s st′ q y (lates c k z e) = absurd (omega (arith, c, q))
-serves-one cfg st s st′ q y (ends c z e) = absurd (omega (arith, c, q))
-serves-one cfg st s st′ q y (serves c k x z e) =
-    let n = ltb-true 0 (runnableConfIn (cfg .runnables) (s .what) .capacity) y in
-    ltb-true 0 _ (rw (ne-eqb (runnableConfIn (cfg .runnables) (s .what) .capacity) 0 (λ w. omega (arith, w, n))) at (z .due))
-serves-one cfg st s st′ q y (spawns c k x z e) = absurd (clash (isServer cfg (s .what)) y x)
-serves-one cfg st s st′ q y (timesOut c z e) = absurd (omega (arith, c, q))
-
-pub took-oldest : (cfg : Config) (st : State) (s : Step) (st′ : State) (h : History) → s .code ≡ 15 → isServer cfg (s .what) ≡ true → Deed cfg st s st′ → Tied st h
+-- a server that is spawned has a request, and takes the oldest
+pub took-oldest : (cfg : Config) (st : State) (s : Step) (h : History) → s .code ≡ spawnCode → isServer cfg (s .what) ≡ true → CanSpawn cfg st (s .what) → s .claim ≡ numberV (lowestEmpty (st .slots)) → Tied st h
     → takenBy (observe cfg h s) (s .claim .number) ≡ getD (queuedAt h (s .what)) 0 noRequest
-took-oldest cfg st s st′ h c y d t =
-    rw (serves-adds cfg h s c y) (getD-set-same (h .taken) (s .claim .number) (getD (queuedAt h (s .what)) 0 noRequest) noRequest (omega (arith, t .served .size, spawn-inside cfg st s st′ c d)))
+took-oldest cfg st s h c y z k t =
+    rw (server-adds cfg h s c y)
+    (getD-set-same (h .taken) (s .claim .number) (getD (queuedAt h (s .what)) 0 noRequest) noRequest (omega (arith, t .served .size, ap (λ (v : Value). v .number) k, z .slot)))

@@ -13,8 +13,8 @@ use lib.Dec.{eqb}
 use lib.ListN.{length}
 use lib.Seq.{getD-set-same, getD-set-other}
 use borrow.Author.Tests.{eq-eqb, ne-eqb}
+use Rattle.numbers.specs.Codes.{enterCode, exitCode}
 use Rattle.laws.specs.Choice.{pick, bit}
-use Rattle.laws.proofs.Choosing.{clash}
 use Rattle.values.specs.declared.Step.{Step}
 use Rattle.config.specs.declared.Config.{Config}
 use Rattle.state.specs.declared.State.{State}
@@ -26,17 +26,17 @@ use Rattle.state.specs.Parts.{noArea, noSlot}
 use Rattle.state.specs.Start.{startOf}
 use Rattle.state.specs.Tables.{noAreas, areaIn, slotIn, withArea, withSlot, withAreas, withSlots}
 use Rattle.rules.specs.Sound.{timesIn}
-use Rattle.rules.specs.Steps.{entering, exiting, called, closed, finishing, spawned}
-use Rattle.keep.specs.Facts.{Sound, CanEnter, CanExit, CanEnd}
-use Rattle.keep.proofs.Configured.{areas-most}
+use Rattle.effects.specs.Steps.{entering, entered, exiting, exited, called, closed, finishing, spawned}
+use Rattle.keep.specs.Facts.{Sound, CanEnter, CanExit}
+use Rattle.rules.proofs.Configured.{areas-most}
 use Rattle.keep.proofs.Told.{areas-length}
 use Rattle.keep.proofs.Kept.{slot-kept, slot-inside, here}
 use Rattle.keep.proofs.Areas.{enter-stack, exit-stack, call-stack, end-stack, spawn-stack}
 use Rattle.history.specs.History.{holderAfter, holderFrom, holderOf}
 use Rattle.history.specs.Promises.{HeldBy}
 use Rattle.history.proofs.Beside.{all-alike}
-use Rattle.history.proofs.Passes.{Unmoved, entered, exited}
-use Rattle.history.proofs.Deeds.{Moves, enters, exits, stays, Deed, passes, starts, returns, lates, ends, serves, spawns, timesOut}
+use Rattle.history.proofs.Passes.{Unmoved}
+use Rattle.history.proofs.Deeds.{Moves, enters, exits, stays, Deed, pass, call, answer, late, end, server, plain, timeout, other-code}
 use Rattle.history.proofs.Finals.{holder, no-holder}
 
 -- ---- the holder, step by step
@@ -50,11 +50,11 @@ pub holder-one : (a : ℕ) (before : List Step) (s : Step) → holderOf a (befor
 unfolding holderOf holderFrom
 holder-one a before s = holder-append a none before (s ∷ [])
 
-enter-makes : (a : ℕ) (w : Option ℕ) (s : Step) → s .code ≡ 3 → s .what ≡ a → holderAfter a w s ≡ some (s .who)
+enter-makes : (a : ℕ) (w : Option ℕ) (s : Step) → s .code ≡ enterCode → s .what ≡ a → holderAfter a w s ≡ some (s .who)
 unfolding holderAfter
 enter-makes a w s c e = rw (c, eq-eqb (s .what) a e)
 
-exit-leaves : (a : ℕ) (w : Option ℕ) (s : Step) → s .code ≡ 4 → s .what ≡ a → holderAfter a w s ≡ none
+exit-leaves : (a : ℕ) (w : Option ℕ) (s : Step) → s .code ≡ exitCode → s .what ≡ a → holderAfter a w s ≡ none
 unfolding holderAfter
 exit-leaves a w s c e = rw (c, eq-eqb (s .what) a e)
 
@@ -62,9 +62,9 @@ other-area : (a : ℕ) (w : Option ℕ) (s : Step) → (s .what ≡ a → ⊥) �
 unfolding holderAfter
 other-area a w s n = rw (ne-eqb (s .what) a n)
 
-other-step : (a : ℕ) (w : Option ℕ) (s : Step) → (s .code ≡ 3 → ⊥) → (s .code ≡ 4 → ⊥) → holderAfter a w s ≡ w
+other-step : (a : ℕ) (w : Option ℕ) (s : Step) → (s .code ≡ enterCode → ⊥) → (s .code ≡ exitCode → ⊥) → holderAfter a w s ≡ w
 unfolding holderAfter
-other-step a w s n m = rw (ne-eqb (s .code) 3 n, ne-eqb (s .code) 4 m) (same (eqb (s .what) a))
+other-step a w s n m = rw (ne-eqb (s .code) enterCode n, ne-eqb (s .code) exitCode m) (same (eqb (s .what) a))
   where
     same : (b : Bool) → pick b w w ≡ w
     same true = refl
@@ -76,43 +76,22 @@ pub moves : (cfg : Config) (st : State) (s : Step) (st′ : State) → Sound cfg
 unfolding called closed spawned
 moves cfg st s st′ g d = go d
   where
-    still : (n : ℕ) → s .code ≡ n → eqb n 3 ≡ false → eqb n 4 ≡ false → Unmoved st st′ → Moves cfg st s st′
-    still n c f h u = stays (λ e. clash (eqb n 3) (rw (sym c ∙ e)) f) (λ e. clash (eqb n 4) (rw (sym c ∙ e)) h) u
+    still : {n : ℕ} → s .code ≡ n → eqb n enterCode ≡ false → eqb n exitCode ≡ false → Unmoved st st′ → Moves cfg st s st′
+    still c f h u = stays (other-code enterCode c f) (other-code exitCode c h) u
 
     -- one slot replaced, on whose stack each area stands as often as before
     one : (i : ℕ) (x : Slot) (ss : Slots) → ((a : ℕ) → timesIn a (x .stack) ≡ timesIn a (slotIn ss i .stack)) → (a k : ℕ) → timesIn a (slotIn (withSlot ss i x) k .stack) ≡ timesIn a (slotIn ss k .stack)
     one i x ss e a k = slot-kept (λ y. timesIn a (y .stack)) ss i x (e a) k
 
     go : Deed cfg st s st′ → Moves cfg st s st′
-    go (passes a q m w) = m
-    go (starts c k z e) = still 11 c refl refl (record { areas = λ a. rw e; stacks = λ a k. rw e (one (s .who) _ (st .slots) (call-stack cfg (s .what) (slotIn (st .slots) (s .who))) a k) })
-    go (returns c k z a e) = still 13 c refl refl (record { areas = λ a. rw e; stacks = λ a k. rw e (one (s .who) (finishing (slotIn (st .slots) (s .who))) (st .slots) (λ b. refl) a k) })
-    go (lates c k z e) = still 13 c refl refl (record { areas = λ a. rw e; stacks = λ a k. rw e (one (s .who) (finishing (slotIn (st .slots) (s .who))) (st .slots) (λ b. refl) a k) })
-    go (ends c z e) = still 14 c refl refl (record { areas = λ a. rw e; stacks = λ a k. rw e (one (s .who) noSlot (st .slots) (end-stack st (s .who) z) a k) })
-    go (serves c k y z e) = still 15 c refl refl (record { areas = λ a. rw e; stacks = λ a k. rw e (one _ _ (st .slots) (spawn-stack cfg st (s .what) g z) a k) })
-    go (spawns c k y z e) = still 15 c refl refl (record { areas = λ a. rw e; stacks = λ a k. rw e (one _ _ (st .slots) (spawn-stack cfg st (s .what) g z) a k) })
-    go (timesOut c z e) = still 16 c refl refl (record { areas = λ a. rw e; stacks = λ a k. rw e })
-
--- what an enter, an exit and an end relied on
-pub entering-told : (cfg : Config) (st : State) (s : Step) (st′ : State) → s .code ≡ 3 → Moves cfg st s st′ → CanEnter cfg st (s .who) (s .what)
-entering-told cfg st s st′ q (enters c z e) = z
-entering-told cfg st s st′ q (exits c z e) = absurd (omega (arith, c, q))
-entering-told cfg st s st′ q (stays n m u) = absurd (n q)
-
-pub exiting-told : (cfg : Config) (st : State) (s : Step) (st′ : State) → s .code ≡ 4 → Moves cfg st s st′ → CanExit cfg st (s .who) (s .what)
-exiting-told cfg st s st′ q (enters c z e) = absurd (omega (arith, c, q))
-exiting-told cfg st s st′ q (exits c z e) = z
-exiting-told cfg st s st′ q (stays n m u) = absurd (m q)
-
-pub ending-told : (cfg : Config) (st : State) (s : Step) (st′ : State) → s .code ≡ 14 → Deed cfg st s st′ → CanEnd st (s .who)
-ending-told cfg st s st′ q (passes a z m w) = absurd (z .end q)
-ending-told cfg st s st′ q (starts c k z e) = absurd (omega (arith, c, q))
-ending-told cfg st s st′ q (returns c k z a e) = absurd (omega (arith, c, q))
-ending-told cfg st s st′ q (lates c k z e) = absurd (omega (arith, c, q))
-ending-told cfg st s st′ q (ends c z e) = z
-ending-told cfg st s st′ q (serves c k y z e) = absurd (omega (arith, c, q))
-ending-told cfg st s st′ q (spawns c k y z e) = absurd (omega (arith, c, q))
-ending-told cfg st s st′ q (timesOut c z e) = absurd (omega (arith, c, q))
+    go (pass a q m w) = m
+    go (call c k z e) = still c refl refl (record { areas = λ a. rw e; stacks = λ a k. rw e (one (s .who) _ (st .slots) (call-stack cfg (s .what) (slotIn (st .slots) (s .who))) a k) })
+    go (answer c k z a e) = still c refl refl (record { areas = λ a. rw e; stacks = λ a k. rw e (one (s .who) (finishing (slotIn (st .slots) (s .who))) (st .slots) (λ b. refl) a k) })
+    go (late c k z e) = still c refl refl (record { areas = λ a. rw e; stacks = λ a k. rw e (one (s .who) (finishing (slotIn (st .slots) (s .who))) (st .slots) (λ b. refl) a k) })
+    go (end c z e) = still c refl refl (record { areas = λ a. rw e; stacks = λ a k. rw e (one (s .who) noSlot (st .slots) (end-stack st (s .who) z) a k) })
+    go (server c k y z e) = still c refl refl (record { areas = λ a. rw e; stacks = λ a k. rw e (one _ _ (st .slots) (spawn-stack cfg st (s .what) g z) a k) })
+    go (plain c k y z e) = still c refl refl (record { areas = λ a. rw e; stacks = λ a k. rw e (one _ _ (st .slots) (spawn-stack cfg st (s .what) g z) a k) })
+    go (timeout c z e) = still c refl refl (record { areas = λ a. rw e; stacks = λ a k. rw e })
 
 -- ---- the holder in the state
 
@@ -144,7 +123,7 @@ module _ (cfg : Config) (st : State) (s : Step) (g : Sound cfg st) where
   elsewhere b v x none n e h = flag-other (st .areas) (s .what) b v n ∙ h
   elsewhere b v x (some i) n e h = (h .0, omega (arith, h .1, slot-kept (λ (y : Slot). timesIn b (y .stack)) (st .slots) (s .who) x e i))
 
-  holds-enter : CanEnter cfg st (s .who) (s .what) → s .code ≡ 3 → (b : ℕ) (w : Option ℕ) → Dec (b ≡ s .what) → Holds st b w → Holds (entered st (s .who) (s .what)) b (holderAfter b w s)
+  holds-enter : CanEnter cfg st (s .who) (s .what) → s .code ≡ enterCode → (b : ℕ) (w : Option ℕ) → Dec (b ≡ s .what) → Holds st b w → Holds (entered st (s .who) (s .what)) b (holderAfter b w s)
   holds-enter z c b w (yes e) h =
       rw (enter-makes b w s c (sym e), e, slot-same (st .slots) (s .who) (entering (slotIn (st .slots) (s .who)) (s .what)) (slot-inside (st .slots) (s .who) (z .who .there .used)))
       (here cfg st (s .who) g (z .who .there), omega (arith, enter-stack cfg st (s .who) (s .what) g z (s .what), ap bit (eq-eqb (s .what) (s .what) refl)))
@@ -152,7 +131,7 @@ module _ (cfg : Config) (st : State) (s : Step) (g : Sound cfg st) where
       rw (other-area b w s (λ e. n (sym e)))
       (elsewhere b true (entering (slotIn (st .slots) (s .who)) (s .what)) w n (omega (arith, enter-stack cfg st (s .who) (s .what) g z b, ap bit (ne-eqb (s .what) b (λ e. n (sym e))))) h)
 
-  holds-exit : CanExit cfg st (s .who) (s .what) → s .code ≡ 4 → (b : ℕ) (w : Option ℕ) → Dec (b ≡ s .what) → Holds st b w → Holds (exited st (s .who) (s .what)) b (holderAfter b w s)
+  holds-exit : CanExit cfg st (s .who) (s .what) → s .code ≡ exitCode → (b : ℕ) (w : Option ℕ) → Dec (b ≡ s .what) → Holds st b w → Holds (exited st (s .who) (s .what)) b (holderAfter b w s)
   holds-exit z c b w (yes e) h =
       rw (exit-leaves b w s c (sym e), e) (flag-same (st .areas) (s .what) false (omega (arith, areas-length cfg st g, areas-most cfg (g .config), z .inside)))
   holds-exit z c b w (no n) h =

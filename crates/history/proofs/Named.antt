@@ -7,6 +7,7 @@ use mathlib.Core.Path.{_≡_, refl}
 use native.Mathlib.Numerals.{add-one}
 use native.Mathlib.Omega.{arith}
 use lib.ListN.{length, length-append}
+use Rattle.numbers.specs.Codes.{callCode}
 use Rattle.laws.proofs.Places.{put-each}
 use Rattle.values.specs.declared.Step.{Step}
 use Rattle.values.specs.Values.{okV}
@@ -14,7 +15,7 @@ use Rattle.config.specs.declared.Config.{Config}
 use Rattle.state.specs.declared.State.{State}
 use Rattle.history.specs.History.{noRequest, How, byTimeout, History, nothing, passed, begins, closes, takes, takesOldest, takenBy, latestOn, observe, Started}
 use Rattle.history.proofs.Beside.{all-alike}
-use Rattle.history.proofs.Deeds.{Deed, passes, starts, returns, lates, ends, serves, spawns, timesOut, passes-adds, starts-adds, returns-adds, lates-adds, ends-adds, serves-adds, spawns-adds, timeout-adds}
+use Rattle.history.proofs.Deeds.{Deed, pass, call, answer, late, end, server, plain, timeout, pass-adds, call-adds, answer-adds, late-adds, end-adds, server-adds, plain-adds, timeout-adds}
 
 -- ---- steps at their places
 
@@ -25,7 +26,7 @@ started-more (s ∷ rs) xs zero o h = absurd h
 started-more (s ∷ rs) xs (suc zero) o h = h
 started-more (s ∷ rs) xs (suc (suc k)) o h = started-more rs xs (suc k) o h
 
-started-here : (rs : List Step) (s : Step) → s .code ≡ 11 → s .claim ≡ okV → Started (rs ++ (s ∷ [])) (suc (length rs)) (s .what)
+started-here : (rs : List Step) (s : Step) → s .code ≡ callCode → s .claim ≡ okV → Started (rs ++ (s ∷ [])) (suc (length rs)) (s .what)
 unfolding Started
 started-here [] s c k = (c, refl, k)
 started-here (x ∷ rs) s c k = started-here rs s c k
@@ -50,14 +51,14 @@ module _ (rs : List Step) (h : History) (s : Step) (n : Named rs h) where
   named-passed : Named (rs ++ (s ∷ [])) (passed h)
   named-passed = record { place = next; latest = keeps }
 
-  named-begins : (cfg : Config) → s .code ≡ 11 → s .claim ≡ okV → Named (rs ++ (s ∷ [])) (begins cfg h (s .what) (s .argument))
-  named-begins cfg c k = record {
+  named-call : (cfg : Config) → s .code ≡ callCode → s .claim ≡ okV → Named (rs ++ (s ∷ [])) (begins cfg h (s .what) (s .argument))
+  named-call cfg c k = record {
     place = next;
     latest = λ o. put-each (λ j m. 0 < m → Started (rs ++ (s ∷ [])) m j) (h .latest) (s .what) (h .place + 1) 0 (λ q. rw (n .place, add-one) (started-here rs s c k)) o (keeps o);
   }
 
-  named-closes : (o : ℕ) (w : How) → Named (rs ++ (s ∷ [])) (closes h o w)
-  named-closes o w = record { place = next; latest = keeps }
+  named-closed : (o : ℕ) (w : How) → Named (rs ++ (s ∷ [])) (closes h o w)
+  named-closed o w = record { place = next; latest = keeps }
 
   named-takes : (i : ℕ) → Named (rs ++ (s ∷ [])) (takes h i noRequest)
   named-takes i = record { place = next; latest = keeps }
@@ -66,11 +67,11 @@ module _ (rs : List Step) (h : History) (s : Step) (n : Named rs h) where
   named-oldest i r = record { place = next; latest = keeps }
 
 pub named-deed : (cfg : Config) (st : State) (s : Step) (st′ : State) (rs : List Step) (h : History) → Deed cfg st s st′ → Named rs h → Named (rs ++ (s ∷ [])) (observe cfg h s)
-named-deed cfg st s st′ rs h (passes a q m w) n = rw (passes-adds cfg h s q) (named-passed rs h s n)
-named-deed cfg st s st′ rs h (starts c k z e) n = rw (starts-adds cfg h s c k) (named-begins rs h s n cfg c k)
-named-deed cfg st s st′ rs h (returns c k z a e) n = rw (returns-adds cfg h s c k) (named-closes rs h s n (takenBy h (s .who) .on) _)
-named-deed cfg st s st′ rs h (lates c k z e) n = rw (lates-adds cfg h s c k) (named-passed rs h s n)
-named-deed cfg st s st′ rs h (ends c z e) n = rw (ends-adds cfg h s c) (named-takes rs h s n (s .who))
-named-deed cfg st s st′ rs h (serves c k y z e) n = rw (serves-adds cfg h s c y) (named-oldest rs h s n (s .claim .number) (s .what))
-named-deed cfg st s st′ rs h (spawns c k y z e) n = rw (spawns-adds cfg h s c y) (named-takes rs h s n (s .claim .number))
-named-deed cfg st s st′ rs h (timesOut c z e) n = rw (timeout-adds cfg h s c) (named-closes rs h s n (s .what) byTimeout)
+named-deed cfg st s st′ rs h (pass a q m w) n = rw (pass-adds cfg h s q) (named-passed rs h s n)
+named-deed cfg st s st′ rs h (call c k z e) n = rw (call-adds cfg h s c k) (named-call rs h s n cfg c k)
+named-deed cfg st s st′ rs h (answer c k z a e) n = rw (answer-adds cfg h s c k) (named-closed rs h s n (takenBy h (s .who) .on) _)
+named-deed cfg st s st′ rs h (late c k z e) n = rw (late-adds cfg h s c k) (named-passed rs h s n)
+named-deed cfg st s st′ rs h (end c z e) n = rw (end-adds cfg h s c) (named-takes rs h s n (s .who))
+named-deed cfg st s st′ rs h (server c k y z e) n = rw (server-adds cfg h s c y) (named-oldest rs h s n (s .claim .number) (s .what))
+named-deed cfg st s st′ rs h (plain c k y z e) n = rw (plain-adds cfg h s c y) (named-takes rs h s n (s .claim .number))
+named-deed cfg st s st′ rs h (timeout c z e) n = rw (timeout-adds cfg h s c) (named-closed rs h s n (s .what) byTimeout)

@@ -2,6 +2,7 @@
 -- recording's history (`tied-at`), whose places are started calls (`named-at`) and whose queues are first in, first out (`fifo-at`); a promise about a step inside
 -- a recording is read off the run before it (`halves`).
 -- Assumes nothing.
+use Prim.Native.Nat.{ℕ}
 use mathlib.Core.Bool.{Bool, true, false}
 use mathlib.Core.List.{List, _∷_, _++_}
 use mathlib.Core.Option.{some}
@@ -13,34 +14,32 @@ use lib.Seq.{getD-drop}
 use borrow.Author.Tests.{lt-ltb, eq-eqb}
 use Rattle.laws.specs.Choice.{bit}
 use Rattle.values.specs.declared.Step.{Step}
-use Rattle.values.specs.declared.Answer.the-variants.{Taken}
 use Rattle.config.specs.declared.Config.{Config}
 use Rattle.entries.specs.Faults.{isServer, configSound}
 use Rattle.state.specs.declared.State.{State}
-use Rattle.state.specs.declared.Stepped.{Stepped}
 use Rattle.state.specs.Start.{startOf}
 use Rattle.state.specs.Tables.{operationIn, slotIn}
-use Rattle.rules.specs.Step.{stepOf}
+use Rattle.effects.specs.Step.{stepOf}
 use Rattle.keep.specs.Facts.{Sound}
-use Rattle.keep.proofs.Configured.{runnables-most, areas-most, server-there}
+use Rattle.rules.proofs.Configured.{runnables-most, areas-most, server-there}
 use Rattle.keep.proofs.Kept.{here}
 use Rattle.keep.proofs.Areas.{times-none, exit-stack}
 use Rattle.keep.proofs.Clients.{requests-told}
+use Rattle.keep.proofs.Ways.{Way}
+use Rattle.keep.proofs.Accepted.{way, enter-told, exit-told, result-told, answer-told, end-told, spawn-told, timeout-told, tick-told}
 use Rattle.history.specs.History.{noRequest, History, historyOf, takenBy, holderOf, allQueued, allSpawns}
 use Rattle.history.specs.Promises.{Run, OfRuns, OfSteps, StaysSound, AreasHeld, EntersFree, ExitsHeld, EndsEmpty, RequestsFit, ValuesFit, EndsOnce, EndsProperly, TimeoutAtZero, TimeoutInTime, BackInTime, TicksInTime, OpenInTime, CountIsRest, NumberIsFinal, DoneIsFinal, OpenIsUnended, LatestStarted, QueuesFollowed, ServedFollowed, FirstInFirstOut, SpawnTakesNext}
 use Rattle.history.proofs.Tied.{Tied}
 use Rattle.history.proofs.Runs.{Halves, halves, first, history-one}
-use Rattle.history.proofs.Deeds.{Deed}
-use Rattle.history.proofs.Accepts.{accepted, deed}
-use Rattle.history.proofs.Ended.{ended-at}
+use Rattle.history.proofs.Deeds.{due-server}
+use Rattle.history.proofs.Ended.{ended-at, answer-latest}
 use Rattle.history.proofs.Reached.{sound-along, sound-at, tied-at, named-at, fifo-at, timed-at, ticked-at, ended-along, holds-at, ends-grow}
-use Rattle.history.proofs.Ticked.{clocks, ticking}
-use Rattle.history.proofs.Held.{Holds, moves, entering-told, exiting-told, ending-told, held-by, free-none, stack-holder}
-use Rattle.history.proofs.Finals.{values-told, done-final, result-told, timed, back, serves-one, took-oldest}
+use Rattle.history.proofs.Held.{Holds, held-by, free-none, stack-holder}
+use Rattle.history.proofs.Finals.{values-told, done-final, took-oldest}
 
 -- ---- a step inside a recording
 
--- what a step finds: the state before it, which is sound, and the deed that it is
+-- what a step finds: the state before it, which is sound, and the way that it went
 module _ (cfg : Config) (before after : List Step) (s : Step) (st : State) (c : configSound cfg ≡ true) (e : Run cfg (before ++ (s ∷ after)) st) where
   abbrev found : Halves cfg (startOf cfg) st before (s ∷ after)
   found = halves cfg (startOf cfg) st before (s ∷ after) e
@@ -48,8 +47,8 @@ module _ (cfg : Config) (before after : List Step) (s : Step) (st : State) (c : 
   sound-before : Sound cfg (found .mid)
   sound-before = sound-at cfg before (found .mid) c (found .before)
 
-  deed-there : Deed cfg (found .mid) s (stepOf cfg (found .mid) s .state)
-  deed-there = deed cfg (found .mid) s (first cfg (found .mid) st s after (found .after))
+  way-there : {n : ℕ} → s .code ≡ n → Way cfg (found .mid) s n (s .claim) (stepOf cfg (found .mid) s .state)
+  way-there q = way cfg (found .mid) s q (first cfg (found .mid) st s after (found .after))
 
 -- ---- states
 
@@ -65,21 +64,21 @@ pub enters-free : OfSteps EntersFree
 enters-free cfg before after s st c e q =
     let g = sound-before cfg before after s st c e in
     let m = found cfg before after s st c e in
-    let z = entering-told cfg (m .mid) s _ q (moves cfg (m .mid) s _ g (deed-there cfg before after s st c e)) in
+    let z = enter-told cfg (m .mid) s (way-there cfg before after s st c e q) in
     free-none cfg (m .mid) (s .what) g (omega (arith, z .inside, areas-most cfg c)) (holderOf (s .what) before) (holds-at cfg before (m .mid) (s .what) (m .before)) (z .free)
 
 pub exits-held : OfSteps ExitsHeld
 exits-held cfg before after s st c e q =
     let g = sound-before cfg before after s st c e in
     let m = found cfg before after s st c e in
-    let z = exiting-told cfg (m .mid) s _ q (moves cfg (m .mid) s _ g (deed-there cfg before after s st c e)) in
+    let z = exit-told cfg (m .mid) s (way-there cfg before after s st c e q) in
     stack-holder cfg (m .mid) (s .what) g (omega (arith, z .inside, areas-most cfg c)) (holderOf (s .what) before) (s .who) (holds-at cfg before (m .mid) (s .what) (m .before))
     (here cfg (m .mid) (s .who) g (z .who .there)) (omega (arith, exit-stack cfg (m .mid) (s .who) (s .what) z (s .what), ap bit (eq-eqb (s .what) (s .what) refl)))
 
 pub ends-empty : OfSteps EndsEmpty
 ends-empty cfg before after s st c e q a b h =
     let m = found cfg before after s st c e in
-    let z = ending-told cfg (m .mid) s _ q (deed-there cfg before after s st c e) in
+    let z = end-told cfg (m .mid) s (way-there cfg before after s st c e q) in
     let w : Holds (m .mid) a (some (s .who)) = rw h at (holds-at cfg before (m .mid) a (m .before)) in
     omega (arith, w .1, times-none a (slotIn (m .mid .slots) (s .who) .stack) (z .flat))
 
@@ -100,7 +99,7 @@ ends-properly cfg rs st c e x m = ended-at cfg rs x _ (ended-along cfg rs st e) 
 pub timeout-at-zero : OfSteps TimeoutAtZero
 timeout-at-zero cfg before after s st c e q =
     let m = found cfg before after s st c e in
-    let z = timed cfg (m .mid) s _ q (deed-there cfg before after s st c e) in
+    let z = timeout-told cfg (m .mid) s (way-there cfg before after s st c e q) in
     let t = tied-at cfg before (m .mid) (m .before) in
     let b = t .calls .begun (s .what) (z .calling) in
     (m .mid, m .before, z .calling, z .zero, named-at cfg before (m .mid) (m .before) .latest (s .what) b, omega (arith, rw (z .calling) at (t .calls .state (s .what) b)))
@@ -108,26 +107,26 @@ timeout-at-zero cfg before after s st c e q =
 pub timeout-in-time : OfSteps TimeoutInTime
 timeout-in-time cfg before after s st c e q =
     let m = found cfg before after s st c e in
-    let z = timed cfg (m .mid) s _ q (deed-there cfg before after s st c e) in
+    let z = timeout-told cfg (m .mid) s (way-there cfg before after s st c e q) in
     omega (arith, timed-at cfg before (m .mid) (m .before) .rest (s .what) (z .calling), z .zero)
 
 pub back-in-time : OfSteps BackInTime
 back-in-time cfg before after s st c e q v =
     let m = found cfg before after s st c e in
-    let w = back cfg (m .mid) s _ (historyOf cfg before) q v (deed-there cfg before after s st c e) (tied-at cfg before (m .mid) (m .before)) in
+    let z = answer-told cfg (m .mid) s v (way-there cfg before after s st c e q) in
+    let w = answer-latest (m .mid) (historyOf cfg before) (s .who) (z .0 .serving) (z .1) (tied-at cfg before (m .mid) (m .before)) in
     rw (w .latest) (omega (arith, timed-at cfg before (m .mid) (m .before) .rest (takenBy (historyOf cfg before) (s .who) .on) (w .calling)))
 
 pub ticks-in-time : OfSteps TicksInTime
 ticks-in-time cfg before after s st c e q =
     let m = found cfg before after s st c e in
-    let z = ticking cfg (m .mid) s _ q (clocks cfg (m .mid) s _ (deed-there cfg before after s st c e)) in
+    let z = tick-told cfg (m .mid) s (way-there cfg before after s st c e q) in
     omega (arith, ticked-at cfg before (m .mid) (m .before) .rest (s .what) (z .inside), z .zero)
 
 pub number-is-final : OfSteps NumberIsFinal
 number-is-final cfg before after s st c e n q k =
     let m = found cfg before after s st c e in
-    let a = first cfg (m .mid) st s after (m .after) in
-    let r = result-told cfg (m .mid) s n q (ap (λ (x : Stepped). x .answer) (sym (accepted cfg (m .mid) s (s .claim) a .1)) ∙ a ∙ ap Taken k) in
+    let r = result-told cfg (m .mid) s n k (way-there cfg before after s st c e q) in
     let f = done-final (m .mid) (historyOf cfg before) (s .what) n (tied-at cfg before (m .mid) (m .before)) (r .0) (r .1) in
     (f .0, f .1, f .2, omega (arith, f .3, ends-grow cfg before (s ∷ after) (f .0 .call), ends-once cfg (before ++ (s ∷ after)) st c e (f .0 .call)))
 
@@ -177,10 +176,10 @@ spawn-takes-next cfg before after s st c e q b =
     let y : isServer cfg (s .what) ≡ true = lt-ltb 0 _ b in
     let t = tied-at cfg before (m .mid) (m .before) in
     let f = fifo-at cfg before (m .mid) (s .what) y (omega (arith, server-there cfg c (s .what) y, runnables-most cfg c)) (m .before) in
-    let d = deed-there cfg before after s st c e in (
-      omega (arith, serves-one cfg (m .mid) s _ q y d, t .queues .each (s .what) .size, ap length (f .queue), length-drop (allSpawns (s .what) before) (allQueued cfg (s .what) 0 before)),
+    let z = spawn-told cfg (m .mid) s (way-there cfg before after s st c e q) in (
+      omega (arith, due-server cfg (m .mid) (s .what) y (z .0), t .queues .each (s .what) .size, ap length (f .queue), length-drop (allSpawns (s .what) before) (allQueued cfg (s .what) 0 before)),
       ap (λ (h : History). takenBy h (s .claim .number)) (history-one cfg before s)
-          ∙ took-oldest cfg (m .mid) s _ (historyOf cfg before) q y d t
+          ∙ took-oldest cfg (m .mid) s (historyOf cfg before) q y (z .0) (z .1) t
           ∙ ap (λ l. getD l 0 noRequest) (f .queue)
           ∙ getD-drop (allSpawns (s .what) before) (allQueued cfg (s .what) 0 before) 0 noRequest ∙ ap (λ k. getD (allQueued cfg (s .what) 0 before) k noRequest) (add-zero _),
     )

@@ -9,6 +9,7 @@ use mathlib.Core.List.{List, [], _∷_, _++_}
 use mathlib.Core.Path.{_≡_}
 use native.Mathlib.Omega.{arith}
 use lib.Dec.{eqb}
+use Rattle.numbers.specs.Codes.{callCode, handBackCode, endCode, spawnCode, timeoutCode}
 use Rattle.laws.proofs.Choosing.{pick-has}
 use Rattle.values.specs.declared.Step.{Step}
 use Rattle.values.specs.Values.{okV, sameValue}
@@ -16,17 +17,18 @@ use Rattle.config.specs.declared.Config.{Config}
 use Rattle.entries.specs.Faults.{isServer, configSound}
 use Rattle.state.specs.declared.State.{State}
 use Rattle.rules.specs.Sound.{soundOf}
-use Rattle.rules.specs.Step.{stepOf}
+use Rattle.effects.specs.Step.{stepOf}
 use Rattle.keep.specs.Facts.{Sound}
 use Rattle.keep.proofs.Told.{told}
 use Rattle.keep.proofs.Start.{start-sound}
 use Rattle.keep.proofs.Keeps.{kept-step}
+use Rattle.keep.proofs.Accepted.{accepted}
 use Rattle.history.specs.History.{History, nothing, observe, historyFrom, historyOf, endsOf, holderOf}
 use Rattle.history.specs.Promises.{Run}
 use Rattle.history.proofs.Tied.{Tied}
 use Rattle.history.proofs.Runs.{history-append, history-one, along}
 use Rattle.history.proofs.Deeds.{tied-deed}
-use Rattle.history.proofs.Accepts.{accepted, deed}
+use Rattle.history.proofs.Accepts.{deed}
 use Rattle.history.proofs.Start.{tied-start}
 use Rattle.history.proofs.Named.{Named, named-start, named-deed}
 use Rattle.history.proofs.Fifo.{Fifo, fifo-start, fifo-deed}
@@ -104,11 +106,11 @@ grows : (cfg : Config) (h : History) (s : Step) (k : ℕ) → endsOf k (h .endin
 unfolding observe endsOf
 grows cfg h s k =
     let P : History → Type 0 = λ x. endsOf k (h .endings) ≤ endsOf k (x .endings) in
-    pick-has P (eqb (s .code) 11) _ _ (λ c. pick-has P (sameValue (s .claim) okV) _ _ (λ e. omega arith) (λ e. omega arith))
-    (λ c. pick-has P (eqb (s .code) 13) _ _ (λ c. pick-has P (eqb (s .claim .number) 1) _ _ (λ e. omega arith) (λ e. omega arith))
-    (λ c. pick-has P (eqb (s .code) 14) _ _ (λ c. omega arith)
-    (λ c. pick-has P (eqb (s .code) 15) _ _ (λ c. pick-has P (isServer cfg (s .what)) _ _ (λ e. omega arith) (λ e. omega arith))
-    (λ c. pick-has P (eqb (s .code) 16) _ _ (λ c. omega arith) (λ c. omega arith)))))
+    pick-has P (eqb (s .code) callCode) _ _ (λ c. pick-has P (sameValue (s .claim) okV) _ _ (λ e. omega arith) (λ e. omega arith))
+    (λ c. pick-has P (eqb (s .code) handBackCode) _ _ (λ c. pick-has P (eqb (s .claim .number) 1) _ _ (λ e. omega arith) (λ e. omega arith))
+    (λ c. pick-has P (eqb (s .code) endCode) _ _ (λ c. omega arith)
+    (λ c. pick-has P (eqb (s .code) spawnCode) _ _ (λ c. pick-has P (isServer cfg (s .what)) _ _ (λ e. omega arith) (λ e. omega arith))
+    (λ c. pick-has P (eqb (s .code) timeoutCode) _ _ (λ c. omega arith) (λ c. omega arith)))))
 
 grows-from : (cfg : Config) (h : History) (rs : List Step) (k : ℕ) → endsOf k (h .endings) ≤ endsOf k (historyFrom cfg h rs .endings)
 unfolding historyFrom

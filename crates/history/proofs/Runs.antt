@@ -14,7 +14,7 @@ use Rattle.values.specs.Values.{refusalIn, valueIn}
 use Rattle.config.specs.declared.Config.{Config}
 use Rattle.state.specs.declared.State.{State}
 use Rattle.state.specs.Start.{startOf}
-use Rattle.rules.specs.Step.{stepOf}
+use Rattle.effects.specs.Step.{stepOf}
 use Rattle.keep.proofs.Refusals.{never-zero}
 use Rattle.history.specs.History.{History, nothing, observe, historyFrom, historyOf}
 use Rattle.history.specs.Promises.{Answers, Accepted, Run}

@@ -13,8 +13,9 @@ use lib.Dec.{eqb}
 use lib.ListN.{length, length-append}
 use lib.Seq.{getD-set-same, getD-set-other}
 use borrow.Author.Tests.{leb-true, eq-eqb, ne-eqb}
+use Rattle.numbers.specs.Codes.{tickCode, waitCode}
 use Rattle.laws.specs.Choice.{pick, both}
-use Rattle.laws.proofs.Choosing.{clash, pick-has}
+use Rattle.laws.proofs.Choosing.{pick-has}
 use Rattle.laws.proofs.Looping.{all-at}
 use Rattle.laws.proofs.Places.{each-at}
 use Rattle.values.specs.declared.Step.{Step}
@@ -26,14 +27,14 @@ use Rattle.state.specs.declared.State.{State}
 use Rattle.state.specs.Parts.{noTimer}
 use Rattle.state.specs.Start.{startOf}
 use Rattle.state.specs.Tables.{noTimers, timerIn, withTimer}
-use Rattle.rules.specs.Steps.{called, closed, spawned, timerLets, timersLet, timerAfter, timersAfter}
-use Rattle.keep.specs.Facts.{Sound, CanTick}
-use Rattle.keep.proofs.Configured.{timers-most}
+use Rattle.effects.specs.Steps.{called, closed, spawned, timerLets, timersLet, timerAfter, timersAfter, waited}
+use Rattle.keep.specs.Facts.{Sound}
+use Rattle.rules.proofs.Configured.{timers-most}
 use Rattle.keep.proofs.Told.{timers-length}
 use Rattle.history.specs.History.{timeOf, timeIn, timeSince, tickFrom, lastTick}
 use Rattle.history.proofs.Beside.{all-alike}
 use Rattle.history.proofs.Timed.{since-more, since-now, still}
-use Rattle.history.proofs.Deeds.{Clocks, ticks, waits, keeps, Deed, passes, starts, returns, lates, ends, serves, spawns, timesOut}
+use Rattle.history.proofs.Deeds.{Clocks, ticks, waits, keeps, Deed, pass, call, answer, late, end, server, plain, timeout, other-code}
 
 -- ---- the last tick, step by step
 
@@ -42,10 +43,10 @@ unfolding tickFrom
 tick-append k last n [] ys = rw add-zero
 tick-append k last n (x ∷ xs) ys =
     let m : n + 1 + length xs ≡ n + length (x ∷ xs) = omega arith in
-    tick-append k (pick (both (eqb (x .code) 17) (eqb (x .what) k)) (n + 1) last) (n + 1) xs ys
-    ∙ ap (λ j. tickFrom k (tickFrom k (pick (both (eqb (x .code) 17) (eqb (x .what) k)) (n + 1) last) (n + 1) xs) j ys) m
+    tick-append k (pick (both (eqb (x .code) tickCode) (eqb (x .what) k)) (n + 1) last) (n + 1) xs ys
+    ∙ ap (λ j. tickFrom k (tickFrom k (pick (both (eqb (x .code) tickCode) (eqb (x .what) k)) (n + 1) last) (n + 1) xs) j ys) m
 
-last-one : (k : ℕ) (rs : List Step) (s : Step) → lastTick k (rs ++ (s ∷ [])) ≡ pick (both (eqb (s .code) 17) (eqb (s .what) k)) (length rs + 1) (lastTick k rs)
+last-one : (k : ℕ) (rs : List Step) (s : Step) → lastTick k (rs ++ (s ∷ [])) ≡ pick (both (eqb (s .code) tickCode) (eqb (s .what) k)) (length rs + 1) (lastTick k rs)
 unfolding lastTick tickFrom
 last-one k rs s = tick-append k 0 0 rs (s ∷ []) ∙ rw zero-add
 
@@ -53,25 +54,25 @@ tick-past : (k last n : ℕ) (rs : List Step) → last ≤ n → tickFrom k last
 unfolding tickFrom
 tick-past k last n [] l = omega (arith, l)
 tick-past k last n (s ∷ rs) l =
-    omega (arith, tick-past k (pick (both (eqb (s .code) 17) (eqb (s .what) k)) (n + 1) last) (n + 1) rs (pick-has (λ m. m ≤ n + 1) (both (eqb (s .code) 17) (eqb (s .what) k)) (n + 1) last (λ e. omega arith) (λ e. omega (arith, l))))
+    omega (arith, tick-past k (pick (both (eqb (s .code) tickCode) (eqb (s .what) k)) (n + 1) last) (n + 1) rs (pick-has (λ m. m ≤ n + 1) (both (eqb (s .code) tickCode) (eqb (s .what) k)) (n + 1) last (λ e. omega arith) (λ e. omega (arith, l))))
 
 last-past : (k : ℕ) (rs : List Step) → lastTick k rs ≤ length rs
 unfolding lastTick
 last-past k rs = omega (arith, tick-past k 0 0 rs (omega arith))
 
 -- a tick of this timer, and any other step
-last-here : (k : ℕ) (rs : List Step) (s : Step) → s .code ≡ 17 → s .what ≡ k → lastTick k (rs ++ (s ∷ [])) ≡ length rs + 1
+last-here : (k : ℕ) (rs : List Step) (s : Step) → s .code ≡ tickCode → s .what ≡ k → lastTick k (rs ++ (s ∷ [])) ≡ length rs + 1
 last-here k rs s c e = last-one k rs s ∙ rw (c, eq-eqb (s .what) k e)
 
 last-other : (k : ℕ) (rs : List Step) (s : Step) → (s .what ≡ k → ⊥) → lastTick k (rs ++ (s ∷ [])) ≡ lastTick k rs
-last-other k rs s n = last-one k rs s ∙ rw (ne-eqb (s .what) k n) (none (eqb (s .code) 17))
+last-other k rs s n = last-one k rs s ∙ rw (ne-eqb (s .what) k n) (none (eqb (s .code) tickCode))
   where
     none : (b : Bool) → pick (both b false) (length rs + 1) (lastTick k rs) ≡ lastTick k rs
     none true = refl
     none false = refl
 
-last-still : (k : ℕ) (rs : List Step) (s : Step) → (s .code ≡ 17 → ⊥) → lastTick k (rs ++ (s ∷ [])) ≡ lastTick k rs
-last-still k rs s n = last-one k rs s ∙ rw (ne-eqb (s .code) 17 n)
+last-still : (k : ℕ) (rs : List Step) (s : Step) → (s .code ≡ tickCode → ⊥) → lastTick k (rs ++ (s ∷ [])) ≡ lastTick k rs
+last-still k rs s n = last-one k rs s ∙ rw (ne-eqb (s .code) tickCode n)
 
 -- ---- what is left of each timer
 
@@ -92,10 +93,10 @@ module _ (cfg : Config) (ts : Timers) (rs : List Step) (s : Step) (t : Ticked cf
       → timeSince (lastTick k (rs ++ (s ∷ []))) (rs ++ (s ∷ [])) + x .count ≡ round cfg k (lastTick k (rs ++ (s ∷ [])))
   onward k m x b e w c = rw e (omega (arith, since-more (lastTick k rs) rs s (last-past k rs), w, c, t .rest k b))
 
-  ticked-still : (s .code ≡ 17 → ⊥) → (s .code ≡ 18 → ⊥) → Ticked cfg ts (rs ++ (s ∷ []))
+  ticked-still : (s .code ≡ tickCode → ⊥) → (s .code ≡ waitCode → ⊥) → Ticked cfg ts (rs ++ (s ∷ []))
   ticked-still n w = record { rest = λ k b. onward k 0 (timerIn ts k) b (last-still k rs s n) (still s w) (omega arith) }
 
-  ticked-tick : s .code ≡ 17 → s .what < length (ts .at) → Ticked cfg (withTimer ts (s .what) (record { count = timerConfIn (cfg .timers) (s .what) .period })) (rs ++ (s ∷ []))
+  ticked-tick : s .code ≡ tickCode → s .what < length (ts .at) → Ticked cfg (withTimer ts (s .what) (record { count = timerConfIn (cfg .timers) (s .what) .period })) (rs ++ (s ∷ []))
   unfolding timerIn withTimer
   ticked-tick c l = record { rest = λ k b. go k b (ℕ-discrete k (s .what)) }
     where
@@ -111,7 +112,7 @@ module _ (cfg : Config) (ts : Timers) (rs : List Step) (s : Step) (t : Ticked cf
           rw (getD-set-other (ts .at) (s .what) k x noTimer n)
           (onward k 0 (timerIn ts k) b (last-other k rs s (λ e. n (sym e))) (still s (λ w. omega (arith, c, w))) (omega arith))
 
-  ticked-wait : s .code ≡ 18 → timersLet cfg ts (s .argument .number) ≡ true → length (ts .at) ≡ 8 → cfg .timers .n ≤ 8 → Ticked cfg (timersAfter cfg ts (s .argument .number)) (rs ++ (s ∷ []))
+  ticked-wait : s .code ≡ waitCode → timersLet cfg ts (s .argument .number) ≡ true → length (ts .at) ≡ 8 → cfg .timers .n ≤ 8 → Ticked cfg (timersAfter cfg ts (s .argument .number)) (rs ++ (s ∷ []))
   unfolding timersLet timerLets timersAfter timerIn timeOf
   ticked-wait c z l m = record {
     rest = λ k b.
@@ -126,26 +127,21 @@ pub clocks : (cfg : Config) (st : State) (s : Step) (st′ : State) → Deed cfg
 unfolding called closed spawned
 clocks cfg st s st′ d = go d
   where
-    same : (n : ℕ) → s .code ≡ n → eqb n 17 ≡ false → eqb n 18 ≡ false → st′ .timers ≡ st .timers → Clocks cfg st s st′
-    same n c f g e = keeps (λ q. clash (eqb n 17) (rw (sym c ∙ q)) f) (λ q. clash (eqb n 18) (rw (sym c ∙ q)) g) e
+    same : {n : ℕ} → s .code ≡ n → eqb n tickCode ≡ false → eqb n waitCode ≡ false → st′ .timers ≡ st .timers → Clocks cfg st s st′
+    same c f g e = keeps (other-code tickCode c f) (other-code waitCode c g) e
 
     go : Deed cfg st s st′ → Clocks cfg st s st′
-    go (passes a q m w) = w
-    go (starts c k z e) = same 11 c refl refl (rw e)
-    go (returns c k z a e) = same 13 c refl refl (rw e)
-    go (lates c k z e) = same 13 c refl refl (rw e)
-    go (ends c z e) = same 14 c refl refl (rw e)
-    go (serves c k y z e) = same 15 c refl refl (rw e)
-    go (spawns c k y z e) = same 15 c refl refl (rw e)
-    go (timesOut c z e) = same 16 c refl refl (rw e)
+    go (pass a q m w) = w
+    go (call c k z e) = same c refl refl (rw e)
+    go (answer c k z a e) = same c refl refl (rw e)
+    go (late c k z e) = same c refl refl (rw e)
+    go (end c z e) = same c refl refl (rw e)
+    go (server c k y z e) = same c refl refl (rw e)
+    go (plain c k y z e) = same c refl refl (rw e)
+    go (timeout c z e) = same c refl refl (rw e)
 
 pub ticked-deed : (cfg : Config) (st : State) (s : Step) (st′ : State) (rs : List Step) → Sound cfg st → Clocks cfg st s st′ → Ticked cfg (st .timers) rs → Ticked cfg (st′ .timers) (rs ++ (s ∷ []))
+unfolding waited
 ticked-deed cfg st s st′ rs g (ticks c z e) t = rw e (ticked-tick cfg (st .timers) rs s t c (omega (arith, timers-length cfg st g, timers-most cfg (g .config), z .inside)))
 ticked-deed cfg st s st′ rs g (waits c z e) t = rw e (ticked-wait cfg (st .timers) rs s t c (z .timers) (timers-length cfg st g) (timers-most cfg (g .config)))
 ticked-deed cfg st s st′ rs g (keeps n w e) t = rw e (ticked-still cfg (st .timers) rs s t n w)
-
--- the count of a timer that ticks is 0
-pub ticking : (cfg : Config) (st : State) (s : Step) (st′ : State) → s .code ≡ 17 → Clocks cfg st s st′ → CanTick cfg st (s .what)
-ticking cfg st s st′ q (ticks c z e) = z
-ticking cfg st s st′ q (waits c z e) = absurd (omega (arith, c, q))
-ticking cfg st s st′ q (keeps n w e) = absurd (n q)

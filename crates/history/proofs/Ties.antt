@@ -23,10 +23,10 @@ use Rattle.state.specs.declared.Runnable.{Runnable}
 use Rattle.state.specs.declared.Slot.{Slot}
 use Rattle.state.specs.declared.State.{State}
 use Rattle.state.specs.Parts.{noOwed, noSlot}
-use Rattle.state.specs.Tables.{runnableIn, operationIn, slotIn, withRunnable, withOperation, withSlot, withRunnables, withSlots}
-use Rattle.rules.specs.Steps.{opening, asking, called, closing, closed, answers, finishing, leaving, starting, fresh, instanceOf, spawned}
+use Rattle.state.specs.Tables.{runnableIn, operationIn, slotIn, withOperation, withSlot, withSlots}
+use Rattle.effects.specs.Steps.{isOpen, opening, asking, called, closing, closed, answers, finishing, clientOf, finished, answered, emptied, starting, fresh, instanceOf, spawned}
 use Rattle.keep.specs.Facts.{Sound, CanCall, CanHandBack, CanEnd, CanTimeout}
-use Rattle.keep.proofs.Configured.{runnables-most, operations-most, capacity-most, operation-there}
+use Rattle.rules.proofs.Configured.{runnables-most, operations-most, capacity-most, operation-there}
 use Rattle.keep.proofs.Told.{runnables-length, operations-length, slots-length}
 use Rattle.keep.proofs.Kept.{runnable-kept, slot-kept, returned-kept, caller-kept, slot-inside}
 use Rattle.keep.proofs.Clients.{requests-told, calling-inside}
@@ -86,7 +86,7 @@ tied-call cfg st h i o v s z t = record {
 
 -- ---- a call ends
 
-tied-closed : (cfg : Config) (st : State) (h : History) (o : ℕ) (w : How) (v : Value) → operationIn (st .operations) o .calling ≡ true → Proper (latestOn h o) w → given w ≡ v → Tied st h
+tied-closed : (cfg : Config) (st : State) (h : History) (o : ℕ) (w : How) (v : Value) → isOpen st o ≡ true → Proper (latestOn h o) w → given w ≡ v → Tied st h
     → Tied (closed cfg st o v) (closes h o w)
 unfolding closed closing
 tied-closed cfg st h o w v e p g t = record {
@@ -107,9 +107,8 @@ tied-timeout cfg st h o z t = tied-closed cfg st h o byTimeout timeoutV (z .call
 tied-finish : (st : State) (h : History) (i : ℕ) (x : Slot) → i < length (st .slots .at) → Tied st h → Tied (withSlots st (withSlot (st .slots) i (finishing x))) h
 tied-finish st h i x b t = record { queues = t .queues; served = served-idle (st .operations) (h .latest) (st .slots) (h .taken) i (finishing x) (t .served) b refl; calls = t .calls }
 
-pub tied-answer : (cfg : Config) (st : State) (h : History) (i : ℕ) (v : Value) → CanHandBack cfg st i v → answers (st .operations) (slotIn (st .slots) i .owed .client) ≡ true → Tied st h
-    → Tied (withSlots (closed cfg st (slotIn (st .slots) i .owed .client .operation) v) (withSlot (st .slots) i (finishing (slotIn (st .slots) i))))
-    (closes h (takenBy h i .on) (byInstance (takenBy h i .at) v))
+pub tied-answer : (cfg : Config) (st : State) (h : History) (i : ℕ) (v : Value) → CanHandBack cfg st i v → answers (st .operations) (clientOf st i) ≡ true → Tied st h
+    → Tied (answered cfg st i v) (closes h (takenBy h i .on) (byInstance (takenBy h i .at) v))
 unfolding answers closed
 tied-answer cfg st h i v z e t =
     rw (tag .same)
@@ -117,7 +116,7 @@ tied-answer cfg st h i v z e t =
     (tied-closed cfg st h (c .operation) (byInstance (takenBy h i .at) v) v open-still (tag .newest open-still its-number) refl t))
   where
     c : Client
-    c = slotIn (st .slots) i .owed .client
+    c = clientOf st i
 
     tag : Tag (st .operations) (h .latest) c (takenBy h i)
     tag = t .served .each i (z .serving)
@@ -128,8 +127,7 @@ tied-answer cfg st h i v z e t =
     its-number : c .number ≡ operationIn (st .operations) (c .operation) .number
     its-number = sym (eqb-true _ _ (both-right (operationIn (st .operations) (c .operation) .calling) _ e))
 
-pub tied-late : (cfg : Config) (st : State) (h : History) (i : ℕ) (v : Value) → CanHandBack cfg st i v → Tied st h
-    → Tied (withSlots st (withSlot (st .slots) i (finishing (slotIn (st .slots) i)))) (passed h)
+pub tied-late : (cfg : Config) (st : State) (h : History) (i : ℕ) (v : Value) → CanHandBack cfg st i v → Tied st h → Tied (finished st st i) (passed h)
 tied-late cfg st h i v z t = tied-finish st (passed h) i (slotIn (st .slots) i) (serving-inside (st .slots) i (z .serving)) (tied-alike st st h (alike-same st) t)
 
 -- ---- an instance comes, and goes
@@ -164,11 +162,7 @@ tied-plain cfg st h r k s b e t = rw e (record {
   calls = calls-alike (st .operations) (st .operations) (h .latest) (h .endings) (h .place) (same-calls (st .operations)) (t .calls);
 })
 
-pub tied-end : (cfg : Config) (st : State) (h : History) (i : ℕ) → Sound cfg st → CanEnd st i → Tied st h
-    → Tied
-    (withSlots (withRunnables st (withRunnable (st .runnables) (slotIn (st .slots) i .life .runnable) (leaving (runnableIn (st .runnables) (slotIn (st .slots) i .life .runnable)))))
-    (withSlot (st .slots) i noSlot))
-    (takes h i noRequest)
+pub tied-end : (cfg : Config) (st : State) (h : History) (i : ℕ) → Sound cfg st → CanEnd st i → Tied st h → Tied (emptied st i) (takes h i noRequest)
 unfolding noSlot
 tied-end cfg st h i s z t = record {
   queues = queues-alike (st .operations) (h .latest) (st .runnables) _ (h .queued) (runnable-kept (λ y. y .requests) (st .runnables) (slotIn (st .slots) i .life .runnable) _ refl) (t .queues);

@@ -1,17 +1,19 @@
 -- Time, as the waits of the recording tell it: while an operation is Calling, the time since its latest call and the count that is left are its timeout (`Timed`).
--- Time adds up along a recording (`since-more`), and none has passed since its last step (`since-now`). A call starts with the whole timeout (`timed-begins`), a
--- call that ended is not asked about (`timed-closes`), and any other step takes from every open call the time that it lets pass (`timed-passed`): a wait its
+-- Time adds up along a recording (`since-more`), and none has passed since its last step (`since-now`). A call starts with the whole timeout (`timed-call`), a
+-- call that ended is not asked about (`timed-closed`), and any other step takes from every open call the time that it lets pass (`timed-passed`): a wait its
 -- argument, all others none. Every deed is of these kinds (`timed-deed`).
 -- Assumes nothing.
 use Prim.Native.Nat.{ℕ, _+_, _≤_, _<_}
-use mathlib.Core.Bool.{true, false}
+use mathlib.Core.Bool.{Bool, true, false}
 use mathlib.Core.List.{List, [], _∷_, _++_}
-use mathlib.Core.Path.{_≡_, refl, sym, _∙_}
+use mathlib.Core.Path.{_≡_, refl, sym, _∙_, ap}
 use native.Mathlib.Omega.{arith}
 use lib.Dec.{eqb}
 use lib.ListN.{length, getD, set, drop, length-append}
 use lib.Seq.{drop-append-le, drop-length}
 use borrow.Author.Tests.{ne-eqb}
+use Rattle.numbers.specs.Codes.{waitCode}
+use Rattle.laws.specs.Choice.{pick}
 use Rattle.laws.proofs.Choosing.{clash, both-left}
 use Rattle.values.specs.declared.Step.{Step}
 use Rattle.config.specs.declared.Config.{Config}
@@ -21,10 +23,10 @@ use Rattle.state.specs.declared.Operations.{Operations}
 use Rattle.state.specs.declared.State.{State}
 use Rattle.state.specs.Parts.{noOperation}
 use Rattle.state.specs.Start.{startOf}
-use Rattle.state.specs.Tables.{noOperations, operationIn, slotIn, withOperation}
-use Rattle.rules.specs.Steps.{opening, called, closing, closed, answers, spawned}
+use Rattle.state.specs.Tables.{noOperations, operationIn, withOperation}
+use Rattle.effects.specs.Steps.{opening, called, closing, closed, answers, clientOf, spawned}
 use Rattle.keep.specs.Facts.{Sound}
-use Rattle.keep.proofs.Configured.{operations-most}
+use Rattle.rules.proofs.Configured.{operations-most}
 use Rattle.keep.proofs.Told.{operations-length}
 use Rattle.keep.proofs.Clients.{calling-inside}
 use Rattle.history.specs.History.{History, nothing, latestOn, observe, timeOf, timeIn, timeSince}
@@ -33,7 +35,7 @@ use Rattle.history.proofs.Tied.{SameCalls, Tied}
 use Rattle.history.proofs.Calls.{operation-each, operation-both}
 use Rattle.history.proofs.Passes.{same-calls}
 use Rattle.history.proofs.Named.{Named}
-use Rattle.history.proofs.Deeds.{Deed, passes, starts, returns, lates, ends, serves, spawns, timesOut, passes-adds, starts-adds, returns-adds, lates-adds, ends-adds, serves-adds, spawns-adds, timeout-adds}
+use Rattle.history.proofs.Deeds.{Deed, pass, call, answer, late, end, server, plain, timeout, pass-adds, call-adds, answer-adds, late-adds, end-adds, server-adds, plain-adds, timeout-adds, other-code}
 
 -- ---- time adds up
 
@@ -54,9 +56,9 @@ unfolding timeIn
 since-now k rs e = rw (← e, drop-length rs)
 
 -- a step that is no wait
-pub still : (s : Step) → (s .code ≡ 18 → ⊥) → timeOf s ≡ 0
+pub still : (s : Step) → (s .code ≡ waitCode → ⊥) → timeOf s ≡ 0
 unfolding timeOf
-still s n = rw (ne-eqb (s .code) 18 n)
+still s n = ap (λ (b : Bool). pick b (s .argument .number) 0) (ne-eqb (s .code) waitCode n)
 
 -- ---- what is left of each open call
 
@@ -80,20 +82,20 @@ module _ (cfg : Config) (os : Operations) (latest : List ℕ) (rs : List Step) (
   }
 
   -- no wait, and the operations as they were
-  timed-still : (s .code ≡ 18 → ⊥) → Timed cfg os latest (rs ++ (s ∷ []))
+  timed-still : (s .code ≡ waitCode → ⊥) → Timed cfg os latest (rs ++ (s ∷ []))
   timed-still n = timed-passed os (rw (still s n) (same-calls os))
 
-  timed-begins : (o : ℕ) (x : Operation) → (s .code ≡ 18 → ⊥) → o < length (os .at) → o < length latest → x .count ≡ operationConfIn (cfg .operations) o .timeout
+  timed-call : (o : ℕ) (x : Operation) → (s .code ≡ waitCode → ⊥) → o < length (os .at) → o < length latest → x .count ≡ operationConfIn (cfg .operations) o .timeout
       → Timed cfg (withOperation os o x) (set latest o (length rs + 1)) (rs ++ (s ∷ []))
-  timed-begins o x n b c e = record {
+  timed-call o x n b c e = record {
     rest =
         operation-both (λ j y k. y .calling ≡ true → timeSince k (rs ++ (s ∷ [])) + y .count ≡ operationConfIn (cfg .operations) j .timeout) os latest o x (length rs + 1) b c
         (λ q. omega (arith, since-now (length rs + 1) (rs ++ (s ∷ [])) (length-append rs (s ∷ [])), e))
         (λ j m. timed-still n .rest j);
   }
 
-  timed-closes : (o : ℕ) (x : Operation) → (s .code ≡ 18 → ⊥) → o < length (os .at) → x .calling ≡ false → Timed cfg (withOperation os o x) latest (rs ++ (s ∷ []))
-  timed-closes o x n b e = record {
+  timed-closed : (o : ℕ) (x : Operation) → (s .code ≡ waitCode → ⊥) → o < length (os .at) → x .calling ≡ false → Timed cfg (withOperation os o x) latest (rs ++ (s ∷ []))
+  timed-closed o x n b e = record {
     rest =
         operation-each (λ j y. y .calling ≡ true → timeSince (getD latest j 0) (rs ++ (s ∷ [])) + y .count ≡ operationConfIn (cfg .operations) j .timeout) os o x b
         (λ q. absurd (clash (x .calling) q e)) (λ j m. timed-still n .rest j);
@@ -110,24 +112,21 @@ timed-deed cfg st s st′ rs h g d t n k = go d
     os : Operations
     os = st .operations
 
-    not-wait : (m : ℕ) → eqb m 18 ≡ false → s .code ≡ m → s .code ≡ 18 → ⊥
-    not-wait m f c q = clash (eqb m 18) (rw (sym c ∙ q)) f
-
-    still-so : (m : ℕ) → eqb m 18 ≡ false → s .code ≡ m → Timed cfg os (h .latest) (rs ++ (s ∷ []))
-    still-so m f c = timed-still cfg os (h .latest) rs s past k (not-wait m f c)
+    still-so : {m : ℕ} → eqb m waitCode ≡ false → s .code ≡ m → Timed cfg os (h .latest) (rs ++ (s ∷ []))
+    still-so f c = timed-still cfg os (h .latest) rs s past k (other-code waitCode c f)
 
     go : Deed cfg st s st′ → Timed cfg (st′ .operations) (observe cfg h s .latest) (rs ++ (s ∷ []))
-    go (passes a q m w) = rw (passes-adds cfg h s q) (timed-passed cfg os (h .latest) rs s past k (st′ .operations) (a .operations))
-    go (starts c q z e) =
-        rw (starts-adds cfg h s c q, e, n .place)
-        (timed-begins cfg os (h .latest) rs s past k (s .what) (opening (operationConfIn (cfg .operations) (s .what) .timeout) (operationIn os (s .what))) (not-wait 11 refl c) (omega (arith, operations-length cfg st g, operations-most cfg (g .config), z .inside))
+    go (pass a q m w) = rw (pass-adds cfg h s q) (timed-passed cfg os (h .latest) rs s past k (st′ .operations) (a .operations))
+    go (call c q z e) =
+        rw (call-adds cfg h s c q, e, n .place)
+        (timed-call cfg os (h .latest) rs s past k (s .what) (opening (operationConfIn (cfg .operations) (s .what) .timeout) (operationIn os (s .what))) (other-code waitCode c refl) (omega (arith, operations-length cfg st g, operations-most cfg (g .config), z .inside))
         (omega (arith, t .calls .size, operations-most cfg (g .config), z .inside)) refl)
-    go (returns c q z a e) =
-        let o = slotIn (st .slots) (s .who) .owed .client .operation in
-        rw (returns-adds cfg h s c q, e)
-        (timed-closes cfg os (h .latest) rs s past k o _ (not-wait 13 refl c) (calling-inside os o (both-left (operationIn os o .calling) _ a)) refl)
-    go (lates c q z e) = rw (lates-adds cfg h s c q, e) (still-so 13 refl c)
-    go (ends c z e) = rw (ends-adds cfg h s c, e) (still-so 14 refl c)
-    go (serves c q y z e) = rw (serves-adds cfg h s c y, e) (still-so 15 refl c)
-    go (spawns c q y z e) = rw (spawns-adds cfg h s c y, e) (still-so 15 refl c)
-    go (timesOut c z e) = rw (timeout-adds cfg h s c, e) (timed-closes cfg os (h .latest) rs s past k (s .what) _ (not-wait 16 refl c) (calling-inside os (s .what) (z .calling)) refl)
+    go (answer c q z a e) =
+        let o = clientOf st (s .who) .operation in
+        rw (answer-adds cfg h s c q, e)
+        (timed-closed cfg os (h .latest) rs s past k o _ (other-code waitCode c refl) (calling-inside os o (both-left (operationIn os o .calling) _ a)) refl)
+    go (late c q z e) = rw (late-adds cfg h s c q, e) (still-so refl c)
+    go (end c z e) = rw (end-adds cfg h s c, e) (still-so refl c)
+    go (server c q y z e) = rw (server-adds cfg h s c y, e) (still-so refl c)
+    go (plain c q y z e) = rw (plain-adds cfg h s c y, e) (still-so refl c)
+    go (timeout c z e) = rw (timeout-adds cfg h s c, e) (timed-closed cfg os (h .latest) rs s past k (s .what) _ (other-code waitCode c refl) (calling-inside os (s .what) (z .calling)) refl)

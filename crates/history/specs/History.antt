@@ -7,6 +7,7 @@ use mathlib.Core.Option.{Option, none, some}
 use mathlib.Core.Path.{_≡_}
 use lib.Dec.{eqb}
 use lib.ListN.{getD, set, drop, replicate}
+use Rattle.numbers.specs.Codes.{enterCode, exitCode, callCode, handBackCode, endCode, spawnCode, timeoutCode, tickCode, waitCode}
 use Rattle.laws.specs.Choice.{pick, both, bit}
 use Rattle.values.specs.declared.Value.{Value}
 use Rattle.values.specs.declared.Step.{Step}
@@ -110,11 +111,11 @@ takesOldest h i r = record {
 -- an accepted step: a call answered Ok starts one, a hand back answered 1 and a timeout end one, a spawn of a server takes a request, an end and any other spawn leave a slot with none; all others pass ("How tight the contracts are", demand 3)
 unfoldable pub observe : Config → History → Step → History
 observe cfg h s =
-    pick (eqb (s .code) 11) (pick (sameValue (s .claim) okV) (begins cfg h (s .what) (s .argument)) (passed h))
-    (pick (eqb (s .code) 13) (pick (eqb (s .claim .number) 1) (closes h (takenBy h (s .who) .on) (byInstance (takenBy h (s .who) .at) (s .argument))) (passed h))
-    (pick (eqb (s .code) 14) (takes h (s .who) noRequest)
-    (pick (eqb (s .code) 15) (pick (isServer cfg (s .what)) (takesOldest h (s .claim .number) (s .what)) (takes h (s .claim .number) noRequest))
-    (pick (eqb (s .code) 16) (closes h (s .what) byTimeout)
+    pick (eqb (s .code) callCode) (pick (sameValue (s .claim) okV) (begins cfg h (s .what) (s .argument)) (passed h))
+    (pick (eqb (s .code) handBackCode) (pick (eqb (s .claim .number) 1) (closes h (takenBy h (s .who) .on) (byInstance (takenBy h (s .who) .at) (s .argument))) (passed h))
+    (pick (eqb (s .code) endCode) (takes h (s .who) noRequest)
+    (pick (eqb (s .code) spawnCode) (pick (isServer cfg (s .what)) (takesOldest h (s .claim .number) (s .what)) (takes h (s .claim .number) noRequest))
+    (pick (eqb (s .code) timeoutCode) (closes h (s .what) byTimeout)
     (passed h)))))
 
 -- the history after more steps, from one on ("How tight the contracts are", demand 3)
@@ -142,19 +143,19 @@ lastOn o (e ∷ es) = pick (eqb (e .on) o) (some e) (lastOn o es)
 unfoldable pub Started : List Step → ℕ → ℕ → Type 0
 Started [] k o = ⊥
 Started (s ∷ rs) zero o = ⊥
-Started (s ∷ rs) (suc zero) o = (s .code ≡ 11) × (s .what ≡ o) × (s .claim ≡ okV)
+Started (s ∷ rs) (suc zero) o = (s .code ≡ callCode) × (s .what ≡ o) × (s .claim ≡ okV)
 Started (s ∷ rs) (suc (suc k)) o = Started rs (suc k) o
 
 -- the step s ended the call k of o so, when this was known: a timeout on o, or a hand back answered 1 by an instance that had taken the request of this very call ("How tight the contracts are", demand 3)
 abbrev pub EndedBy : History → Step → ℕ → ℕ → How → Type 0
-EndedBy h s o k byTimeout = (s .code ≡ 16) × (s .what ≡ o)
-EndedBy h s o k (byInstance j v) = (s .code ≡ 13) × (s .claim ≡ numberV 1) × (s .argument ≡ v) × (takenBy h (s .who) .on ≡ o) × (takenBy h (s .who) .at ≡ k) × (j ≡ k)
+EndedBy h s o k byTimeout = (s .code ≡ timeoutCode) × (s .what ≡ o)
+EndedBy h s o k (byInstance j v) = (s .code ≡ handBackCode) × (s .claim ≡ numberV 1) × (s .argument ≡ v) × (takenBy h (s .who) .on ≡ o) × (takenBy h (s .who) .at ≡ k) × (j ≡ k)
 
 -- ---- time, as the waits of a recording tell it
 
 -- the time that a step lets pass: a wait its argument, any other none ("The eighteen steps", Wait)
 unfoldable pub timeOf : Step → ℕ
-timeOf s = pick (eqb (s .code) 18) (s .argument .number) 0
+timeOf s = pick (eqb (s .code) waitCode) (s .argument .number) 0
 
 -- the time that steps let pass together ("The eighteen steps", Wait)
 unfoldable pub timeIn : List Step → ℕ
@@ -168,7 +169,7 @@ timeSince k rs = timeIn (drop k rs)
 -- where the timer k last ticked: last, or the last tick among rs, before which n steps stand ("The eighteen steps", 17)
 unfoldable pub tickFrom : ℕ → ℕ → ℕ → List Step → ℕ
 tickFrom k last n [] = last
-tickFrom k last n (s ∷ rs) = tickFrom k (pick (both (eqb (s .code) 17) (eqb (s .what) k)) (n + 1) last) (n + 1) rs
+tickFrom k last n (s ∷ rs) = tickFrom k (pick (both (eqb (s .code) tickCode) (eqb (s .what) k)) (n + 1) last) (n + 1) rs
 
 -- the place of the last tick of the timer k, 0 before any ("The eighteen steps", 17)
 unfoldable pub lastTick : ℕ → List Step → ℕ
@@ -183,7 +184,7 @@ InTime t top (byInstance j v) = t ≤ top
 
 -- who holds the area a after the step s, if w held it before: an enter makes its instance the holder, an exit leaves it to nobody ("The eighteen steps", 3 and 4)
 unfoldable pub holderAfter : ℕ → Option ℕ → Step → Option ℕ
-holderAfter a w s = pick (eqb (s .what) a) (pick (eqb (s .code) 3) (some (s .who)) (pick (eqb (s .code) 4) none w)) w
+holderAfter a w s = pick (eqb (s .what) a) (pick (eqb (s .code) enterCode) (some (s .who)) (pick (eqb (s .code) exitCode) none w)) w
 
 -- the same after more steps ("The eighteen steps", 3 and 4)
 unfoldable pub holderFrom : ℕ → Option ℕ → List Step → Option ℕ
@@ -200,11 +201,11 @@ holderOf a rs = holderFrom a none rs
 unfoldable pub allQueued : Config → ℕ → ℕ → List Step → List Request
 allQueued cfg r n [] = []
 allQueued cfg r n (s ∷ rs) =
-    pick (both (eqb (s .code) 11) (both (sameValue (s .claim) okV) (eqb (operationConfIn (cfg .operations) (s .what) .server) r)))
+    pick (both (eqb (s .code) callCode) (both (sameValue (s .claim) okV) (eqb (operationConfIn (cfg .operations) (s .what) .server) r)))
     (record { at = n + 1; on = s .what; argument = s .argument } ∷ allQueued cfg r (n + 1) rs)
     (allQueued cfg r (n + 1) rs)
 
 -- how many instances of r were spawned ("How tight the contracts are", demand 3)
 unfoldable pub allSpawns : ℕ → List Step → ℕ
 allSpawns r [] = 0
-allSpawns r (s ∷ rs) = bit (both (eqb (s .code) 15) (eqb (s .what) r)) + allSpawns r rs
+allSpawns r (s ∷ rs) = bit (both (eqb (s .code) spawnCode) (eqb (s .what) r)) + allSpawns r rs

@@ -10,6 +10,7 @@ use mathlib.Core.Option.{Option, none, some}
 use mathlib.Core.Path.{_≡_}
 use lib.Dec.{eqb}
 use lib.ListN.{length, getD, drop}
+use Rattle.numbers.specs.Codes.{enterCode, exitCode, resultCode, handBackCode, endCode, spawnCode, timeoutCode, tickCode}
 use Rattle.laws.specs.Choice.{pick}
 use Rattle.values.specs.declared.Value.{Value}
 use Rattle.values.specs.declared.Step.{Step}
@@ -24,7 +25,7 @@ use Rattle.state.specs.Parts.{noClient}
 use Rattle.state.specs.Tables.{maxSlots, runnableIn, areaIn, elementIn, operationIn, slotIn}
 use Rattle.state.specs.Start.{startOf}
 use Rattle.rules.specs.Sound.{timesIn, soundOf}
-use Rattle.rules.specs.Step.{stepOf}
+use Rattle.effects.specs.Step.{stepOf}
 use Rattle.history.specs.History.{Request, noRequest, byInstance, Ending, historyOf, queuedAt, takenBy, latestOn, endsOf, lastOn, Started, EndedBy, timeSince, lastTick, InTime, holderOf, allQueued, allSpawns}
 
 -- an answer says that the step was taken, with this value: by the number and the value that stand for it; no refusal has the number 0 (`never-zero` in crate keep) ("Numbers of refusal")
@@ -67,15 +68,15 @@ AreasHeld cfg rs st = (a : ℕ) → a < maxAreaConfs → HeldBy st a (holderOf a
 
 -- an area is entered only while nobody holds it ("The eighteen steps", 3)
 abbrev pub EntersFree : Config → List Step → Step → List Step → Type 0
-EntersFree cfg before s after = s .code ≡ 3 → holderOf (s .what) before ≡ none
+EntersFree cfg before s after = s .code ≡ enterCode → holderOf (s .what) before ≡ none
 
 -- and exited by its holder alone ("The eighteen steps", 4)
 abbrev pub ExitsHeld : Config → List Step → Step → List Step → Type 0
-ExitsHeld cfg before s after = s .code ≡ 4 → holderOf (s .what) before ≡ some (s .who)
+ExitsHeld cfg before s after = s .code ≡ exitCode → holderOf (s .what) before ≡ some (s .who)
 
 -- who ends holds none, so that a holder is always the instance that entered ("Numbers of refusal", 15)
 abbrev pub EndsEmpty : Config → List Step → Step → List Step → Type 0
-EndsEmpty cfg before s after = s .code ≡ 14 → (a : ℕ) → a < maxAreaConfs → holderOf a before ≡ some (s .who) → ⊥
+EndsEmpty cfg before s after = s .code ≡ endCode → (a : ℕ) → a < maxAreaConfs → holderOf a before ≡ some (s .who) → ⊥
 
 -- no queue of requests passes its capacity ("A sound state", queue lengths)
 abbrev pub RequestsFit : Config → List Step → State → Type 0
@@ -107,19 +108,19 @@ EndsProperly cfg rs st = (e : Ending) → List·Memᴰ e (historyOf cfg rs .endi
 -- a timeout is taken at count zero of an open operation, whose latest call was started and has not ended ("How tight the contracts are", demand 3)
 abbrev pub TimeoutAtZero : Config → List Step → Step → List Step → Type 0
 TimeoutAtZero cfg before s after =
-    s .code ≡ 16
+    s .code ≡ timeoutCode
     → (m : State) × Run cfg before m × (operationIn (m .operations) (s .what) .calling ≡ true) × (operationIn (m .operations) (s .what) .count ≡ 0)
     × Started before (latestOn (historyOf cfg before) (s .what)) (s .what) × (endsOf (latestOn (historyOf cfg before) (s .what)) (historyOf cfg before .endings) ≡ 0)
 
 -- and when exactly its timeout has passed since that call ("The eighteen steps", 16 and Wait)
 abbrev pub TimeoutInTime : Config → List Step → Step → List Step → Type 0
 TimeoutInTime cfg before s after =
-    s .code ≡ 16 → timeSince (latestOn (historyOf cfg before) (s .what)) before ≡ operationConfIn (cfg .operations) (s .what) .timeout
+    s .code ≡ timeoutCode → timeSince (latestOn (historyOf cfg before) (s .what)) before ≡ operationConfIn (cfg .operations) (s .what) .timeout
 
 -- a hand back that ends a call comes while no more than its timeout has passed since that call ("The eighteen steps", Hand back and Wait)
 abbrev pub BackInTime : Config → List Step → Step → List Step → Type 0
 BackInTime cfg before s after =
-    s .code ≡ 13 → s .claim ≡ numberV 1
+    s .code ≡ handBackCode → s .claim ≡ numberV 1
     → timeSince (takenBy (historyOf cfg before) (s .who) .at) before ≤ operationConfIn (cfg .operations) (takenBy (historyOf cfg before) (s .who) .on) .timeout
 
 -- at every moment no more than its timeout has passed since a call that has no ending yet ("The eighteen steps", Wait)
@@ -131,12 +132,12 @@ OpenInTime cfg rs st =
 -- from one tick of a timer to its next exactly its period passes, and before its first tick no time at all ("The eighteen steps", 17 and Wait)
 abbrev pub TicksInTime : Config → List Step → Step → List Step → Type 0
 TicksInTime cfg before s after =
-    s .code ≡ 17 → timeSince (lastTick (s .what) before) before ≡ pick (eqb (lastTick (s .what) before) 0) 0 (timerConfIn (cfg .timers) (s .what) .period)
+    s .code ≡ tickCode → timeSince (lastTick (s .what) before) before ≡ pick (eqb (lastTick (s .what) before) 0) 0 (timerConfIn (cfg .timers) (s .what) .period)
 
 -- who gets a Number as a result gets what an instance handed back that was spawned for the latest call that ended there; and nowhere in the whole recording, before or after, does that call end again, by a timeout or otherwise ("How tight the contracts are", demand 3)
 abbrev pub NumberIsFinal : Config → List Step → Step → List Step → Type 0
 NumberIsFinal cfg before s after =
-    (n : ℕ) → s .code ≡ 12 → s .claim ≡ numberV n
+    (n : ℕ) → s .code ≡ resultCode → s .claim ≡ numberV n
     → (e : Ending) × (lastOn (s .what) (historyOf cfg before .endings) ≡ some e) × (e .how ≡ byInstance (e .call) (numberV n)) × (endsOf (e .call) (historyOf cfg (before ++ (s ∷ after)) .endings) ≡ 1)
 
 -- the same of the state reached: an operation Done with a Number ("How tight the contracts are", demand 3)
@@ -186,7 +187,7 @@ FirstInFirstOut cfg rs st =
 -- and so a spawn finds a request there, and the n-th one takes the n-th that was queued ("How tight the contracts are", demand 3)
 abbrev pub SpawnTakesNext : Config → List Step → Step → List Step → Type 0
 SpawnTakesNext cfg before s after =
-    s .code ≡ 15 → 0 < runnableConfIn (cfg .runnables) (s .what) .capacity
+    s .code ≡ spawnCode → 0 < runnableConfIn (cfg .runnables) (s .what) .capacity
     → (allSpawns (s .what) before < length (allQueued cfg (s .what) 0 before))
     × (takenBy (historyOf cfg (before ++ (s ∷ []))) (s .claim .number) ≡ getD (allQueued cfg (s .what) 0 before) (allSpawns (s .what) before) noRequest)
 

@@ -3,7 +3,7 @@ ghost use mathlib.Core.Path.{_≡_};
 ghost use Rattle.judging.specs.Judging.{judged, judgeFrom, judgeOf};
 ghost use Rattle.judging.specs.Line.{allowed, verdictLine, judgedLine, lineOf};
 ghost use Rattle.state.specs.Start.{startOf};
-ghost use Rattle.rules.specs.Step.{innerOf};
+ghost use Rattle.effects.specs.Step.{innerOf};
 use config::Config;
 use reading::Outcome;
 use recording::Field;
@@ -52,7 +52,7 @@ pub fn judge(cfg: Config, st: State, s: &[u8], allowance: u32) -> Judged
     if sound::is_sound(cfg, st) {
         return judge_sound(cfg, st, s, allowance);
     }
-    given(Verdict::Refused(0, 1), 0, st)
+    given(Verdict::Refused(0, numbers::NOT_SOUND), 0, st)
 }
 
 // The same from a state that is known to be sound: each field is taken apart before its step is tried, and no step tests the state again.
@@ -67,7 +67,7 @@ fn judge_sound(cfg: Config, st: State, s: &[u8], allowance: u32) -> Judged
         let f = recording::read_field(s, at);
         let Field::Step(x, size) = f else {
             match f {
-                Field::Refused(k, past) => {
+                Field::Refused(past, k) => {
                     let place = count + 1 + past as usize;
                     return given(Verdict::Refused(place, k), count, reached);
                 }
@@ -138,7 +138,7 @@ pub fn line_of(config: &[u8], recording: &[u8]) -> Line
     let r = reading::read_config(config);
     let o = r.outcome;
     match o {
-        Outcome::Refused(k, place) => Line::Configuration(place, k),
+        Outcome::Refused(place, k) => Line::Configuration(place, k),
         Outcome::Whole => judged_line(r.config, recording),
     }
 }

@@ -28,9 +28,9 @@ use Rattle.state.specs.Parts.{noArea, noStack, noSlot}
 use Rattle.state.specs.Queues.{upOne, pushArea, topArea, popArea}
 use Rattle.state.specs.Tables.{maxSlots, runnableIn, areaIn, slotIn, withArea, withSlot}
 use Rattle.rules.specs.Sound.{componentOf, areaFits, isZero, stackSound, lifeSound, owedSound, isNoSlot, slotSound, slotsSound, timesIn, holders}
-use Rattle.rules.specs.Steps.{entering, exiting, callerAfter, runningOn, finishing, instanceOf, lowestEmpty}
-use Rattle.keep.specs.Facts.{Held, Sound, CanEnter, CanExit, CanCall, CanCollect, CanHandBack, CanEnd, CanSpawn}
-use Rattle.keep.proofs.Configured.{areas-most}
+use Rattle.effects.specs.Steps.{entering, exiting, entered, exited, callerAfter, called, collected, finished, emptied, instanceOf, lowestEmpty, spawned}
+use Rattle.keep.specs.Facts.{Held, Sound, CanEnter, CanExit, CanCall, CanCollect, CanHandBack, CanEnd, CanSpawn, HeldIn}
+use Rattle.rules.proofs.Configured.{areas-most}
 use Rattle.keep.proofs.Told.{areas-length, slots-length}
 use Rattle.keep.proofs.Kept.{here, lowest-empty, slot-kept, caller-kept}
 
@@ -178,16 +178,14 @@ spawn-stack cfg st r s z a = pick-has (λ (y : Slot). timesIn a (y .stack) ≡ t
 
 -- ---- step by step
 
-pub enter-keeps-areas : (cfg : Config) (st : State) (i a : ℕ) → Sound cfg st → CanEnter cfg st i a
-    → Held cfg (withArea (st .areas) a (record { taken = true })) (withSlot (st .slots) i (entering (slotIn (st .slots) i) a))
+pub enter-keeps-areas : (cfg : Config) (st : State) (i a : ℕ) → Sound cfg st → CanEnter cfg st i a → HeldIn cfg (entered st i a)
 enter-keeps-areas cfg st i a s z =
     held-both cfg (st .areas) (st .slots) a true i _ (areas-length cfg st s) (slots-length cfg st s) (here cfg st i s (z .who .there)) (z .inside)
     (rw (z .free) (omega (arith, enter-stack cfg st i a s z a, ap bit (eq-eqb a a refl))))
     (λ b n. omega (arith, enter-stack cfg st i a s z b, ap bit (ne-eqb a b (λ e. n (sym e)))))
     (s .areas)
 
-pub exit-keeps-areas : (cfg : Config) (st : State) (i a : ℕ) → Sound cfg st → CanExit cfg st i a
-    → Held cfg (withArea (st .areas) a (record { taken = false })) (withSlot (st .slots) i (exiting (slotIn (st .slots) i)))
+pub exit-keeps-areas : (cfg : Config) (st : State) (i a : ℕ) → Sound cfg st → CanExit cfg st i a → HeldIn cfg (exited st i a)
 unfolding holders
 exit-keeps-areas cfg st i a s z =
     held-both cfg (st .areas) (st .slots) a false i _ (areas-length cfg st s) (slots-length cfg st s) l (z .inside)
@@ -201,18 +199,19 @@ exit-keeps-areas cfg st i a s z =
     once : timesIn a (slotIn (st .slots) i .stack) ≤ holders (st .slots) a
     once = sum-term (λ (k : ℕ). timesIn a (slotIn (st .slots) k .stack)) i maxSlots l
 
-pub call-keeps-areas : (cfg : Config) (st : State) (i o : ℕ) (v : Value) → Sound cfg st → CanCall cfg st i o v → Held cfg (st .areas) (withSlot (st .slots) i (callerAfter cfg o (slotIn (st .slots) i)))
+pub call-keeps-areas : (cfg : Config) (st : State) (i o : ℕ) (v : Value) → Sound cfg st → CanCall cfg st i o v → HeldIn cfg (called cfg st i o v)
+unfolding called
 call-keeps-areas cfg st i o v s z = held-slot cfg (st .areas) (st .slots) i _ (call-stack cfg o (slotIn (st .slots) i)) (s .areas)
 
-pub collect-keeps-areas : (cfg : Config) (st : State) (i o : ℕ) → Sound cfg st → CanCollect cfg st i o → Held cfg (st .areas) (withSlot (st .slots) i (runningOn (slotIn (st .slots) i)))
+pub collect-keeps-areas : (cfg : Config) (st : State) (i o : ℕ) → Sound cfg st → CanCollect cfg st i o → HeldIn cfg (collected st i)
 collect-keeps-areas cfg st i o s z = held-slot cfg (st .areas) (st .slots) i _ (λ a. refl) (s .areas)
 
-pub hand-back-keeps-areas : (cfg : Config) (st : State) (i : ℕ) (v : Value) → Sound cfg st → CanHandBack cfg st i v → Held cfg (st .areas) (withSlot (st .slots) i (finishing (slotIn (st .slots) i)))
+pub hand-back-keeps-areas : (cfg : Config) (st : State) (i : ℕ) (v : Value) → Sound cfg st → CanHandBack cfg st i v → HeldIn cfg (finished st st i)
 hand-back-keeps-areas cfg st i v s z = held-slot cfg (st .areas) (st .slots) i _ (λ a. refl) (s .areas)
 
-pub end-keeps-areas : (cfg : Config) (st : State) (i : ℕ) → Sound cfg st → CanEnd st i → Held cfg (st .areas) (withSlot (st .slots) i noSlot)
+pub end-keeps-areas : (cfg : Config) (st : State) (i : ℕ) → Sound cfg st → CanEnd st i → HeldIn cfg (emptied st i)
 end-keeps-areas cfg st i s z = held-slot cfg (st .areas) (st .slots) i noSlot (end-stack st i z) (s .areas)
 
-pub spawn-keeps-areas : (cfg : Config) (st : State) (r : ℕ) → Sound cfg st → CanSpawn cfg st r
-    → Held cfg (st .areas) (withSlot (st .slots) (lowestEmpty (st .slots)) (instanceOf (runnableConfIn (cfg .runnables) r) r (runnableIn (st .runnables) r)))
+pub spawn-keeps-areas : (cfg : Config) (st : State) (r : ℕ) → Sound cfg st → CanSpawn cfg st r → HeldIn cfg (spawned cfg st r (lowestEmpty (st .slots)))
+unfolding spawned
 spawn-keeps-areas cfg st r s z = held-slot cfg (st .areas) (st .slots) (lowestEmpty (st .slots)) _ (spawn-stack cfg st r s z) (s .areas)

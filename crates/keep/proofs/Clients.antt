@@ -1,7 +1,7 @@
 -- Clients after every step: a pair of operation and number belongs to one at most, the number lies under the operation's or is the same during a call, and an
 -- open call has its one client. What a sound state tells of a queue, an open call and an empty slot, and then step by step, by the tallies.
 -- Assumes nothing.
-use Prim.Native.Nat.{ℕ, _+_, _≤_, _<_}
+use Prim.Native.Nat.{ℕ, _+_, _-_, _≤_, _<_}
 use mathlib.Core.Bool.{Bool, true, false}
 use mathlib.Core.Path.{_≡_, refl, sym, _∙_, ap}
 use native.Mathlib.Decide.{ℕ-discrete}
@@ -10,7 +10,7 @@ use lib.Dec.{leb, eqb}
 use lib.ListN.{length}
 use borrow.Author.Tests.{eqb-false, leb-true, ltb-true, not-true}
 use Rattle.laws.specs.Choice.{pick, bit}
-use Rattle.laws.proofs.Choosing.{clash, all-told, pick-has, both-left, both-right}
+use Rattle.laws.proofs.Choosing.{clash, all-told, both-left, both-right}
 use Rattle.laws.proofs.Looping.{all-at}
 use Rattle.laws.proofs.Places.{inside-of, filled-length}
 use Rattle.values.specs.declared.Value.{Value}
@@ -20,18 +20,18 @@ use Rattle.config.specs.declared.RunnableConf.{RunnableConf}
 use Rattle.config.specs.Tables.{maxRunnableConfs, maxOperationConfs, runnableConfIn, operationConfIn, timerConfIn}
 use Rattle.state.specs.declared.Client.{Client}
 use Rattle.state.specs.declared.Runnable.{Runnable}
-use Rattle.state.specs.declared.Operation.{Operation}
 use Rattle.state.specs.declared.Operations.{Operations}
 use Rattle.state.specs.declared.Owed.{Owed}
 use Rattle.state.specs.declared.Slots.{Slots}
 use Rattle.state.specs.declared.State.{State}
-use Rattle.state.specs.Parts.{noClient, maxRequests, noOperation, noOwed, noSlot}
-use Rattle.state.specs.Queues.{upOne, pushRequest, firstRequest, restRequests}
+use Rattle.state.specs.Parts.{lastNumber, noClient, maxRequests, noOperation, noOwed, noSlot}
+use Rattle.state.specs.Queues.{pushRequest, firstRequest, restRequests}
+use Rattle.state.specs.Fields.{withPending, withRequests}
 use Rattle.state.specs.Tables.{maxSlots, runnableIn, operationIn, slotIn, withRunnable, withOperation, withSlot}
 use Rattle.rules.specs.Sound.{isNoClient, clientFits, requestsSound, runnableSound, runnablesSound, callingSound, operationSound, operationsSound, isNoSlot, slotSound, slotsSound, isClient, queuedAs, servedAs, clientsAs}
-use Rattle.rules.specs.Steps.{entering, exiting, woken, fedRunnables, opening, asking, callerAfter, runningOn, closing, returnedRunnables, answers, finishing, leaving, isDue, starting, fresh, instanceOf, lowestEmpty, operationAfter, operationsAfter, runnablesAfter}
-use Rattle.keep.specs.Facts.{Clients, Sound, CanEnter, CanExit, CanFeed, CanCall, CanCollect, CanHandBack, CanEnd, CanSpawn, CanTimeout, CanTick, CanWait}
-use Rattle.keep.proofs.Configured.{runnables-most, operations-most, capacity-most, operation-there}
+use Rattle.effects.specs.Steps.{entering, exiting, entered, exited, fed, asking, called, runningOn, collected, closing, returnedRunnables, closed, answers, finishing, clientOf, finished, answered, emptied, isDue, begun, starting, fresh, instanceOf, lowestEmpty, spawned, ticked, waited}
+use Rattle.keep.specs.Facts.{Clients, Sound, CanEnter, CanExit, CanFeed, CanCall, CanCollect, CanHandBack, CanEnd, CanSpawn, CanTimeout, CanTick, CanWait, ClientsIn}
+use Rattle.rules.proofs.Configured.{runnables-most, operations-most, capacity-most, operation-there}
 use Rattle.keep.proofs.Told.{runnables-length, operations-length, slots-length}
 use Rattle.keep.proofs.Kept.{here, lowest-empty, runnable-kept, slot-kept, fed-kept, returned-kept, after-kept, waited-kept, caller-kept}
 use Rattle.keep.proofs.Tallies.{other-operation, other-number, clients-tallied, tallied-clients, tally-same, tally-less, tally-close, tally-open, served-put, queued-put, asked, taken, idle, busy, clients-kept, clients-slot, clients-runnables}
@@ -52,13 +52,13 @@ pub calling-inside : (os : Operations) (o : ℕ) → operationIn os o .calling �
 unfolding operationIn
 calling-inside os o h = inside-of (λ y. y .calling ≡ true) (os .at) o noOperation (λ e. clash false e refl) h
 
-calling-top : (cfg : Config) (st : State) (o : ℕ) → Sound cfg st → operationIn (st .operations) o .calling ≡ true → operationIn (st .operations) o .number ≤ 65534
+calling-top : (cfg : Config) (st : State) (o : ℕ) → Sound cfg st → operationIn (st .operations) o .calling ≡ true → operationIn (st .operations) o .number ≤ lastNumber - 1
 unfolding operationsSound operationSound callingSound
 calling-top cfg st o s h =
     let x = operationIn (st .operations) o in
     let b : o < maxOperationConfs = omega (arith, calling-inside (st .operations) o h, operations-length cfg st s) in
-    let t = both-right (leb (x .number) 65535) _ (all-at (λ (o : ℕ). operationSound cfg o (operationIn (st .operations) o)) maxOperationConfs (s .operations) o b) in
-    leb-true (x .number) 65534 (all-told _ (rw h at t) .1 .1 .0)
+    let t = both-right (leb (x .number) lastNumber) _ (all-at (λ (o : ℕ). operationSound cfg o (operationIn (st .operations) o)) maxOperationConfs (s .operations) o b) in
+    leb-true (x .number) (lastNumber - 1) (all-told _ (rw h at t) .1 .1 .0)
 
 -- an empty slot owes nothing
 empty-idle : (cfg : Config) (st : State) (k : ℕ) → Sound cfg st → k < maxSlots → slotIn (st .slots) k .used ≡ false → slotIn (st .slots) k .owed .serving ≡ false
@@ -68,23 +68,20 @@ empty-idle cfg st k s b e =
 
 -- ---- step by step
 
-pub enter-keeps-clients : (cfg : Config) (st : State) (i a : ℕ) → Sound cfg st → CanEnter cfg st i a → Clients (st .operations) (st .runnables) (withSlot (st .slots) i (entering (slotIn (st .slots) i) a))
+pub enter-keeps-clients : (cfg : Config) (st : State) (i a : ℕ) → Sound cfg st → CanEnter cfg st i a → ClientsIn (entered st i a)
 enter-keeps-clients cfg st i a s z = clients-slot (st .operations) (st .runnables) (st .slots) i (entering (slotIn (st .slots) i) a) refl (s .clients)
 
-pub exit-keeps-clients : (cfg : Config) (st : State) (i a : ℕ) → Sound cfg st → CanExit cfg st i a → Clients (st .operations) (st .runnables) (withSlot (st .slots) i (exiting (slotIn (st .slots) i)))
+pub exit-keeps-clients : (cfg : Config) (st : State) (i a : ℕ) → Sound cfg st → CanExit cfg st i a → ClientsIn (exited st i a)
 exit-keeps-clients cfg st i a s z = clients-slot (st .operations) (st .runnables) (st .slots) i (exiting (slotIn (st .slots) i)) refl (s .clients)
 
 -- write and send
-pub feed-keeps-clients : (cfg : Config) (st : State) (i p : ℕ) (v : Value) → Sound cfg st → CanFeed cfg st i p v → Clients (st .operations) (fedRunnables cfg (st .elements) p (st .runnables)) (st .slots)
+pub feed-keeps-clients : (cfg : Config) (st : State) (i p : ℕ) (v : Value) → Sound cfg st → CanFeed cfg st i p v → ClientsIn (fed cfg st p v)
+unfolding fed
 feed-keeps-clients cfg st i p v s z =
     clients-runnables (st .operations) (st .runnables) _ (st .slots) (fed-kept (λ x. x .requests) (λ x. refl) cfg (st .elements) p (st .runnables)) (s .clients)
 
-pub call-keeps-clients : (cfg : Config) (st : State) (i o : ℕ) (v : Value) → Sound cfg st → CanCall cfg st i o v
-    → Clients
-    (withOperation (st .operations) o (opening (operationConfIn (cfg .operations) o .timeout) (operationIn (st .operations) o)))
-    (withRunnable (st .runnables) (operationConfIn (cfg .operations) o .server)
-    (asking (runnableIn (st .runnables) (operationConfIn (cfg .operations) o .server)) (record { operation = o; number = operationIn (st .operations) o .number; argument = v })))
-    (withSlot (st .slots) i (callerAfter cfg o (slotIn (st .slots) i)))
+pub call-keeps-clients : (cfg : Config) (st : State) (i o : ℕ) (v : Value) → Sound cfg st → CanCall cfg st i o v → ClientsIn (called cfg st i o v)
+unfolding called
 call-keeps-clients cfg st i o v s z =
     clients-slot _ _ (st .slots) i _ (caller-kept (λ x. x .owed) (λ x n. refl) cfg o (slotIn (st .slots) i))
     (tallied-clients _ _ (st .slots)
@@ -110,7 +107,7 @@ call-keeps-clients cfg st i o v s z =
     more : (k m : ℕ) → queuedAs k m (pushRequest (x .requests) c) ≡ queuedAs k m (x .requests) + bit (isClient k m c)
     more k m = asked k m (x .requests) c (omega (arith, room, requests-told cfg st r s b .1)) room
 
-pub collect-keeps-clients : (cfg : Config) (st : State) (i o : ℕ) → Sound cfg st → CanCollect cfg st i o → Clients (st .operations) (st .runnables) (withSlot (st .slots) i (runningOn (slotIn (st .slots) i)))
+pub collect-keeps-clients : (cfg : Config) (st : State) (i o : ℕ) → Sound cfg st → CanCollect cfg st i o → ClientsIn (collected st i)
 collect-keeps-clients cfg st i o s z = clients-slot (st .operations) (st .runnables) (st .slots) i (runningOn (slotIn (st .slots) i)) refl (s .clients)
 
 -- the client that is handed back is gone
@@ -126,8 +123,7 @@ handed cfg st i v s z o m =
     )
 
 -- hand back of a call that is open no longer
-pub late-keeps-clients : (cfg : Config) (st : State) (i : ℕ) (v : Value) → Sound cfg st → CanHandBack cfg st i v → answers (st .operations) (slotIn (st .slots) i .owed .client) ≡ false
-    → Clients (st .operations) (st .runnables) (withSlot (st .slots) i (finishing (slotIn (st .slots) i)))
+pub late-keeps-clients : (cfg : Config) (st : State) (i : ℕ) (v : Value) → Sound cfg st → CanHandBack cfg st i v → answers (st .operations) (clientOf st i) ≡ false → ClientsIn (finished st st i)
 unfolding answers
 late-keeps-clients cfg st i v s z f =
     tallied-clients _ _ _
@@ -156,26 +152,19 @@ closed-clients cfg st o v ss s e f g =
     (calling-inside (st .operations) o e) (omega (arith, calling-top cfg st o s e)) refl f g))
 
 -- hand back that ends its call
-pub answer-keeps-clients : (cfg : Config) (st : State) (i : ℕ) (v : Value) → Sound cfg st → CanHandBack cfg st i v → answers (st .operations) (slotIn (st .slots) i .owed .client) ≡ true
-    → Clients
-    (withOperation (st .operations) (slotIn (st .slots) i .owed .client .operation) (closing v (operationIn (st .operations) (slotIn (st .slots) i .owed .client .operation))))
-    (returnedRunnables cfg (slotIn (st .slots) i .owed .client .operation) (st .runnables))
-    (withSlot (st .slots) i (finishing (slotIn (st .slots) i)))
-unfolding answers
+pub answer-keeps-clients : (cfg : Config) (st : State) (i : ℕ) (v : Value) → Sound cfg st → CanHandBack cfg st i v → answers (st .operations) (clientOf st i) ≡ true → ClientsIn (answered cfg st i v)
+unfolding closed answers
 answer-keeps-clients cfg st i v s z f =
     let c = slotIn (st .slots) i .owed .client in
     closed-clients cfg st (c .operation) v _ s (both-left (operationIn (st .operations) (c .operation) .calling) _ f)
     (λ k m. omega (arith, handed cfg st i v s z k m))
     (λ k m n. omega (arith, handed cfg st i v s z k m, ap bit (other-operation k m c (λ e. n (sym e)))))
 
-pub timeout-keeps-clients : (cfg : Config) (st : State) (o : ℕ) → Sound cfg st → CanTimeout cfg st o
-    → Clients (withOperation (st .operations) o (closing timeoutV (operationIn (st .operations) o))) (returnedRunnables cfg o (st .runnables)) (st .slots)
+pub timeout-keeps-clients : (cfg : Config) (st : State) (o : ℕ) → Sound cfg st → CanTimeout cfg st o → ClientsIn (closed cfg st o timeoutV)
+unfolding closed
 timeout-keeps-clients cfg st o s z = closed-clients cfg st o timeoutV (st .slots) s (z .calling) (λ k m. omega arith) (λ k m n. refl)
 
-pub end-keeps-clients : (cfg : Config) (st : State) (i : ℕ) → Sound cfg st → CanEnd st i
-    → Clients (st .operations)
-    (withRunnable (st .runnables) (slotIn (st .slots) i .life .runnable) (leaving (runnableIn (st .runnables) (slotIn (st .slots) i .life .runnable))))
-    (withSlot (st .slots) i noSlot)
+pub end-keeps-clients : (cfg : Config) (st : State) (i : ℕ) → Sound cfg st → CanEnd st i → ClientsIn (emptied st i)
 unfolding noSlot
 end-keeps-clients cfg st i s z =
     clients-kept (st .operations) (st .operations) (st .runnables) _ (st .slots) _ (λ o. refl) (λ o. refl)
@@ -183,11 +172,8 @@ end-keeps-clients cfg st i s z =
     (λ o m. slot-kept (λ y. servedAs o m (y .owed)) (st .slots) i noSlot (idle o m noOwed refl ∙ sym (idle o m (slotIn (st .slots) i .owed) (z .none))))
     (s .clients)
 
-pub spawn-keeps-clients : (cfg : Config) (st : State) (r : ℕ) → Sound cfg st → CanSpawn cfg st r
-    → Clients (st .operations)
-    (withRunnable (st .runnables) r (starting (runnableConfIn (cfg .runnables) r) (runnableIn (st .runnables) r)))
-    (withSlot (st .slots) (lowestEmpty (st .slots)) (instanceOf (runnableConfIn (cfg .runnables) r) r (runnableIn (st .runnables) r)))
-unfolding starting instanceOf isDue
+pub spawn-keeps-clients : (cfg : Config) (st : State) (r : ℕ) → Sound cfg st → CanSpawn cfg st r → ClientsIn (spawned cfg st r (lowestEmpty (st .slots)))
+unfolding spawned starting instanceOf isDue
 spawn-keeps-clients cfg st r s z = go (eqb (c .capacity) 0) refl
   where
     c : RunnableConf
@@ -225,8 +211,8 @@ spawn-keeps-clients cfg st r s z = go (eqb (c .capacity) 0) refl
     go : (t : Bool) → eqb (c .capacity) 0 ≡ t
         → Clients (st .operations)
         (withRunnable (st .runnables) r
-        (pick t (record { interval = c .interval; pending = false; instances = upOne (x .instances); requests = x .requests })
-        (record { interval = c .interval; pending = x .pending; instances = upOne (x .instances); requests = restRequests (x .requests) })))
+        (pick t (withPending (begun c x) false)
+        (withRequests (begun c x) (restRequests (x .requests)))))
         (withSlot (st .slots) k (pick t (fresh r noOwed) (fresh r w)))
     go true e =
         clients-kept (st .operations) (st .operations) (st .runnables) _ (st .slots) _ (λ o. refl) (λ o. refl)
@@ -238,17 +224,16 @@ spawn-keeps-clients cfg st r s z = go (eqb (c .capacity) 0) refl
         (tally-same (st .operations) (st .operations) (clientsAs (st .runnables) (st .slots)) _ (λ o. refl) (λ o. refl)
         (moved _ refl (ltb-true 0 (x .requests .queued) (rw e at (z .due)))) (clients-tallied _ _ _ (s .clients)))
 
-pub tick-keeps-clients : (cfg : Config) (st : State) (t : ℕ) → Sound cfg st → CanTick cfg st t
-    → Clients (st .operations) (withRunnable (st .runnables) (timerConfIn (cfg .timers) t .runnable) (woken (runnableIn (st .runnables) (timerConfIn (cfg .timers) t .runnable)))) (st .slots)
+pub tick-keeps-clients : (cfg : Config) (st : State) (t : ℕ) → Sound cfg st → CanTick cfg st t → ClientsIn (ticked cfg st t)
 tick-keeps-clients cfg st t s z =
     clients-runnables (st .operations) (st .runnables) _ (st .slots) (runnable-kept (λ x. x .requests) (st .runnables) (timerConfIn (cfg .timers) t .runnable) _ refl) (s .clients)
 
-pub wait-keeps-clients : (cfg : Config) (st : State) (t : ℕ) → Sound cfg st → CanWait cfg st t → Clients (operationsAfter cfg (st .operations) t) (runnablesAfter cfg (st .runnables) t) (st .slots)
-unfolding operationAfter
+pub wait-keeps-clients : (cfg : Config) (st : State) (t : ℕ) → Sound cfg st → CanWait cfg st t → ClientsIn (waited cfg st t)
+unfolding waited
 wait-keeps-clients cfg st t s z =
     clients-kept (st .operations) _ (st .runnables) _ (st .slots) (st .slots)
-    (waited-kept (λ x. x .number) t (λ x. pick-has (λ (y : Operation). y .number ≡ x .number) (x .calling) _ x (λ e. refl) (λ e. refl)) cfg (st .operations))
-    (waited-kept (λ x. x .calling) t (λ x. pick-has (λ (y : Operation). y .calling ≡ x .calling) (x .calling) _ x (λ e. sym e) (λ e. refl)) cfg (st .operations))
+    (waited-kept (λ x. x .number) t (λ x n. refl) cfg (st .operations))
+    (waited-kept (λ x. x .calling) t (λ x n. refl) cfg (st .operations))
     (after-kept (λ x. x .requests) t (λ x. refl) cfg (st .runnables))
     (λ o m k. refl)
     (s .clients)

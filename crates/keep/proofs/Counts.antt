@@ -13,6 +13,7 @@ use Rattle.laws.specs.Choice.{bit}
 use Rattle.laws.proofs.Choosing.{pick-has}
 use Rattle.laws.proofs.Looping.{sum-same, count-most}
 use Rattle.laws.proofs.Places.{sum-put}
+use Rattle.values.specs.Values.{timeoutV}
 use Rattle.values.specs.declared.Value.{Value}
 use Rattle.config.specs.declared.Config.{Config}
 use Rattle.config.specs.declared.RunnableConf.{RunnableConf}
@@ -24,10 +25,10 @@ use Rattle.state.specs.declared.Slots.{Slots}
 use Rattle.state.specs.declared.State.{State}
 use Rattle.state.specs.Parts.{noRunnable, noSlot}
 use Rattle.state.specs.Queues.{upOne}
-use Rattle.state.specs.Tables.{maxSlots, runnableIn, operationIn, slotIn, withRunnable, withSlot}
+use Rattle.state.specs.Tables.{maxSlots, runnableIn, slotIn, withRunnable, withSlot}
 use Rattle.rules.specs.Sound.{ofRunnable, slotsOf}
-use Rattle.rules.specs.Steps.{entering, exiting, woken, fedRunnables, asking, callerAfter, runningOn, returnedRunnables, finishing, leaving, starting, instanceOf, lowestEmpty, runnablesAfter}
-use Rattle.keep.specs.Facts.{Counted, Sound, CanEnter, CanExit, CanFeed, CanCall, CanCollect, CanHandBack, CanEnd, CanSpawn, CanTimeout, CanTick, CanWait}
+use Rattle.effects.specs.Steps.{entering, exiting, entered, exited, fed, callerAfter, called, runningOn, collected, closed, finishing, finished, answered, emptied, starting, instanceOf, lowestEmpty, spawned, ticked, waited}
+use Rattle.keep.specs.Facts.{Counted, Sound, CanEnter, CanExit, CanFeed, CanCall, CanCollect, CanHandBack, CanEnd, CanSpawn, CanTimeout, CanTick, CanWait, CountedIn}
 use Rattle.keep.proofs.Told.{runnables-length, slots-length}
 use Rattle.keep.proofs.Kept.{here, lowest-empty, runnable-kept, slot-kept, fed-kept, returned-kept, after-kept, caller-kept}
 
@@ -67,46 +68,41 @@ counted-both rs ss r x i y a b c f g h = record { counted = λ k l. go k l (ℕ-
 
 -- ---- step by step
 
-pub enter-keeps-counts : (cfg : Config) (st : State) (i a : ℕ) → Sound cfg st → CanEnter cfg st i a → Counted (st .runnables) (withSlot (st .slots) i (entering (slotIn (st .slots) i) a))
+pub enter-keeps-counts : (cfg : Config) (st : State) (i a : ℕ) → Sound cfg st → CanEnter cfg st i a → CountedIn (entered st i a)
 enter-keeps-counts cfg st i a s z = counted-slot (st .runnables) (st .slots) i (entering (slotIn (st .slots) i) a) refl refl (s .counts)
 
-pub exit-keeps-counts : (cfg : Config) (st : State) (i a : ℕ) → Sound cfg st → CanExit cfg st i a → Counted (st .runnables) (withSlot (st .slots) i (exiting (slotIn (st .slots) i)))
+pub exit-keeps-counts : (cfg : Config) (st : State) (i a : ℕ) → Sound cfg st → CanExit cfg st i a → CountedIn (exited st i a)
 exit-keeps-counts cfg st i a s z = counted-slot (st .runnables) (st .slots) i (exiting (slotIn (st .slots) i)) refl refl (s .counts)
 
 -- write and send
-pub feed-keeps-counts : (cfg : Config) (st : State) (i p : ℕ) (v : Value) → Sound cfg st → CanFeed cfg st i p v → Counted (fedRunnables cfg (st .elements) p (st .runnables)) (st .slots)
+pub feed-keeps-counts : (cfg : Config) (st : State) (i p : ℕ) (v : Value) → Sound cfg st → CanFeed cfg st i p v → CountedIn (fed cfg st p v)
+unfolding fed
 feed-keeps-counts cfg st i p v s z =
     counted-runnables (st .runnables) _ (st .slots) (fed-kept (λ x. x .instances) (λ x. refl) cfg (st .elements) p (st .runnables)) (s .counts)
 
-pub call-keeps-counts : (cfg : Config) (st : State) (i o : ℕ) (v : Value) → Sound cfg st → CanCall cfg st i o v
-    → Counted
-    (withRunnable (st .runnables) (operationConfIn (cfg .operations) o .server)
-    (asking (runnableIn (st .runnables) (operationConfIn (cfg .operations) o .server)) (record { operation = o; number = operationIn (st .operations) o .number; argument = v })))
-    (withSlot (st .slots) i (callerAfter cfg o (slotIn (st .slots) i)))
+pub call-keeps-counts : (cfg : Config) (st : State) (i o : ℕ) (v : Value) → Sound cfg st → CanCall cfg st i o v → CountedIn (called cfg st i o v)
+unfolding called
 call-keeps-counts cfg st i o v s z =
     counted-slot _ (st .slots) i (callerAfter cfg o (slotIn (st .slots) i))
     (caller-kept (λ x. x .used) (λ x n. refl) cfg o (slotIn (st .slots) i))
     (caller-kept (λ x. x .life .runnable) (λ x n. refl) cfg o (slotIn (st .slots) i))
     (counted-runnables (st .runnables) _ (st .slots) (runnable-kept (λ x. x .instances) (st .runnables) (operationConfIn (cfg .operations) o .server) _ refl) (s .counts))
 
-pub collect-keeps-counts : (cfg : Config) (st : State) (i o : ℕ) → Sound cfg st → CanCollect cfg st i o → Counted (st .runnables) (withSlot (st .slots) i (runningOn (slotIn (st .slots) i)))
+pub collect-keeps-counts : (cfg : Config) (st : State) (i o : ℕ) → Sound cfg st → CanCollect cfg st i o → CountedIn (collected st i)
 collect-keeps-counts cfg st i o s z = counted-slot (st .runnables) (st .slots) i (runningOn (slotIn (st .slots) i)) refl refl (s .counts)
 
 -- hand back of a call that is open no longer
-pub late-keeps-counts : (cfg : Config) (st : State) (i : ℕ) (v : Value) → Sound cfg st → CanHandBack cfg st i v → Counted (st .runnables) (withSlot (st .slots) i (finishing (slotIn (st .slots) i)))
+pub late-keeps-counts : (cfg : Config) (st : State) (i : ℕ) (v : Value) → Sound cfg st → CanHandBack cfg st i v → CountedIn (finished st st i)
 late-keeps-counts cfg st i v s z = counted-slot (st .runnables) (st .slots) i (finishing (slotIn (st .slots) i)) refl refl (s .counts)
 
 -- hand back that ends its call
-pub answer-keeps-counts : (cfg : Config) (st : State) (i : ℕ) (v : Value) → Sound cfg st → CanHandBack cfg st i v
-    → Counted (returnedRunnables cfg (slotIn (st .slots) i .owed .client .operation) (st .runnables)) (withSlot (st .slots) i (finishing (slotIn (st .slots) i)))
+pub answer-keeps-counts : (cfg : Config) (st : State) (i : ℕ) (v : Value) → Sound cfg st → CanHandBack cfg st i v → CountedIn (answered cfg st i v)
+unfolding closed
 answer-keeps-counts cfg st i v s z =
     counted-runnables (st .runnables) _ _ (returned-kept (λ x. x .instances) (λ x. refl) cfg (slotIn (st .slots) i .owed .client .operation) (st .runnables))
     (late-keeps-counts cfg st i v s z)
 
-pub end-keeps-counts : (cfg : Config) (st : State) (i : ℕ) → Sound cfg st → CanEnd st i
-    → Counted
-    (withRunnable (st .runnables) (slotIn (st .slots) i .life .runnable) (leaving (runnableIn (st .runnables) (slotIn (st .slots) i .life .runnable))))
-    (withSlot (st .slots) i noSlot)
+pub end-keeps-counts : (cfg : Config) (st : State) (i : ℕ) → Sound cfg st → CanEnd st i → CountedIn (emptied st i)
 unfolding ofRunnable noSlot
 end-keeps-counts cfg st i s z =
     counted-both (st .runnables) (st .slots) r _ i noSlot (runnables-length cfg st s) (slots-length cfg st s) l
@@ -123,11 +119,8 @@ end-keeps-counts cfg st i s z =
     mine : ofRunnable r (slotIn (st .slots) i) ≡ true
     mine = rw (z .there .used, eq-eqb r r refl)
 
-pub spawn-keeps-counts : (cfg : Config) (st : State) (r : ℕ) → Sound cfg st → CanSpawn cfg st r
-    → Counted
-    (withRunnable (st .runnables) r (starting (runnableConfIn (cfg .runnables) r) (runnableIn (st .runnables) r)))
-    (withSlot (st .slots) (lowestEmpty (st .slots)) (instanceOf (runnableConfIn (cfg .runnables) r) r (runnableIn (st .runnables) r)))
-unfolding ofRunnable starting instanceOf slotsOf
+pub spawn-keeps-counts : (cfg : Config) (st : State) (r : ℕ) → Sound cfg st → CanSpawn cfg st r → CountedIn (spawned cfg st r (lowestEmpty (st .slots)))
+unfolding spawned ofRunnable starting instanceOf slotsOf
 spawn-keeps-counts cfg st r s z =
     counted-both (st .runnables) (st .slots) r _ k _ (runnables-length cfg st s) (slots-length cfg st s) (z .slot)
     (λ b. rw (more, none r, mine) (omega (arith, s .counts .counted r b, count-most (λ j. ofRunnable r (slotIn (st .slots) j)) maxSlots)))
@@ -155,14 +148,15 @@ spawn-keeps-counts cfg st r s z =
     other : (j : ℕ) → (j ≡ r → ⊥) → ofRunnable j (instanceOf c r x) ≡ false
     other j n = let f = ne-eqb r j (λ e. n (sym e)) in pick-has (λ y. ofRunnable j y ≡ false) (eqb (c .capacity) 0) _ _ (λ e. f) (λ e. f)
 
-pub timeout-keeps-counts : (cfg : Config) (st : State) (o : ℕ) → Sound cfg st → CanTimeout cfg st o → Counted (returnedRunnables cfg o (st .runnables)) (st .slots)
+pub timeout-keeps-counts : (cfg : Config) (st : State) (o : ℕ) → Sound cfg st → CanTimeout cfg st o → CountedIn (closed cfg st o timeoutV)
+unfolding closed
 timeout-keeps-counts cfg st o s z =
     counted-runnables (st .runnables) _ (st .slots) (returned-kept (λ x. x .instances) (λ x. refl) cfg o (st .runnables)) (s .counts)
 
-pub tick-keeps-counts : (cfg : Config) (st : State) (t : ℕ) → Sound cfg st → CanTick cfg st t
-    → Counted (withRunnable (st .runnables) (timerConfIn (cfg .timers) t .runnable) (woken (runnableIn (st .runnables) (timerConfIn (cfg .timers) t .runnable)))) (st .slots)
+pub tick-keeps-counts : (cfg : Config) (st : State) (t : ℕ) → Sound cfg st → CanTick cfg st t → CountedIn (ticked cfg st t)
 tick-keeps-counts cfg st t s z =
     counted-runnables (st .runnables) _ (st .slots) (runnable-kept (λ x. x .instances) (st .runnables) (timerConfIn (cfg .timers) t .runnable) _ refl) (s .counts)
 
-pub wait-keeps-counts : (cfg : Config) (st : State) (t : ℕ) → Sound cfg st → CanWait cfg st t → Counted (runnablesAfter cfg (st .runnables) t) (st .slots)
+pub wait-keeps-counts : (cfg : Config) (st : State) (t : ℕ) → Sound cfg st → CanWait cfg st t → CountedIn (waited cfg st t)
+unfolding waited
 wait-keeps-counts cfg st t s z = counted-runnables (st .runnables) _ (st .slots) (after-kept (λ x. x .instances) t (λ x. refl) cfg (st .runnables)) (s .counts)

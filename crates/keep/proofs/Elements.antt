@@ -26,9 +26,9 @@ use Rattle.state.specs.Parts.{noElement, maxValues}
 use Rattle.state.specs.Queues.{upOne, pushValue, restValues}
 use Rattle.state.specs.Tables.{elementIn, withElement}
 use Rattle.rules.specs.Sound.{valuesSound, isStored, elementSound, elementsSound}
-use Rattle.rules.specs.Steps.{seen, joins, linked, accepts, storing, queueing, fedElement, fedElements, receiving}
+use Rattle.effects.specs.Steps.{seen, looked, joins, linked, accepts, storing, queueing, fedElement, fedElements, fed, invalidated, receiving, received}
 use Rattle.keep.specs.Facts.{Sound, CanRead, CanFeed, CanInvalidate, CanReceive}
-use Rattle.keep.proofs.Configured.{required-most, length-most, link-alike}
+use Rattle.rules.proofs.Configured.{required-most, length-most, link-alike}
 
 -- ---- a queue of values
 
@@ -147,18 +147,19 @@ module _ (cfg : Config) (st : State) (s : Sound cfg st) where
   element-at q b = all-at (λ (q : ℕ). elementSound cfg q (elementIn (st .elements) q)) maxRequiredConfs (s .elements) q (omega (arith, required-most cfg (s .config)))
 
 module _ (cfg : Config) (st : State) where
-  pub read-keeps-elements : (i q : ℕ) → Sound cfg st → CanRead cfg st i q → elementsSound cfg (withElement (st .elements) q (seen (elementIn (st .elements) q))) ≡ true
+  pub read-keeps-elements : (i q : ℕ) → Sound cfg st → CanRead cfg st i q → elementsSound cfg (looked st q .elements) ≡ true
   read-keeps-elements i q s z = elements-put cfg (st .elements) q (seen (elementIn (st .elements) q)) (s .elements) (seen-sound cfg q (elementIn (st .elements) q) (element-at cfg st s q (z .inside)))
 
-  pub feed-keeps-elements : (i p : ℕ) (v : Value) → Sound cfg st → CanFeed cfg st i p v → elementsSound cfg (fedElements cfg p v (st .elements)) ≡ true
+  pub feed-keeps-elements : (i p : ℕ) (v : Value) → Sound cfg st → CanFeed cfg st i p v → elementsSound cfg (fed cfg st p v .elements) ≡ true
+  unfolding fed
   feed-keeps-elements i p v s z = fed-sound cfg (s .config) p v (payload-stored v (z .payload)) (λ q l e. z .payload) (st .elements) (s .elements)
 
-  pub invalidate-keeps-elements : (i p : ℕ) → Sound cfg st → CanInvalidate cfg st i p → elementsSound cfg (fedElements cfg p invalidV (st .elements)) ≡ true
+  pub invalidate-keeps-elements : (i p : ℕ) → Sound cfg st → CanInvalidate cfg st i p → elementsSound cfg (invalidated cfg st p .elements) ≡ true
   unfolding isStored isPayload isVoid
   invalidate-keeps-elements i p s z =
       fed-sound cfg (s .config) p invalidV refl (λ q l e. absurd (clash (isQueued cfg q) e (sym (linked-alike cfg (s .config) p q l) ∙ z .unqueued))) (st .elements) (s .elements)
 
-  pub receive-keeps-elements : (i q : ℕ) → Sound cfg st → CanReceive cfg st i q → elementsSound cfg (withElement (st .elements) q (receiving (elementIn (st .elements) q))) ≡ true
+  pub receive-keeps-elements : (i q : ℕ) → Sound cfg st → CanReceive cfg st i q → elementsSound cfg (received st q .elements) ≡ true
   receive-keeps-elements i q s z =
       let x = elementIn (st .elements) q in
       let t = stands-told cfg q x (element-at cfg st s q (z .inside)) in

@@ -22,8 +22,9 @@ use Rattle.state.specs.declared.Slot.{Slot}
 use Rattle.state.specs.declared.Slots.{Slots}
 use Rattle.state.specs.declared.State.{State}
 use Rattle.state.specs.Parts.{noRunnable, noOperation, noSlot}
+use Rattle.state.specs.Fields.{withCount}
 use Rattle.state.specs.Tables.{maxSlots, runnableIn, operationIn, slotIn, withRunnable, withSlot}
-use Rattle.rules.specs.Steps.{woken, isFed, fedRunnables, isReturned, returnedRunnables, runnableAfter, runnablesAfter, operationAfter, operationsAfter, callerAfter, waitingOn, isEmptyAt, lowestEmpty}
+use Rattle.effects.specs.Steps.{woken, isFed, fedRunnables, isReturned, returnedRunnables, runnableAfter, runnablesAfter, operationAfter, operationsAfter, callerAfter, waitingOn, isEmptyAt, lowestEmpty}
 use Rattle.keep.specs.Facts.{Sound, There}
 use Rattle.keep.proofs.Told.{slots-length}
 
@@ -59,9 +60,12 @@ module _ {B : Type 0} where
   unfolding runnablesAfter
   after-kept g t w cfg rs j = runnables-kept g (λ (r : ℕ) (x : Runnable). runnableAfter t x) (cfg .runnables .n) rs (λ r x. w x) j
 
-  pub waited-kept : (g : Operation → B) (t : ℕ) → ((x : Operation) → g (operationAfter t x) ≡ g x) → (cfg : Config) (os : Operations) (j : ℕ) → g (operationIn (operationsAfter cfg os t) j) ≡ g (operationIn os j)
-  unfolding operationsAfter operationIn
-  waited-kept g t w cfg os j = each-has (λ (o : ℕ) (x : Operation). operationAfter t x) noOperation (λ k y. g y ≡ g (getD (os .at) k noOperation)) (cfg .operations .n) (os .at) j (λ l. w (getD (os .at) j noOperation)) refl
+  pub waited-kept : (g : Operation → B) (t : ℕ) → ((x : Operation) (n : ℕ) → g (withCount x n) ≡ g x) → (cfg : Config) (os : Operations) (j : ℕ) → g (operationIn (operationsAfter cfg os t) j) ≡ g (operationIn os j)
+  unfolding operationsAfter operationIn operationAfter
+  waited-kept g t w cfg os j =
+      let x = getD (os .at) j noOperation in
+      each-has (λ (o : ℕ) (x : Operation). operationAfter t x) noOperation (λ k y. g y ≡ g (getD (os .at) k noOperation)) (cfg .operations .n) (os .at) j
+      (λ l. pick-has (λ y. g y ≡ g x) (x .calling) _ x (λ e. w x _) (λ e. refl)) refl
 
   -- a caller waits, or does not: all but that is as it was
   pub caller-kept : (g : Slot → B) → ((x : Slot) (o : ℕ) → g (waitingOn x o) ≡ g x) → (cfg : Config) (o : ℕ) (x : Slot) → g (callerAfter cfg o x) ≡ g x

@@ -1,5 +1,4 @@
 -- Sound stays sound, clause by clause and step by step.
-pub mod Configured
 pub mod Told
 pub mod Kept
 pub mod Counts
@@ -14,6 +13,8 @@ pub mod Operations
 pub mod Tables
 pub mod Shapes
 pub mod Says
+pub mod Ways
 pub mod Start
 pub mod Keeps
 pub mod Refusals
+pub mod Accepted

@@ -13,7 +13,7 @@ use Rattle.laws.specs.Row.{eachBelow, filled}
 use Rattle.laws.proofs.Choosing.{clash, both-left, both-right, both-make, all-told, all-made, pick-has}
 use Rattle.laws.proofs.Looping.{all-at, any-find}
 use Rattle.laws.proofs.Places.{all-put, all-each, filled-good, filled-push, filled-shift}
-use Rattle.values.specs.Values.{isVoid}
+use Rattle.values.specs.Values.{timeoutV, isVoid}
 use Rattle.values.specs.declared.Value.{Value}
 use Rattle.config.specs.declared.Config.{Config}
 use Rattle.config.specs.declared.RunnableConf.{RunnableConf}
@@ -27,12 +27,13 @@ use Rattle.state.specs.declared.Elements.{Elements}
 use Rattle.state.specs.declared.State.{State}
 use Rattle.state.specs.Parts.{noClient, noRunnable, maxRequests}
 use Rattle.state.specs.Queues.{upOne, pushRequest, firstRequest, restRequests}
+use Rattle.state.specs.Fields.{withPending, withRequests}
 use Rattle.state.specs.Tables.{runnableIn, operationIn, slotIn, withRunnable}
 use Rattle.rules.specs.Sound.{isNoClient, clientFits, requestsSound, runnableSound, runnablesSound}
-use Rattle.rules.specs.Steps.{woken, feeds, isFed, fedRunnables, asking, returns, isReturned, returnedRunnables, leaving, isDue, starting, runnableAfter, runnablesAfter}
+use Rattle.effects.specs.Steps.{woken, feeds, isFed, fedRunnables, fed, asking, called, returns, isReturned, returnedRunnables, closed, answered, leaving, emptied, isDue, begun, starting, lowestEmpty, spawned, ticked, runnableAfter, runnablesAfter, waited}
 use Rattle.keep.specs.Facts.{Sound, CanFeed, CanCall, CanHandBack, CanEnd, CanSpawn, CanTimeout, CanTick, CanWait}
 use Rattle.keep.proofs.Instances.{instance-at, life-there}
-use Rattle.keep.proofs.Configured.{runnables-most, capacity-most, operation-there, timer-there, timer-plain, devent-plain, revent-plain}
+use Rattle.rules.proofs.Configured.{runnables-most, capacity-most, operation-there, timer-there, timer-plain, devent-plain, revent-plain}
 
 -- ---- a queue of requests
 
@@ -148,13 +149,12 @@ module _ (cfg : Config) (st : State) (s : Sound cfg st) where
   sits-at r b = sits-told cfg r (runnableIn (st .runnables) r) (runnable-at cfg (st .runnables) (s .runnables) r (omega (arith, runnables-most cfg (s .config))))
 
 module _ (cfg : Config) (st : State) where
-  pub feed-keeps-runnables : (i p : ℕ) (v : Value) → Sound cfg st → CanFeed cfg st i p v → runnablesSound cfg (fedRunnables cfg (st .elements) p (st .runnables)) ≡ true
+  pub feed-keeps-runnables : (i p : ℕ) (v : Value) → Sound cfg st → CanFeed cfg st i p v → runnablesSound cfg (fed cfg st p v .runnables) ≡ true
+  unfolding fed
   feed-keeps-runnables i p v s z = fed-sound cfg (s .config) (st .elements) p (st .runnables) (s .runnables)
 
-  pub call-keeps-runnables : (i o : ℕ) (v : Value) → Sound cfg st → CanCall cfg st i o v
-      → runnablesSound cfg (withRunnable (st .runnables) (operationConfIn (cfg .operations) o .server)
-      (asking (runnableIn (st .runnables) (operationConfIn (cfg .operations) o .server)) (record { operation = o; number = operationIn (st .operations) o .number; argument = v }))) ≡ true
-  unfolding clientFits
+  pub call-keeps-runnables : (i o : ℕ) (v : Value) → Sound cfg st → CanCall cfg st i o v → runnablesSound cfg (called cfg st i o v .runnables) ≡ true
+  unfolding called clientFits
   call-keeps-runnables i o v s z =
       let r = operationConfIn (cfg .operations) o .server in
       let c : Client = record { operation = o; number = operationIn (st .operations) o .number; argument = v } in
@@ -164,14 +164,15 @@ module _ (cfg : Config) (st : State) where
       runnables-put cfg (st .runnables) r (asking x c) (s .runnables)
       (sits-made cfg r (asking x c) (record { interval = t .interval; alone = t .alone; pending = t .pending; requests = push-sound cfg r (x .requests) (t .requests) c (s .config) (z .room) fits }))
 
-  pub answer-keeps-runnables : (i : ℕ) (v : Value) → Sound cfg st → CanHandBack cfg st i v → runnablesSound cfg (returnedRunnables cfg (slotIn (st .slots) i .owed .client .operation) (st .runnables)) ≡ true
+  pub answer-keeps-runnables : (i : ℕ) (v : Value) → Sound cfg st → CanHandBack cfg st i v → runnablesSound cfg (answered cfg st i v .runnables) ≡ true
+  unfolding closed
   answer-keeps-runnables i v s z = returned-sound cfg (s .config) (slotIn (st .slots) i .owed .client .operation) (st .runnables) (s .runnables)
 
-  pub timeout-keeps-runnables : (o : ℕ) → Sound cfg st → CanTimeout cfg st o → runnablesSound cfg (returnedRunnables cfg o (st .runnables)) ≡ true
+  pub timeout-keeps-runnables : (o : ℕ) → Sound cfg st → CanTimeout cfg st o → runnablesSound cfg (closed cfg st o timeoutV .runnables) ≡ true
+  unfolding closed
   timeout-keeps-runnables o s z = returned-sound cfg (s .config) o (st .runnables) (s .runnables)
 
-  pub end-keeps-runnables : (i : ℕ) → Sound cfg st → CanEnd st i
-      → runnablesSound cfg (withRunnable (st .runnables) (slotIn (st .slots) i .life .runnable) (leaving (runnableIn (st .runnables) (slotIn (st .slots) i .life .runnable)))) ≡ true
+  pub end-keeps-runnables : (i : ℕ) → Sound cfg st → CanEnd st i → runnablesSound cfg (emptied st i .runnables) ≡ true
   end-keeps-runnables i s z =
       let r = slotIn (st .slots) i .life .runnable in
       let x = runnableIn (st .runnables) r in
@@ -183,9 +184,8 @@ module _ (cfg : Config) (st : State) where
       fewer true n h = refl
       fewer false n h = le-leb (n - 1) 1 (omega (arith, leb-true n 1 h))
 
-  pub spawn-keeps-runnables : (r : ℕ) → Sound cfg st → CanSpawn cfg st r
-      → runnablesSound cfg (withRunnable (st .runnables) r (starting (runnableConfIn (cfg .runnables) r) (runnableIn (st .runnables) r))) ≡ true
-  unfolding starting isDue
+  pub spawn-keeps-runnables : (r : ℕ) → Sound cfg st → CanSpawn cfg st r → runnablesSound cfg (spawned cfg st r (lowestEmpty (st .slots)) .runnables) ≡ true
+  unfolding spawned starting isDue
   spawn-keeps-runnables r s z = go (eqb (c .capacity) 0) refl
     where
       c : RunnableConf
@@ -214,8 +214,8 @@ module _ (cfg : Config) (st : State) where
 
       go : (b : Bool) → eqb (c .capacity) 0 ≡ b
           → runnablesSound cfg (withRunnable (st .runnables) r
-          (pick b (record { interval = c .interval; pending = false; instances = upOne (x .instances); requests = x .requests })
-          (record { interval = c .interval; pending = x .pending; instances = upOne (x .instances); requests = restRequests (x .requests) }))) ≡ true
+          (pick b (withPending (begun c x) false)
+          (withRequests (begun c x) (restRequests (x .requests))))) ≡ true
       go true e =
           runnables-put cfg (st .runnables) r _ (s .runnables)
           (sits-made cfg r _ (record { interval = le-leb (c .interval) (c .interval) (omega arith); alone = alone; pending = refl; requests = t .requests }))
@@ -223,16 +223,15 @@ module _ (cfg : Config) (st : State) where
           runnables-put cfg (st .runnables) r _ (s .runnables)
           (sits-made cfg r _ (record { interval = le-leb (c .interval) (c .interval) (omega arith); alone = alone; pending = t .pending; requests = rest-sound cfg r (x .requests) (t .requests) (s .config) (due e) }))
 
-  pub tick-keeps-runnables : (t : ℕ) → Sound cfg st → CanTick cfg st t
-      → runnablesSound cfg (withRunnable (st .runnables) (timerConfIn (cfg .timers) t .runnable) (woken (runnableIn (st .runnables) (timerConfIn (cfg .timers) t .runnable)))) ≡ true
+  pub tick-keeps-runnables : (t : ℕ) → Sound cfg st → CanTick cfg st t → runnablesSound cfg (ticked cfg st t .runnables) ≡ true
   tick-keeps-runnables t s z =
       let r = timerConfIn (cfg .timers) t .runnable in
       let b = timer-there cfg (s .config) t (z .inside) in
       runnables-put cfg (st .runnables) r (woken (runnableIn (st .runnables) r)) (s .runnables)
       (woken-sound cfg r (runnableIn (st .runnables) r) b (timer-plain cfg (s .config) t (z .inside)) (runnable-at cfg (st .runnables) (s .runnables) r (omega (arith, runnables-most cfg (s .config)))))
 
-  pub wait-keeps-runnables : (t : ℕ) → Sound cfg st → CanWait cfg st t → runnablesSound cfg (runnablesAfter cfg (st .runnables) t) ≡ true
-  unfolding runnablesAfter
+  pub wait-keeps-runnables : (t : ℕ) → Sound cfg st → CanWait cfg st t → runnablesSound cfg (waited cfg st t .runnables) ≡ true
+  unfolding waited runnablesAfter
   wait-keeps-runnables t s z =
       runnables-each cfg (λ (r : ℕ) (x : Runnable). runnableAfter t x) (st .runnables)
       (λ r x b q. let k = sits-told cfg r x q in

@@ -9,7 +9,7 @@ use Rattle.laws.proofs.Places.{each-length}
 use Rattle.values.specs.Values.{invalidV, timeoutV}
 use Rattle.values.specs.declared.Value.{Value}
 use Rattle.config.specs.declared.Config.{Config}
-use Rattle.config.specs.Tables.{runnableConfIn, operationConfIn, timerConfIn}
+use Rattle.config.specs.Tables.{operationConfIn, timerConfIn}
 use Rattle.state.specs.declared.Runnable.{Runnable}
 use Rattle.state.specs.declared.Runnables.{Runnables}
 use Rattle.state.specs.declared.Variable.{Variable}
@@ -28,7 +28,7 @@ use Rattle.state.specs.declared.State.{State}
 use Rattle.state.specs.Parts.{noSlot, noRunnable, noElement, noOperation, noTimer}
 use Rattle.state.specs.Tables.{runnableIn, elementIn, operationIn, slotIn, withRunnables, withVariables, withAreas, withElements, withOperations, withTimers, withSlots, withRunnable, withVariable, withArea, withElement, withOperation, withTimer, withSlot}
 use Rattle.rules.specs.Sound.{shaped}
-use Rattle.rules.specs.Steps.{entering, exiting, seen, receiving, opening, asking, callerAfter, called, runningOn, closing, closed, finishing, leaving, starting, instanceOf, spawned, woken, isFed, isReturned, fedElement, fedElements, fedRunnables, returnedRunnables, runnableAfter, operationAfter, timerAfter, runnablesAfter, operationsAfter, timersAfter}
+use Rattle.effects.specs.Steps.{stored, entering, exiting, entered, exited, seen, looked, fedElement, fedElements, woken, isFed, fedRunnables, fed, invalidated, receiving, received, opening, asking, callerAfter, called, runningOn, collected, closing, isReturned, returnedRunnables, closed, finishing, clientOf, finished, answered, emptied, lowestEmpty, spawned, ticked, operationAfter, timerAfter, runnableAfter, operationsAfter, timersAfter, runnablesAfter, waited}
 use Rattle.keep.proofs.Told.{Shape, shape-told, shape-made}
 use Rattle.keep.specs.Facts.{Sound}
 
@@ -125,28 +125,29 @@ module _ (cfg : Config) (st : State) (s : Sound cfg st) where
       in-runnables _ (in-operations st now _ (operation-length (st .operations) o (closing v (operationIn (st .operations) o)))) _ (returned-length cfg o (st .runnables))
 
 module _ (cfg : Config) (st : State) where
-  pub write-variable-keeps-shape : (v : ℕ) (x : Value) → Sound cfg st → shaped (withVariables st (withVariable (st .variables) v (record { value = x }))) ≡ true
+  pub write-variable-keeps-shape : (v : ℕ) (x : Value) → Sound cfg st → shaped (stored st v x) ≡ true
   write-variable-keeps-shape v x s = shape-made _ (in-variables st (now cfg st s) _ (variable-length (st .variables) v (record { value = x })))
 
-  pub enter-keeps-shape : (i a : ℕ) → Sound cfg st → shaped (withSlots (withAreas st (withArea (st .areas) a (record { taken = true }))) (withSlot (st .slots) i (entering (slotIn (st .slots) i) a))) ≡ true
+  pub enter-keeps-shape : (i a : ℕ) → Sound cfg st → shaped (entered st i a) ≡ true
   enter-keeps-shape i a s =
       shape-made _ (in-slots _ (in-areas st (now cfg st s) _ (area-length (st .areas) a (record { taken = true }))) _ (slot-length (st .slots) i (entering (slotIn (st .slots) i) a)))
 
-  pub exit-keeps-shape : (i a : ℕ) → Sound cfg st → shaped (withSlots (withAreas st (withArea (st .areas) a (record { taken = false }))) (withSlot (st .slots) i (exiting (slotIn (st .slots) i)))) ≡ true
+  pub exit-keeps-shape : (i a : ℕ) → Sound cfg st → shaped (exited st i a) ≡ true
   exit-keeps-shape i a s =
       shape-made _ (in-slots _ (in-areas st (now cfg st s) _ (area-length (st .areas) a (record { taken = false }))) _ (slot-length (st .slots) i (exiting (slotIn (st .slots) i))))
 
-  pub read-keeps-shape : (q : ℕ) → Sound cfg st → shaped (withElements st (withElement (st .elements) q (seen (elementIn (st .elements) q)))) ≡ true
+  pub read-keeps-shape : (q : ℕ) → Sound cfg st → shaped (looked st q) ≡ true
   read-keeps-shape q s = shape-made _ (in-elements st (now cfg st s) _ (element-length (st .elements) q (seen (elementIn (st .elements) q))))
 
-  pub feed-keeps-shape : (p : ℕ) (v : Value) → Sound cfg st → shaped (withRunnables (withElements st (fedElements cfg p v (st .elements))) (fedRunnables cfg (st .elements) p (st .runnables))) ≡ true
+  pub feed-keeps-shape : (p : ℕ) (v : Value) → Sound cfg st → shaped (fed cfg st p v) ≡ true
+  unfolding fed
   feed-keeps-shape p v s =
       shape-made _ (in-runnables _ (in-elements st (now cfg st s) _ (fed-elements-length cfg p v (st .elements))) _ (fed-runnables-length cfg (st .elements) p (st .runnables)))
 
-  pub invalidate-keeps-shape : (p : ℕ) → Sound cfg st → shaped (withElements st (fedElements cfg p invalidV (st .elements))) ≡ true
+  pub invalidate-keeps-shape : (p : ℕ) → Sound cfg st → shaped (invalidated cfg st p) ≡ true
   invalidate-keeps-shape p s = shape-made _ (in-elements st (now cfg st s) _ (fed-elements-length cfg p invalidV (st .elements)))
 
-  pub receive-keeps-shape : (q : ℕ) → Sound cfg st → shaped (withElements st (withElement (st .elements) q (receiving (elementIn (st .elements) q)))) ≡ true
+  pub receive-keeps-shape : (q : ℕ) → Sound cfg st → shaped (received st q) ≡ true
   receive-keeps-shape q s = shape-made _ (in-elements st (now cfg st s) _ (element-length (st .elements) q (receiving (elementIn (st .elements) q))))
 
   pub call-keeps-shape : (i o : ℕ) (v : Value) → Sound cfg st → shaped (called cfg st i o v) ≡ true
@@ -160,37 +161,34 @@ module _ (cfg : Config) (st : State) where
       (asking (runnableIn (st .runnables) (operationConfIn (cfg .operations) o .server)) (record { operation = o; number = operationIn (st .operations) o .number; argument = v }))))
       _ (slot-length (st .slots) i (callerAfter cfg o (slotIn (st .slots) i))))
 
-  pub collect-keeps-shape : (i : ℕ) → Sound cfg st → shaped (withSlots st (withSlot (st .slots) i (runningOn (slotIn (st .slots) i)))) ≡ true
+  pub collect-keeps-shape : (i : ℕ) → Sound cfg st → shaped (collected st i) ≡ true
   collect-keeps-shape i s = shape-made _ (in-slots st (now cfg st s) _ (slot-length (st .slots) i (runningOn (slotIn (st .slots) i))))
 
   -- with a call that ends, and without
-  pub answer-keeps-shape : (i o : ℕ) (v : Value) → Sound cfg st → shaped (withSlots (closed cfg st o v) (withSlot (st .slots) i (finishing (slotIn (st .slots) i)))) ≡ true
+  pub answer-keeps-shape : (i : ℕ) (v : Value) → Sound cfg st → shaped (answered cfg st i v) ≡ true
   unfolding closed
-  answer-keeps-shape i o v s = shape-made _ (in-slots (closed cfg st o v) (closed-shape cfg st s o v) _ (slot-length (st .slots) i (finishing (slotIn (st .slots) i))))
+  answer-keeps-shape i v s = shape-made _ (in-slots _ (closed-shape cfg st s (clientOf st i .operation) v) _ (slot-length (st .slots) i (finishing (slotIn (st .slots) i))))
 
-  pub late-keeps-shape : (i : ℕ) → Sound cfg st → shaped (withSlots st (withSlot (st .slots) i (finishing (slotIn (st .slots) i)))) ≡ true
+  pub late-keeps-shape : (i : ℕ) → Sound cfg st → shaped (finished st st i) ≡ true
   late-keeps-shape i s = shape-made _ (in-slots st (now cfg st s) _ (slot-length (st .slots) i (finishing (slotIn (st .slots) i))))
 
-  pub end-keeps-shape : (i r : ℕ) → Sound cfg st → shaped (withSlots (withRunnables st (withRunnable (st .runnables) r (leaving (runnableIn (st .runnables) r)))) (withSlot (st .slots) i noSlot)) ≡ true
-  end-keeps-shape i r s =
-      shape-made _ (in-slots _ (in-runnables st (now cfg st s) _ (runnable-length (st .runnables) r (leaving (runnableIn (st .runnables) r)))) _ (slot-length (st .slots) i noSlot))
+  pub end-keeps-shape : (i : ℕ) → Sound cfg st → shaped (emptied st i) ≡ true
+  end-keeps-shape i s = shape-made _ (in-slots _ (in-runnables st (now cfg st s) _ (runnable-length (st .runnables) (slotIn (st .slots) i .life .runnable) _)) _ (slot-length (st .slots) i noSlot))
 
-  pub spawn-keeps-shape : (r k : ℕ) → Sound cfg st → shaped (spawned cfg st r k) ≡ true
+  pub spawn-keeps-shape : (r : ℕ) → Sound cfg st → shaped (spawned cfg st r (lowestEmpty (st .slots))) ≡ true
   unfolding spawned
-  spawn-keeps-shape r k s =
-      shape-made _
-      (in-slots _ (in-runnables st (now cfg st s) _ (runnable-length (st .runnables) r (starting (runnableConfIn (cfg .runnables) r) (runnableIn (st .runnables) r))))
-      _ (slot-length (st .slots) k (instanceOf (runnableConfIn (cfg .runnables) r) r (runnableIn (st .runnables) r))))
+  spawn-keeps-shape r s = shape-made _ (in-slots _ (in-runnables st (now cfg st s) _ (runnable-length (st .runnables) r _)) _ (slot-length (st .slots) (lowestEmpty (st .slots)) _))
 
   pub timeout-keeps-shape : (o : ℕ) → Sound cfg st → shaped (closed cfg st o timeoutV) ≡ true
+  unfolding closed
   timeout-keeps-shape o s = shape-made _ (closed-shape cfg st s o timeoutV)
 
-  pub tick-keeps-shape : (t r : ℕ) → Sound cfg st → shaped (withRunnables (withTimers st (withTimer (st .timers) t (record { count = timerConfIn (cfg .timers) t .period }))) (withRunnable (st .runnables) r (woken (runnableIn (st .runnables) r)))) ≡ true
-  tick-keeps-shape t r s =
-      shape-made _
-      (in-runnables _ (in-timers st (now cfg st s) _ (timer-length (st .timers) t (record { count = timerConfIn (cfg .timers) t .period }))) _ (runnable-length (st .runnables) r (woken (runnableIn (st .runnables) r))))
+  pub tick-keeps-shape : (t : ℕ) → Sound cfg st → shaped (ticked cfg st t) ≡ true
+  tick-keeps-shape t s =
+      shape-made _ (in-runnables _ (in-timers st (now cfg st s) _ (timer-length (st .timers) t _)) _ (runnable-length (st .runnables) (timerConfIn (cfg .timers) t .runnable) _))
 
-  pub wait-keeps-shape : (t : ℕ) → Sound cfg st → shaped (withRunnables (withTimers (withOperations st (operationsAfter cfg (st .operations) t)) (timersAfter cfg (st .timers) t)) (runnablesAfter cfg (st .runnables) t)) ≡ true
+  pub wait-keeps-shape : (t : ℕ) → Sound cfg st → shaped (waited cfg st t) ≡ true
+  unfolding waited
   wait-keeps-shape t s =
       shape-made _
       (in-runnables _

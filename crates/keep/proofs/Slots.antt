@@ -27,11 +27,12 @@ use Rattle.state.specs.declared.Slots.{Slots}
 use Rattle.state.specs.declared.State.{State}
 use Rattle.state.specs.Parts.{noOwed, noStack, noSlot}
 use Rattle.state.specs.Queues.{upOne, pushArea, popArea, firstRequest}
+use Rattle.state.specs.Fields.{lifeOf, lifeWaiting, lifeRunning, lifeFinished}
 use Rattle.state.specs.Tables.{maxSlots, slotIn, withSlot, runnableIn}
 use Rattle.rules.specs.Sound.{componentOf, isNoClient, waitsWell, lifeSound, owedSound, areaFits, isZero, stackSound, isNoSlot, slotSound, slotsSound}
-use Rattle.rules.specs.Steps.{entering, exiting, waitingOn, callerAfter, runningOn, finishing, fresh, isDue, instanceOf, lowestEmpty}
+use Rattle.effects.specs.Steps.{entering, exiting, entered, exited, waitingOn, callerAfter, called, runningOn, collected, finishing, finished, emptied, isDue, fresh, instanceOf, lowestEmpty, spawned}
 use Rattle.keep.specs.Facts.{Sound, CanEnter, CanExit, CanCall, CanCollect, CanHandBack, CanEnd, CanSpawn}
-use Rattle.keep.proofs.Configured.{areas-most}
+use Rattle.rules.proofs.Configured.{areas-most}
 use Rattle.keep.proofs.Areas.{free-room}
 use Rattle.keep.proofs.Instances.{Instance, instance-made, slot-below, instance-at, owed-server, stack-most, stack-filled}
 use Rattle.keep.proofs.Runnables.{sits-at, first-fits}
@@ -74,21 +75,21 @@ module _ (cfg : Config) (l : Life) (k : Stack) where
 -- ---- lives
 
 life-waits : (cfg : Config) (l : Life) (o : ℕ) → o < cfg .operations .n → operationConfIn (cfg .operations) o .asynchronous ≡ false → operationConfIn (cfg .operations) o .component ≡ componentOf cfg (l .runnable) → lifeSound cfg l ≡ true
-    → lifeSound cfg (record { runnable = l .runnable; waiting = true; on = o; finished = l .finished }) ≡ true
+    → lifeSound cfg (lifeWaiting l o) ≡ true
 unfolding lifeSound waitsWell
 life-waits cfg l o b y c h =
     let t = all-told _ h in
     all-made _ (t .0, (t .1 .0, (all-made _ (lt-ltb _ _ b, (ap not y, (eq-eqb _ _ c, tt))), tt)))
 
-life-runs : (cfg : Config) (l : Life) → lifeSound cfg l ≡ true → lifeSound cfg (record { runnable = l .runnable; waiting = false; on = 0; finished = l .finished }) ≡ true
+life-runs : (cfg : Config) (l : Life) → lifeSound cfg l ≡ true → lifeSound cfg (lifeRunning l) ≡ true
 unfolding lifeSound
 life-runs cfg l h = let t = all-told _ h in all-made _ (t .0, (t .1 .0, (refl, tt)))
 
-life-finishes : (cfg : Config) (l : Life) → isServer cfg (l .runnable) ≡ true → lifeSound cfg l ≡ true → lifeSound cfg (record { runnable = l .runnable; waiting = l .waiting; on = l .on; finished = true }) ≡ true
+life-finishes : (cfg : Config) (l : Life) → isServer cfg (l .runnable) ≡ true → lifeSound cfg l ≡ true → lifeSound cfg (lifeFinished l) ≡ true
 unfolding lifeSound waitsWell
 life-finishes cfg l e h = let t = all-told _ h in all-made _ (t .0, (e, (t .1 .1 .0, tt)))
 
-pub life-fresh : (cfg : Config) (r : ℕ) → r < cfg .runnables .n → lifeSound cfg (record { runnable = r; waiting = false; on = 0; finished = false }) ≡ true
+pub life-fresh : (cfg : Config) (r : ℕ) → r < cfg .runnables .n → lifeSound cfg (lifeOf r) ≡ true
 unfolding lifeSound
 life-fresh cfg r b = all-made _ (lt-ltb _ _ b, (refl, (refl, tt)))
 
@@ -104,7 +105,7 @@ blank-slot cfg = refl
 -- ---- step by step
 
 module _ (cfg : Config) (st : State) where
-  pub enter-keeps-slots : (i a : ℕ) → Sound cfg st → CanEnter cfg st i a → slotsSound cfg (withSlot (st .slots) i (entering (slotIn (st .slots) i) a)) ≡ true
+  pub enter-keeps-slots : (i a : ℕ) → Sound cfg st → CanEnter cfg st i a → slotsSound cfg (entered st i a .slots) ≡ true
   enter-keeps-slots i a s z =
       let x = slotIn (st .slots) i in
       let room = free-room cfg st i a s (slot-below cfg st s i (z .who .there .used)) (omega (arith, z .inside, areas-most cfg (s .config))) (z .free) in
@@ -112,15 +113,15 @@ module _ (cfg : Config) (st : State) where
       changed cfg st s i (entering x a) (z .who .there .used)
       (record { life = h .life; owed = h .owed; stack = push-sound cfg (x .life) (x .stack) a room (z .inside) (z .own) (h .stack) })
 
-  pub exit-keeps-slots : (i a : ℕ) → Sound cfg st → CanExit cfg st i a → slotsSound cfg (withSlot (st .slots) i (exiting (slotIn (st .slots) i))) ≡ true
+  pub exit-keeps-slots : (i a : ℕ) → Sound cfg st → CanExit cfg st i a → slotsSound cfg (exited st i a .slots) ≡ true
   exit-keeps-slots i a s z =
       let x = slotIn (st .slots) i in
       let h = instance-at cfg st s i (z .who .there .used) in
       changed cfg st s i (exiting x) (z .who .there .used)
       (record { life = h .life; owed = h .owed; stack = pop-sound cfg (x .life) (x .stack) (z .some) (h .stack) })
 
-  pub call-keeps-slots : (i o : ℕ) (v : Value) → Sound cfg st → CanCall cfg st i o v → slotsSound cfg (withSlot (st .slots) i (callerAfter cfg o (slotIn (st .slots) i))) ≡ true
-  unfolding callerAfter owedSound stackSound
+  pub call-keeps-slots : (i o : ℕ) (v : Value) → Sound cfg st → CanCall cfg st i o v → slotsSound cfg (called cfg st i o v .slots) ≡ true
+  unfolding called callerAfter owedSound stackSound
   call-keeps-slots i o v s z = go (operationConfIn (cfg .operations) o .asynchronous) refl
     where
       go : (b : Bool) → operationConfIn (cfg .operations) o .asynchronous ≡ b → slotsSound cfg (withSlot (st .slots) i (pick b (slotIn (st .slots) i) (waitingOn (slotIn (st .slots) i) o))) ≡ true
@@ -131,14 +132,14 @@ module _ (cfg : Config) (st : State) where
           changed cfg st s i (waitingOn x o) (z .who .there .used)
           (record { life = life-waits cfg (x .life) o (z .inside) e (z .own) (h .life); owed = h .owed; stack = h .stack })
 
-  pub collect-keeps-slots : (i o : ℕ) → Sound cfg st → CanCollect cfg st i o → slotsSound cfg (withSlot (st .slots) i (runningOn (slotIn (st .slots) i))) ≡ true
+  pub collect-keeps-slots : (i o : ℕ) → Sound cfg st → CanCollect cfg st i o → slotsSound cfg (collected st i .slots) ≡ true
   unfolding owedSound stackSound
   collect-keeps-slots i o s z =
       let x = slotIn (st .slots) i in
       let h = instance-at cfg st s i (z .there .used) in
       changed cfg st s i (runningOn x) (z .there .used) (record { life = life-runs cfg (x .life) (h .life); owed = h .owed; stack = h .stack })
 
-  pub hand-back-keeps-slots : (i : ℕ) (v : Value) → Sound cfg st → CanHandBack cfg st i v → slotsSound cfg (withSlot (st .slots) i (finishing (slotIn (st .slots) i))) ≡ true
+  pub hand-back-keeps-slots : (i : ℕ) (v : Value) → Sound cfg st → CanHandBack cfg st i v → slotsSound cfg (finished st st i .slots) ≡ true
   unfolding owedSound stackSound isNoClient isVoid
   hand-back-keeps-slots i v s z =
       let x = slotIn (st .slots) i in
@@ -147,11 +148,11 @@ module _ (cfg : Config) (st : State) where
       changed cfg st s i (finishing x) (z .who .there .used)
       (record { life = life-finishes cfg (x .life) e (h .life); owed = rw e; stack = h .stack })
 
-  pub end-keeps-slots : (i : ℕ) → Sound cfg st → CanEnd st i → slotsSound cfg (withSlot (st .slots) i noSlot) ≡ true
+  pub end-keeps-slots : (i : ℕ) → Sound cfg st → CanEnd st i → slotsSound cfg (emptied st i .slots) ≡ true
   end-keeps-slots i s z = slots-put cfg (st .slots) i noSlot (s .slots) (blank-slot cfg)
 
-  pub spawn-keeps-slots : (r : ℕ) → Sound cfg st → CanSpawn cfg st r → slotsSound cfg (withSlot (st .slots) (lowestEmpty (st .slots)) (instanceOf (runnableConfIn (cfg .runnables) r) r (runnableIn (st .runnables) r))) ≡ true
-  unfolding instanceOf isDue owedSound isServer isNoClient isVoid
+  pub spawn-keeps-slots : (r : ℕ) → Sound cfg st → CanSpawn cfg st r → slotsSound cfg (spawned cfg st r (lowestEmpty (st .slots)) .slots) ≡ true
+  unfolding spawned instanceOf isDue owedSound isServer isNoClient isVoid
   spawn-keeps-slots r s z = go (eqb (c .capacity) 0) refl
     where
       c : RunnableConf

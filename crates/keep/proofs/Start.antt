@@ -27,7 +27,7 @@ use Rattle.state.specs.Tables.{maxSlots, noRunnables, noVariables, noAreas, noE
 use Rattle.state.specs.Start.{startRunnable, startVariable, startElement, startRunnables, startVariables, startElements, startOf}
 use Rattle.rules.specs.Sound.{isNoClient, requestsSound, valuesSound, runnableSound, variableSound, isStored, elementSound, isOutcome, doneSound, operationSound, timerSound, slotSound, ofRunnable, slotsOf, timesIn, holders, isClient, queuedAs, servedAs, clientsAs, runnablesSound, variablesSound, elementsSound, operationsSound, timersSound, slotsSound, shaped, soundOf}
 use Rattle.keep.specs.Facts.{Counted, Held, Clients, Sound}
-use Rattle.keep.proofs.Configured.{init-there, init-plain}
+use Rattle.rules.proofs.Configured.{init-there, init-plain}
 use Rattle.keep.proofs.Told.{made, shape-made}
 use Rattle.keep.proofs.Runnables.{sits-made}
 use Rattle.keep.proofs.Slots.{blank-slot}

@@ -15,25 +15,25 @@ use Rattle.state.specs.declared.State.{State}
 use Rattle.state.specs.Parts.{noVariable, noTimer}
 use Rattle.state.specs.Tables.{variableIn, timerIn, withVariable, withTimer}
 use Rattle.rules.specs.Sound.{variableSound, variablesSound, timerSound, timersSound}
-use Rattle.rules.specs.Steps.{timerAfter, timersAfter}
+use Rattle.effects.specs.Steps.{stored, ticked, timerAfter, timersAfter, waited}
 use Rattle.keep.specs.Facts.{Sound, CanWriteVariable, CanTick, CanWait}
 
 -- ---- step by step
 
 module _ (cfg : Config) (st : State) where
-  pub write-variable-keeps-variables : (i v : ℕ) (x : Value) → Sound cfg st → CanWriteVariable cfg st i v x → variablesSound cfg (withVariable (st .variables) v (record { value = x })) ≡ true
+  pub write-variable-keeps-variables : (i v : ℕ) (x : Value) → Sound cfg st → CanWriteVariable cfg st i v x → variablesSound cfg (stored st v x .variables) ≡ true
   unfolding variablesSound variableSound variableIn withVariable
   write-variable-keeps-variables i v x s z =
       all-put (λ k y. variableSound cfg k y) (st .variables .at) v maxVariableConfs (record { value = x }) noVariable (s .variables) (rw (lt-ltb v (cfg .variables .n) (z .inside)) (z .payload))
 
-  pub tick-keeps-timers : (t : ℕ) → Sound cfg st → CanTick cfg st t → timersSound cfg (withTimer (st .timers) t (record { count = timerConfIn (cfg .timers) t .period })) ≡ true
+  pub tick-keeps-timers : (t : ℕ) → Sound cfg st → CanTick cfg st t → timersSound cfg (ticked cfg st t .timers) ≡ true
   unfolding timersSound timerSound timerIn withTimer
   tick-keeps-timers t s z =
       all-put (λ k y. timerSound cfg k y) (st .timers .at) t maxTimerConfs (record { count = timerConfIn (cfg .timers) t .period }) noTimer (s .timers)
       (le-leb (timerConfIn (cfg .timers) t .period) (timerConfIn (cfg .timers) t .period) (omega arith))
 
-  pub wait-keeps-timers : (t : ℕ) → Sound cfg st → CanWait cfg st t → timersSound cfg (timersAfter cfg (st .timers) t) ≡ true
-  unfolding timersSound timerSound timerIn timersAfter
+  pub wait-keeps-timers : (t : ℕ) → Sound cfg st → CanWait cfg st t → timersSound cfg (waited cfg st t .timers) ≡ true
+  unfolding waited timersSound timerSound timerIn timersAfter
   wait-keeps-timers t s z =
       all-each (λ (k : ℕ) (x : Timer). timerAfter t x) noTimer (λ k y. timerSound cfg k y) (cfg .timers .n) maxTimerConfs (st .timers .at) (s .timers)
       (λ k b c h. le-leb (getD (st .timers .at) k noTimer .count - t) (timerConfIn (cfg .timers) k .period) (omega (arith, leb-true (getD (st .timers .at) k noTimer .count) (timerConfIn (cfg .timers) k .period) h)))

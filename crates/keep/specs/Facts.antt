@@ -16,11 +16,11 @@ use Rattle.state.specs.declared.Areas.{Areas}
 use Rattle.state.specs.declared.Operations.{Operations}
 use Rattle.state.specs.declared.Slots.{Slots}
 use Rattle.state.specs.declared.State.{State}
-use Rattle.state.specs.Parts.{noClient}
+use Rattle.state.specs.Parts.{lastNumber, noClient}
 use Rattle.state.specs.Tables.{maxSlots, runnableIn, areaIn, elementIn, operationIn, timerIn, slotIn}
 use Rattle.state.specs.Queues.{topArea}
 use Rattle.rules.specs.Sound.{componentOf, slotsOf, holders, clientsAs, numbered, shaped, runnablesSound, variablesSound, elementsSound, operationsSound, timersSound, slotsSound}
-use Rattle.rules.specs.Steps.{isDue, lowestEmpty, operationsLet, timersLet, runnablesLet}
+use Rattle.effects.specs.Steps.{isTaken, isOpen, serves, isDue, lowestEmpty, operationsLet, timersLet, runnablesLet}
 
 -- ---- the clauses over two tables and more, at every place
 
@@ -40,6 +40,17 @@ pub record Clients (os : Operations) (rs : Runnables) (ss : Slots) : Type 0 wher
   pub served : (k : ℕ) → k < maxSlots → slotIn ss k .owed .serving ≡ true → numbered os (slotIn ss k .owed .client) ≡ true
   pub called : (o : ℕ) → o < maxOperationConfs → operationIn os o .calling ≡ true → clientsAs rs ss o (operationIn os o .number) ≡ 1
 
+-- ---- the same of a state
+
+abbrev pub CountedIn : State → Type 0
+CountedIn st = Counted (st .runnables) (st .slots)
+
+abbrev pub HeldIn : Config → State → Type 0
+HeldIn cfg st = Held cfg (st .areas) (st .slots)
+
+abbrev pub ClientsIn : State → Type 0
+ClientsIn st = Clients (st .operations) (st .runnables) (st .slots)
+
 -- ---- a sound state
 
 -- all clauses, one a field
@@ -52,9 +63,9 @@ pub record Sound (cfg : Config) (st : State) : Type 0 where
   pub operations : operationsSound cfg (st .operations) ≡ true
   pub timers : timersSound cfg (st .timers) ≡ true
   pub slots : slotsSound cfg (st .slots) ≡ true
-  pub counts : Counted (st .runnables) (st .slots)
-  pub areas : Held cfg (st .areas) (st .slots)
-  pub clients : Clients (st .operations) (st .runnables) (st .slots)
+  pub counts : CountedIn st
+  pub areas : HeldIn cfg st
+  pub clients : ClientsIn st
 
 -- ---- what a step may rely on
 
@@ -79,7 +90,7 @@ pub record CanEnter (cfg : Config) (st : State) (i a : ℕ) : Type 0 where
   pub who : Acts st i
   pub inside : a < cfg .areas .n
   pub own : areaConfIn (cfg .areas) a .component ≡ componentOf cfg (slotIn (st .slots) i .life .runnable)
-  pub free : areaIn (st .areas) a .taken ≡ false
+  pub free : isTaken st a ≡ false
 
 -- the area on top of the own stack
 pub record CanExit (cfg : Config) (st : State) (i a : ℕ) : Type 0 where
@@ -119,8 +130,8 @@ pub record CanCall (cfg : Config) (st : State) (i o : ℕ) (v : Value) : Type 0 
   pub inside : o < cfg .operations .n
   pub own : operationConfIn (cfg .operations) o .component ≡ componentOf cfg (slotIn (st .slots) i .life .runnable)
   pub payload : isPayload v ≡ true
-  pub shut : operationIn (st .operations) o .calling ≡ false
-  pub number : operationIn (st .operations) o .number ≡ 65535 → ⊥
+  pub shut : isOpen st o ≡ false
+  pub number : operationIn (st .operations) o .number ≡ lastNumber → ⊥
   pub room : runnableIn (st .runnables) (operationConfIn (cfg .operations) o .server) .requests .queued < runnableConfIn (cfg .runnables) (operationConfIn (cfg .operations) o .server) .capacity
 
 -- a synchronous result that is given
@@ -129,18 +140,18 @@ pub record CanCollect (cfg : Config) (st : State) (i o : ℕ) : Type 0 where
   pub inside : o < cfg .operations .n
   pub waiting : slotIn (st .slots) i .life .waiting ≡ true
   pub on : slotIn (st .slots) i .life .on ≡ o
-  pub shut : operationIn (st .operations) o .calling ≡ false
+  pub shut : isOpen st o ≡ false
 
 -- a payload for the client that is served
 pub record CanHandBack (cfg : Config) (st : State) (i : ℕ) (v : Value) : Type 0 where
   pub who : Acts st i
   pub payload : isPayload v ≡ true
-  pub serving : slotIn (st .slots) i .owed .serving ≡ true
+  pub serving : serves st i ≡ true
 
 -- neither a client nor an area is left
 pub record CanEnd (st : State) (i : ℕ) : Type 0 where
   pub there : There st i
-  pub none : slotIn (st .slots) i .owed .serving ≡ false
+  pub none : serves st i ≡ false
   pub flat : slotIn (st .slots) i .stack .held ≡ 0
 
 -- the three needs of a spawn, and an empty slot
@@ -154,7 +165,7 @@ pub record CanSpawn (cfg : Config) (st : State) (r : ℕ) : Type 0 where
 -- an open call whose time is up
 pub record CanTimeout (cfg : Config) (st : State) (o : ℕ) : Type 0 where
   pub inside : o < cfg .operations .n
-  pub calling : operationIn (st .operations) o .calling ≡ true
+  pub calling : isOpen st o ≡ true
   pub zero : operationIn (st .operations) o .count ≡ 0
 
 -- a timer that has run down

@@ -37,6 +37,13 @@ pub both-no : (a b : Bool) → b ≡ false → both a b ≡ false
 both-no true b h = h
 both-no false b h = refl
 
+-- four tests, two and two
+pub both-swap : (a b c d : Bool) → both (both a b) (both c d) ≡ both (both a c) (both b d)
+both-swap true true c d = refl
+both-swap true false true d = refl
+both-swap true false false d = refl
+both-swap false b c d = refl
+
 -- the last test of a list decides
 pub both-true : (b : Bool) → b ≡ both b true
 both-true true = refl

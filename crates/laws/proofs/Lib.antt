@@ -2,3 +2,4 @@
 pub mod Choosing
 pub mod Looping
 pub mod Places
+pub mod Twice

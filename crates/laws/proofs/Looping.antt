@@ -9,9 +9,9 @@ use native.Mathlib.Numerals.{add-one}
 use native.Mathlib.Omega.{arith}
 use lib.Dec.{ltb, eqb}
 use borrow.Author.Tests.{lt-ltb, le-ltb, ltb-true, eq-eqb, ne-eqb}
-use Rattle.laws.specs.Choice.{pick, bit}
+use Rattle.laws.specs.Choice.{pick, both, bit}
 use Rattle.laws.specs.Loop.{allBelow, anyBelow, sumBelow, countBelow, firstBelow}
-use Rattle.laws.proofs.Choosing.{both-left, both-right, both-no, either-more, either-right, bit-most, clash}
+use Rattle.laws.proofs.Choosing.{both-left, both-right, both-no, both-swap, either-more, either-right, bit-most, clash}
 
 -- ---- all
 
@@ -44,6 +44,17 @@ all-fails p (suc n) k l h =
     ⊎-elim (λ e. both-no (allBelow p n) (p n) (ap p (sym e) ∙ h))
     (λ m. rw (all-fails p n k m h))
     (eq-or-lt-of-le (le-of-suc-le-suc l))
+
+pub all-same : (p q : ℕ → Bool) (n : ℕ) → ((k : ℕ) → k < n → p k ≡ q k) → allBelow p n ≡ allBelow q n
+unfolding allBelow
+all-same p q zero h = refl
+all-same p q (suc n) h = rw (all-same p q n (λ k l. h k (omega arith)), h n (omega arith))
+
+-- two tests of each place, joined
+pub all-both : (p q : ℕ → Bool) (n : ℕ) → allBelow (λ (k : ℕ). both (p k) (q k)) n ≡ both (allBelow p n) (allBelow q n)
+unfolding allBelow
+all-both p q zero = refl
+all-both p q (suc n) = rw (all-both p q n) (both-swap (allBelow p n) (allBelow q n) (p n) (q n))
 
 -- ---- any
 

@@ -80,13 +80,13 @@ pub fn put_line(
     let room = buf.len();
     let long = word.len();
     if room < long {
-        return Wrote::Refused(27);
+        return Wrote::Refused(numbers::NO_ROOM);
     }
     if room - long < size {
-        return Wrote::Refused(27);
+        return Wrote::Refused(numbers::NO_ROOM);
     }
     if room - long - size < at {
-        return Wrote::Refused(27);
+        return Wrote::Refused(numbers::NO_ROOM);
     }
     wire::write(buf, at, word);
     wire::write(buf, at + long, &tail[..size])

@@ -150,7 +150,7 @@ fn long_line(config: &[u8], part: &mut [u8]) -> Came
     let r = reading::read_config(config);
     let o = r.outcome;
     match o {
-        Outcome::Refused(k, place) => Came::To(Line::Configuration(place, k)),
+        Outcome::Refused(place, k) => Came::To(Line::Configuration(place, k)),
         Outcome::Whole => judge_parts(r.config, part),
     }
 }

@@ -1,7 +1,7 @@
 // One step: refusals 2 to 5, what it does by its code, its claim, and before all the test of soundness.
 ghost use mathlib.Core.Path.{_≡_};
-ghost use Rattle.rules.specs.Step.{possibleOf, innerOf, stepOf};
-ghost use Rattle.machine.specs.Going.{refusalOf};
+ghost use Rattle.rules.specs.Refusals.{refusalOf};
+ghost use Rattle.effects.specs.Step.{possibleOf, innerOf, stepOf};
 use config::Config;
 use state::Slots;
 use state::State;
@@ -9,15 +9,15 @@ use state::Stepped;
 use values::Answer;
 use values::Step;
 
-// The first of refusals 2 to 5 that holds, or 0. A code is of a slot's step, 1 to 14, or of the scheduler's, 15 to 18; any other is 2.
+// The first of refusals 2 to 5 that holds, or 0. A code is of a slot's step or of the scheduler's; any other is 2.
 fn refusal(cfg: Config, slots: Slots, s: Step) -> u8
     ensures { λ r. ⌜ r ≡ refusalOf cfg slots s ⌝ }
 {
     let code = s.code;
     match code {
-        1..=14 => gate::instance_refusal(cfg, slots, s),
-        15..=18 => gate::scheduler_refusal(cfg, s),
-        _ => 2,
+        numbers::CODE_READ_VARIABLE..=numbers::CODE_END => gate::instance_refusal(cfg, slots, s),
+        numbers::CODE_SPAWN..=numbers::CODE_WAIT => gate::scheduler_refusal(cfg, s),
+        _ => numbers::MALFORMED,
     }
 }
 
@@ -33,27 +33,27 @@ pub fn possible(cfg: Config, st: State, s: Step) -> Stepped
         let k = s.what;
         let v = s.argument;
         return match code {
-            1 => steps::read_variable(st, k),
-            2 => steps::write_variable(st, k, v),
-            3 => steps::enter(st, i, k),
-            4 => steps::exit(st, i, k),
-            5 => steps::read(st, k),
-            6 => steps::write(cfg, st, k, v),
-            7 => steps::updated(st, k),
-            8 => steps::invalidate(cfg, st, k),
-            9 => steps::receive(st, k),
-            10 => steps::send(cfg, st, k, v),
-            11 => steps::call(cfg, st, i, k, v),
-            12 => steps::result(cfg, st, i, k),
-            13 => steps::hand_back(cfg, st, i, v),
-            14 => steps::end(st, i),
-            15 => steps::spawn(cfg, st, k),
-            16 => steps::timeout(cfg, st, k),
-            17 => steps::tick(cfg, st, k),
-            _ => steps::wait(cfg, st, v.number),
+            numbers::CODE_READ_VARIABLE => data_steps::read_variable(st, k),
+            numbers::CODE_WRITE_VARIABLE => data_steps::write_variable(st, k, v),
+            numbers::CODE_ENTER => data_steps::enter(st, i, k),
+            numbers::CODE_EXIT => data_steps::exit(st, i, k),
+            numbers::CODE_READ => data_steps::read(st, k),
+            numbers::CODE_WRITE => data_steps::write(cfg, st, k, v),
+            numbers::CODE_UPDATED => data_steps::updated(st, k),
+            numbers::CODE_INVALIDATE => data_steps::invalidate(cfg, st, k),
+            numbers::CODE_RECEIVE => data_steps::receive(st, k),
+            numbers::CODE_SEND => data_steps::send(cfg, st, k, v),
+            numbers::CODE_CALL => call_steps::call(cfg, st, i, k, v),
+            numbers::CODE_RESULT => call_steps::result(cfg, st, i, k),
+            numbers::CODE_HAND_BACK => call_steps::hand_back(cfg, st, i, v),
+            numbers::CODE_END => call_steps::end(st, i),
+            numbers::CODE_SPAWN => time_steps::spawn(cfg, st, k),
+            numbers::CODE_TIMEOUT => call_steps::timeout(cfg, st, k),
+            numbers::CODE_TICK => time_steps::tick(cfg, st, k),
+            _ => time_steps::wait(cfg, st, v.number),
         };
     }
-    steps::refuse(n, st)
+    shared_steps::refuse(n, st)
 }
 
 // The step without the test of soundness, for a state that is known to be sound. 17: it could be taken, and would answer something else than it claims.
@@ -69,7 +69,7 @@ pub fn inner(cfg: Config, st: State, s: Step) -> Stepped
     if v.same(claim) {
         return r;
     }
-    steps::refuse(17, st)
+    shared_steps::refuse(numbers::OTHER_ANSWER, st)
 }
 
 // The step: soundness first.
@@ -79,5 +79,5 @@ pub fn step(cfg: Config, st: State, s: Step) -> Stepped
     if sound::is_sound(cfg, st) {
         return inner(cfg, st, s);
     }
-    steps::refuse(1, st)
+    shared_steps::refuse(numbers::NOT_SOUND, st)
 }

@@ -12,7 +12,7 @@ use Rattle.config.specs.declared.Config.{Config}
 use Rattle.state.specs.declared.State.{State}
 use Rattle.state.specs.declared.Stepped.{Stepped}
 use Rattle.rules.specs.Sound.{soundOf}
-use Rattle.rules.specs.Step.{stepOf}
+use Rattle.effects.specs.Step.{stepOf}
 use Rattle.recording.specs.Whole.{stepsIn}
 use Rattle.gaps.specs.declared.Mended.the-variants.{Refused}
 use Rattle.gaps.specs.Gaps.{Turn, sequencesOf, fills, rankOf, canFill, fillOf, turnOf, turnSteps, turnsOf, stateAfter, mendedSteps}

@@ -11,7 +11,7 @@ use Rattle.values.specs.declared.Step.{Step}
 use Rattle.config.specs.declared.Config.{Config}
 use Rattle.state.specs.declared.State.{State}
 use Rattle.state.specs.declared.Stepped.{Stepped}
-use Rattle.rules.specs.Step.{stepOf}
+use Rattle.effects.specs.Step.{stepOf}
 use Rattle.history.specs.Promises.{Accepted}
 use Rattle.history.proofs.Runs.{halves, first}
 use Rattle.gaps.specs.Gaps.{choice, answered, canFill, fillOf, answeredAll, Turn, turnOf, turnsOf, stateAfter, mendedSteps}

@@ -11,7 +11,7 @@ use Rattle.values.specs.declared.Answer.{Answer}
 use Rattle.values.specs.declared.Answer.the-variants.{Taken, Refused as Barred}
 use Rattle.config.specs.declared.Config.{Config}
 use Rattle.state.specs.declared.State.{State}
-use Rattle.rules.specs.Step.{stepOf}
+use Rattle.effects.specs.Step.{stepOf}
 use Rattle.history.specs.Promises.{Answers, Accepted}
 use Rattle.history.proofs.Runs.{of-taken, taken-of, joined}
 use Rattle.promises.proofs.Counted.{taken-claims}

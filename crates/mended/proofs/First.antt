@@ -14,8 +14,8 @@ use Rattle.state.specs.declared.State.{State}
 use Rattle.entries.specs.Entries.{maxOf, countOf}
 use Rattle.entries.specs.Faults.{configSound}
 use Rattle.entries.proofs.Kind.{config-told}
-use Rattle.rules.specs.Step.{stepOf}
-use Rattle.keep.proofs.Configured.{runnables-most, operations-most}
+use Rattle.effects.specs.Step.{stepOf}
+use Rattle.rules.proofs.Configured.{runnables-most, operations-most}
 use Rattle.history.specs.Promises.{Answers, Accepted}
 use Rattle.history.proofs.Runs.{of-taken, halves}
 use Rattle.gaps.specs.Orders.{sequences, upToThree}

@@ -8,13 +8,14 @@ use mathlib.Core.Path.{_≡_, refl, sym, ap, subst, _∙_}
 use native.Mathlib.Omega.{arith}
 use lib.ListN.{length}
 use borrow.Author.Tests.{ltb-true}
+use Rattle.numbers.specs.Codes.{spawnCode, timeoutCode, tickCode}
 use Rattle.values.specs.declared.Step.{Step}
 use Rattle.config.specs.declared.Config.{Config}
 use Rattle.state.specs.declared.State.{State}
 use Rattle.state.specs.declared.Stepped.{Stepped}
 use Rattle.state.specs.Start.{startOf}
 use Rattle.rules.specs.Sound.{soundOf}
-use Rattle.rules.specs.Step.{stepOf}
+use Rattle.effects.specs.Step.{stepOf}
 use Rattle.keep.proofs.Told.{told}
 use Rattle.wire.specs.Bytes.{endBytes}
 use Rattle.wire.proofs.Laws.{Bytes}
@@ -30,7 +31,7 @@ use Rattle.history.proofs.Runs.{taken-of}
 use Rattle.gaps.specs.declared.Mended.the-variants.{Whole}
 use Rattle.gaps.specs.Gaps.{sequencesOf, answered, rankOf, canFill, fillOf, answeredAll, turnOf, turnSteps, turnsOf, stateAfter, mendedSteps}
 use Rattle.gaps.specs.Report.{noteCount, mendTo}
-use Rattle.gaps.proofs.Answers.{answered-recorded}
+use Rattle.gaps.proofs.Answers.{spawn, timeout, tick, answered-recorded}
 use Rattle.gaps.proofs.Members.{at-member}
 use Rattle.history.proofs.Together.{demand3}
 use Rattle.mended.specs.Claims.{turnsIn, mended, ChoiceOf, AllMended, Outcome, unsound, unfilled, unread, short, whole, MendedIsAccepted, MendedIsRun, MendedKeeps}
@@ -46,9 +47,9 @@ each-append [] ys h g = g
 each-append (x ∷ xs) ys h g = (h .0, each-append xs ys (h .1) g)
 
 choice-recorded : (cfg : Config) (st : State) (x : Step) → ChoiceOf cfg x → Recorded (answered cfg st x)
-choice-recorded cfg st x (inl h) = subst (λ (y : Step). Recorded (answered cfg st y)) (sym (h .2)) (answered-recorded cfg st 15 (h .0) (omega arith))
-choice-recorded cfg st x (inr (inl h)) = subst (λ (y : Step). Recorded (answered cfg st y)) (sym (h .2)) (answered-recorded cfg st 16 (h .0) (omega arith))
-choice-recorded cfg st x (inr (inr h)) = subst (λ (y : Step). Recorded (answered cfg st y)) (sym (h .2)) (answered-recorded cfg st 17 (h .0) (omega arith))
+choice-recorded cfg st x (inl h) = subst (λ (y : Step). Recorded (answered cfg st y)) (sym (h .2)) (answered-recorded cfg st spawnCode (h .0) spawn)
+choice-recorded cfg st x (inr (inl h)) = subst (λ (y : Step). Recorded (answered cfg st y)) (sym (h .2)) (answered-recorded cfg st timeoutCode (h .0) timeout)
+choice-recorded cfg st x (inr (inr h)) = subst (λ (y : Step). Recorded (answered cfg st y)) (sym (h .2)) (answered-recorded cfg st tickCode (h .0) tick)
 
 module _ (f : State → Step → Stepped) (cfg : Config) where
   answered-all-recorded : (st : State) (q : List Step) → ((x : Step) → List·Memᴰ x q → ChoiceOf cfg x) → EachRecorded (answeredAll f cfg st q)

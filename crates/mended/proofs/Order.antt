@@ -7,6 +7,7 @@ use mathlib.Core.Path.{_≡_, refl, sym, ap, subst, _∙_}
 use native.Mathlib.Nat.{not-suc-le-zero}
 use native.Mathlib.Omega.{arith}
 use lib.ListN.{length, getD, length-append}
+use Rattle.numbers.specs.Codes.{spawnCode, timeoutCode, tickCode}
 use Rattle.values.specs.declared.Step.{Step}
 use Rattle.gaps.specs.declared.Choices.{Choices}
 use Rattle.gaps.specs.Orders.{each, behind, sequences, upToThree}
@@ -46,10 +47,10 @@ module _ {A : Type 0} (R : A → A → Type 0) where
 pub choices-rise : (n : Choices) → Rising Earlier (choicesIn n)
 unfolding choicesIn
 choices-rise n =
-    rising-append Earlier (each (choice 15) (n .spawns)) (each (choice 16) (n .timeouts) ++ each (choice 17) (n .ticks)) (parts 15 (n .spawns))
-    (rising-append Earlier (each (choice 16) (n .timeouts)) (each (choice 17) (n .ticks)) (parts 16 (n .timeouts)) (parts 17 (n .ticks)) (λ x y j k. apart 16 17 (n .timeouts) (n .ticks) (omega arith) x y j k))
-    (λ x y j k. ⊎-elim (λ (l : List·Memᴰ y (each (choice 16) (n .timeouts))). apart 15 16 (n .spawns) (n .timeouts) (omega arith) x y j l)
-    (λ (l : List·Memᴰ y (each (choice 17) (n .ticks))). apart 15 17 (n .spawns) (n .ticks) (omega arith) x y j l) (List·Memᴰ·append-cases (each (choice 16) (n .timeouts)) k))
+    rising-append Earlier (each (choice spawnCode) (n .spawns)) (each (choice timeoutCode) (n .timeouts) ++ each (choice tickCode) (n .ticks)) (parts 15 (n .spawns))
+    (rising-append Earlier (each (choice timeoutCode) (n .timeouts)) (each (choice tickCode) (n .ticks)) (parts 16 (n .timeouts)) (parts 17 (n .ticks)) (λ x y j k. apart 16 17 (n .timeouts) (n .ticks) (omega arith) x y j k))
+    (λ x y j k. ⊎-elim (λ (l : List·Memᴰ y (each (choice timeoutCode) (n .timeouts))). apart 15 16 (n .spawns) (n .timeouts) (omega arith) x y j l)
+    (λ (l : List·Memᴰ y (each (choice tickCode) (n .ticks))). apart 15 17 (n .spawns) (n .ticks) (omega arith) x y j l) (List·Memᴰ·append-cases (each (choice timeoutCode) (n .timeouts)) k))
   where
     parts : (code m : ℕ) → Rising Earlier (each (choice code) m)
     parts code m = rising-each Earlier (choice code) m (λ i j l. inr (refl, l))

@@ -2,17 +2,17 @@
 -- the recorded step, and where nothing is found nothing leads there.
 -- Assumes nothing.
 use Prim.Native.Nat.{ℕ, _≤_, _<_}
-use mathlib.Core.Bool.{Bool, true, false}
+use mathlib.Core.Bool.{true}
 use mathlib.Core.List.{List, [], _∷_, _++_, map, List·Memᴰ, List·Memᴰ·head, List·Memᴰ·tail, List·Memᴰ·not-nil, List·Memᴰ·cases-cons, Memᴰ·append-right}
 use mathlib.Core.Logic.{_⊎_, inl, inr, ⊎-elim}
 use mathlib.Core.Path.{_≡_, refl, sym, ap, subst, _∙_}
-use native.Mathlib.Decide.{decLt}
+use native.Mathlib.Decide.{ℕ-discrete, decLt}
 use native.Mathlib.Omega.{arith}
-use lib.Dec.{ltb, eqb}
+use lib.Dec.{eqb}
 use lib.ListN.{length, getD, length-map}
-use borrow.Author.Tests.{ltb-true, eqb-true, le-ltb, lt-ltb}
-use Rattle.laws.specs.Choice.{pick, both, either}
-use Rattle.laws.proofs.Choosing.{clash, both-left, both-right, pick-on}
+use borrow.Author.Tests.{ltb-true, eqb-true}
+use Rattle.numbers.specs.Codes.{spawnCode, timeoutCode, tickCode}
+use Rattle.laws.proofs.Choosing.{clash, both-left, both-right}
 use Rattle.values.specs.declared.Value.{Value}
 use Rattle.values.specs.declared.Step.{Step}
 use Rattle.values.specs.declared.Answer.the-variants.{Taken}
@@ -21,14 +21,16 @@ use Rattle.config.specs.declared.Config.{Config}
 use Rattle.state.specs.declared.State.{State}
 use Rattle.state.specs.declared.Stepped.{Stepped}
 use Rattle.entries.specs.Entries.{countOf}
-use Rattle.rules.specs.Refusals.{parts, arguments, partOf, argumentOf, argues, formed, partThere, schedulerRefusal}
-use Rattle.rules.specs.Steps.{refused}
-use Rattle.rules.specs.Step.{schedulerActOf, schedulerStepOf, possibleOf, stepOf}
-use Rattle.keep.proofs.Says.{run-told}
+use Rattle.rules.specs.Rows.{scheduler, rows, rowOf}
+use Rattle.rules.specs.Refusals.{argues, formed, partThere}
+use Rattle.effects.specs.Step.{possibleOf, stepOf}
+use Rattle.effects.proofs.Codes.{possible-let}
+use Rattle.keep.proofs.Says.{LetRun, run-told}
+use Rattle.keep.proofs.Accepted.{accepted}
 use Rattle.history.specs.Promises.{Accepted}
 use Rattle.history.proofs.Runs.{taken-of}
-use Rattle.history.proofs.Accepts.{never, accepted}
 use Rattle.gaps.specs.Gaps.{choice, sequencesOf, answered, fills, answeredAll, Turn, turnsOf, stateAfter}
+use Rattle.gaps.proofs.Answers.{Chosen, spawn, timeout, tick}
 use Rattle.gaps.proofs.Same.{possible-claimed}
 use Rattle.gaps.proofs.Members.{member-at}
 use Rattle.gaps.proofs.Turns.{answered-length}
@@ -45,17 +47,34 @@ use Rattle.mended.proofs.Faithful.{inserted-are-few}
 bareOf : Step → Step
 bareOf x = choice (x .code) (x .what)
 
-three-codes : (c : ℕ) → 15 ≤ c → c ≤ 17 → (c ≡ 15) ⊎ ((c ≡ 16) ⊎ (c ≡ 17))
-three-codes c l h = go (decLt c 16) (decLt c 17)
+-- its code is that of a choice
+chosen : (c : ℕ) → spawnCode ≤ c → c ≤ tickCode → Chosen c
+chosen c l h = go (ℕ-discrete c spawnCode) (ℕ-discrete c timeoutCode)
   where
-    go : Dec (c < 16) → Dec (c < 17) → (c ≡ 15) ⊎ ((c ≡ 16) ⊎ (c ≡ 17))
-    go (yes a) b = inl (omega arith)
-    go (no a) (yes b) = inr (inl (omega arith))
-    go (no a) (no b) = inr (inr (omega arith))
+    go : Dec (c ≡ spawnCode) → Dec (c ≡ timeoutCode) → Chosen c
+    go (yes e) b = rw e spawn
+    go (no a) (yes e) = rw e timeout
+    go (no a) (no b) = let e : c ≡ tickCode = omega (arith, l, h, a, b) in rw e tick
 
-no-argument : (c : ℕ) → 15 ≤ c → c ≤ 17 → argumentOf c ≡ 0
-unfolding argumentOf arguments
-no-argument c l h = ⊎-elim (λ (e : c ≡ 15). rw e) (λ (r : (c ≡ 16) ⊎ (c ≡ 17)). ⊎-elim (λ (e : c ≡ 16). rw e) (λ (e : c ≡ 17). rw e) r) (three-codes c l h)
+-- a step of the scheduler, without an argument
+chosen-runs : {c : ℕ} → Chosen c → rowOf c .who ≡ scheduler
+unfolding rowOf rows
+chosen-runs spawn = refl
+chosen-runs timeout = refl
+chosen-runs tick = refl
+
+chosen-void : {c : ℕ} → Chosen c → (k : ℕ) (v : Value) → formed (rowOf c) k v ≡ true → isVoid v ≡ true
+unfolding rowOf rows formed argues
+chosen-void spawn k v f = f
+chosen-void timeout k v f = f
+chosen-void tick k v f = f
+
+-- about a part that is configured
+chosen-part : {c : ℕ} → Chosen c → (cfg : Config) (k : ℕ) → partThere cfg (rowOf c .part) k ≡ true → ChoiceOf cfg (choice c k)
+unfolding rowOf rows partThere countOf
+chosen-part spawn cfg k p = inl (k, ltb-true k (cfg .runnables .n) p, refl)
+chosen-part timeout cfg k p = inr (inl (k, ltb-true k (cfg .operations .n) p, refl))
+chosen-part tick cfg k p = inr (inr (k, ltb-true k (cfg .timers .n) p, refl))
 
 void-is : (v : Value) → isVoid v ≡ true → v ≡ voidV
 unfolding isVoid
@@ -64,43 +83,21 @@ void-is v h =
     let n : v .number ≡ 0 = eqb-true _ _ (both-right (eqb (v .kind) 0) _ h) in
     λ i. record { kind = k i; number = n i }
 
--- its unused entries are empty
-lost-form : (cfg : Config) (x : Step) → argumentOf (x .code) ≡ 0 → schedulerRefusal cfg x ≡ 0 → (x .who ≡ 0) × (x .argument ≡ voidV)
-unfolding schedulerRefusal formed argues
-lost-form cfg x e h =
-    let a = pick-on (both (eqb (x .who) 0) (formed (x .code) (x .what) (x .argument))) _ 2 0 h (λ q. omega (arith, q)) .0 in
-    let f : argues (argumentOf (x .code)) (x .argument) ≡ true = both-right (either (ltb 0 (partOf (x .code))) (eqb (x .what) 0)) _ (both-right (eqb (x .who) 0) _ a) in
-    (eqb-true _ _ (both-left (eqb (x .who) 0) _ a), void-is (x .argument) (rw e at f))
-
--- its part is configured
-lost-part : (cfg : Config) (c k : ℕ) → 15 ≤ c → c ≤ 17 → partThere cfg (partOf c) k ≡ true → ChoiceOf cfg (choice c k)
-unfolding partThere partOf parts countOf
-lost-part cfg c k l h p =
-    ⊎-elim (λ (e : c ≡ 15). inl (k, ltb-true k (cfg .runnables .n) (rw e at p), ap (λ (n : ℕ). choice n k) e))
-    (λ (r : (c ≡ 16) ⊎ (c ≡ 17)). ⊎-elim (λ (e : c ≡ 16). inr (inl (k, ltb-true k (cfg .operations .n) (rw e at p), ap (λ (n : ℕ). choice n k) e)))
-    (λ (e : c ≡ 17). inr (inr (k, ltb-true k (cfg .timers .n) (rw e at p), ap (λ (n : ℕ). choice n k) e))) r) (three-codes c l h)
-
-module _ (cfg : Config) (st : State) (x : Step) (low : 15 ≤ x .code) (high : x .code ≤ 17) (taken : stepOf cfg st x .answer ≡ Taken (x .claim)) where
+module _ (cfg : Config) (st : State) (x : Step) (low : spawnCode ≤ x .code) (high : x .code ≤ tickCode) (taken : stepOf cfg st x .answer ≡ Taken (x .claim)) where
   possible : possibleOf cfg st x .answer ≡ Taken (x .claim)
   possible = sym (ap (λ (r : Stepped). r .answer) (accepted cfg st x (x .claim) taken .1)) ∙ taken
 
-  let-through : schedulerRefusal cfg x ≡ 0
-  unfolding possibleOf schedulerStepOf
-  let-through = go (eqb (schedulerRefusal cfg x) 0) refl (rw (le-ltb (x .code) 1 (omega arith), le-ltb (x .code) 15 low, lt-ltb (x .code) 19 (omega arith)) at possible)
-    where
-      go : (b : Bool) → eqb (schedulerRefusal cfg x) 0 ≡ b → pick b (schedulerActOf cfg st (x .code) (x .what) (x .argument)) (refused (schedulerRefusal cfg x) st) .answer ≡ Taken (x .claim) → schedulerRefusal cfg x ≡ 0
-      go true e h = eqb-true _ _ e
-      go false e h = absurd (never h)
+  let-through : LetRun cfg (x .code) (x .who) (x .what) (x .argument)
+  let-through = run-told cfg st x refl (possible-let cfg st x possible) (chosen-runs (chosen (x .code) low high))
 
   pub lost-choice : ChoiceOf cfg (choice (x .code) (x .what))
-  lost-choice = lost-part cfg (x .code) (x .what) low high (run-told cfg x let-through .part)
+  lost-choice = chosen-part (chosen (x .code) low high) cfg (x .what) (let-through .part)
 
   -- with its answer as its claim
   pub lost-answered : x ≡ answered cfg st (choice (x .code) (x .what))
   lost-answered =
-      let f = lost-form cfg x (no-argument (x .code) low high) let-through in
-      let w = f .0 in
-      let a = f .1 in
+      let w = let-through .who in
+      let a = void-is (x .argument) (chosen-void (chosen (x .code) low high) (x .what) (x .argument) (let-through .form)) in
       let y : x ≡ record { code = x .code; who = 0; what = x .what; argument = voidV; claim = x .claim } = λ i. record { code = x .code; who = w i; what = x .what; argument = a i; claim = x .claim } in
       let p : possibleOf cfg st (choice (x .code) (x .what)) ≡ possibleOf cfg st x = sym (possible-claimed cfg st (choice (x .code) (x .what)) (x .claim)) ∙ ap (possibleOf cfg st) (sym y) in
       let c : x .claim ≡ valueIn (possibleOf cfg st (choice (x .code) (x .what)) .answer) = sym (ap (λ (r : Stepped). valueIn (r .answer)) p ∙ ap valueIn possible) in

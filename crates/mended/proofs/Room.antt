@@ -14,7 +14,7 @@ use Rattle.values.specs.declared.Step.{Step}
 use Rattle.config.specs.declared.Config.{Config}
 use Rattle.state.specs.declared.State.{State}
 use Rattle.state.specs.declared.Stepped.{Stepped}
-use Rattle.rules.specs.Step.{stepOf}
+use Rattle.effects.specs.Step.{stepOf}
 use Rattle.recording.specs.Whole.{Whole as Texted, stepsIn, isEnd, isSound}
 use Rattle.recording.proofs.OneField.{end-bytes}
 use Rattle.recording.proofs.Texts.{by-fields, step-shorter, whole-step, whole-end, whole-refused}

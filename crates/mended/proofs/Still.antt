@@ -11,7 +11,7 @@ use Rattle.values.specs.declared.Step.{Step}
 use Rattle.config.specs.declared.Config.{Config}
 use Rattle.state.specs.declared.State.{State}
 use Rattle.rules.specs.Sound.{soundOf}
-use Rattle.rules.specs.Step.{stepOf}
+use Rattle.effects.specs.Step.{stepOf}
 use Rattle.wire.specs.Bytes.{putAt}
 use Rattle.recording.specs.Whole.{Whole as Texted, stepsIn, isEnd, isSound, textOf}
 use Rattle.recording.proofs.Texts.{text-reads, text-again}

@@ -7,13 +7,16 @@ use mathlib.Core.List.{List, [], _∷_, _++_, map, List·Memᴰ}
 use mathlib.Core.Logic.{_↔_, _⊎_}
 use mathlib.Core.Path.{_≡_}
 use lib.ListN.{length, getD, drop}
+use Rattle.numbers.specs.Refusals.{noFill, notSound, badField, noRoom}
+use Rattle.numbers.specs.Codes.{spawnCode, timeoutCode, tickCode}
+use Rattle.numbers.specs.Tags.{stepSize, endSize}
 use Rattle.values.specs.declared.Step.{Step}
 use Rattle.config.specs.declared.Config.{Config}
 use Rattle.state.specs.declared.State.{State}
 use Rattle.state.specs.Start.{startOf}
 use Rattle.entries.specs.Faults.{configSound}
 use Rattle.rules.specs.Sound.{soundOf}
-use Rattle.rules.specs.Step.{stepOf}
+use Rattle.effects.specs.Step.{stepOf}
 use Rattle.wire.proofs.Laws.{Bytes}
 use Rattle.recording.specs.Recording.{pastIn}
 use Rattle.recording.specs.Whole.{wholeOf, stepsIn, isSound, textOf}
@@ -37,7 +40,7 @@ mended cfg st t = mendedSteps (turnsIn cfg st t)
 
 -- a step of the scheduler about a part that is configured, before it has an answer (W-209, codes 15, 16 and 17)
 abbrev pub ChoiceOf : Config → Step → Type 0
-ChoiceOf cfg x = ((k : ℕ) × (k < cfg .runnables .n) × (x ≡ choice 15 k)) ⊎ (((k : ℕ) × (k < cfg .operations .n) × (x ≡ choice 16 k)) ⊎ ((k : ℕ) × (k < cfg .timers .n) × (x ≡ choice 17 k)))
+ChoiceOf cfg x = ((k : ℕ) × (k < cfg .runnables .n) × (x ≡ choice spawnCode k)) ⊎ (((k : ℕ) × (k < cfg .operations .n) × (x ≡ choice timeoutCode k)) ⊎ ((k : ℕ) × (k < cfg .timers .n) × (x ≡ choice tickCode k)))
 
 -- the list has every sequence of at most three such steps, and no other (W-209, the fill)
 abbrev pub ListIsAll : Type 0
@@ -106,7 +109,7 @@ pub record Unfilled (cfg : Config) (st : State) (rs : List Step) (place : ℕ) :
 abbrev pub RefusedIsUnfilled : Type 0
 RefusedIsUnfilled =
     (cfg : Config) (st : State) (t b p : List ℕ) (place : ℕ)
-    → (mendTo cfg st t b p ≡ Refused place 31) ↔ ((soundOf cfg st ≡ true) × Unfilled cfg st (stepsIn t) place)
+    → (mendTo cfg st t b p ≡ Refused place noFill) ↔ ((soundOf cfg st ≡ true) × Unfilled cfg st (stepsIn t) place)
 
 -- ---- every answer, by cases
 
@@ -116,10 +119,10 @@ AllMended cfg st t = map (λ (x : Turn). x .kept) (turnsIn cfg st t) ≡ stepsIn
 
 -- the answer r, and why: 1 at place 0, 31, 18, 27 in this order, each exactly where the ones before it are not; else mended (W-209, refusals)
 pub data Outcome (cfg : Config) (st : State) (t b p : List ℕ) (r : Mended) : Type 0 where
-  unsound : soundOf cfg st ≡ false → r ≡ Refused 0 1 → Outcome cfg st t b p r
-  unfilled : (place : ℕ) → soundOf cfg st ≡ true → Unfilled cfg st (stepsIn t) place → r ≡ Refused place 31 → Outcome cfg st t b p r
-  unread : soundOf cfg st ≡ true → AllMended cfg st t → isSound t ≡ false → r ≡ Refused (length (stepsIn t) + 1 + pastIn (wholeOf t .last)) 18 → Outcome cfg st t b p r
-  short : soundOf cfg st ≡ true → AllMended cfg st t → isSound t ≡ true → ((length b < length (mended cfg st t) * 16 + 3) ⊎ (length p < noteCount (turnsIn cfg st t) * 16)) → r ≡ Refused 0 27 → Outcome cfg st t b p r
+  unsound : soundOf cfg st ≡ false → r ≡ Refused 0 notSound → Outcome cfg st t b p r
+  unfilled : (place : ℕ) → soundOf cfg st ≡ true → Unfilled cfg st (stepsIn t) place → r ≡ Refused place noFill → Outcome cfg st t b p r
+  unread : soundOf cfg st ≡ true → AllMended cfg st t → isSound t ≡ false → r ≡ Refused (length (stepsIn t) + 1 + pastIn (wholeOf t .last)) badField → Outcome cfg st t b p r
+  short : soundOf cfg st ≡ true → AllMended cfg st t → isSound t ≡ true → ((length b < length (mended cfg st t) * stepSize + endSize) ⊎ (length p < noteCount (turnsIn cfg st t) * 16)) → r ≡ Refused 0 noRoom → Outcome cfg st t b p r
   whole : soundOf cfg st ≡ true → AllMended cfg st t → isSound t ≡ true → length (mended cfg st t) * 16 + 3 ≤ length b → noteCount (turnsIn cfg st t) * 16 ≤ length p
       → r ≡ Whole (length (mended cfg st t)) (noteCount (turnsIn cfg st t)) → Outcome cfg st t b p r
 
@@ -131,7 +134,7 @@ AnswerByCases = (cfg : Config) (st : State) (t b p : List ℕ) → Outcome cfg s
 abbrev pub RefusalsAreFour : Type 0
 RefusalsAreFour =
     (cfg : Config) (st : State) (t b p : List ℕ) (place number : ℕ) → mendTo cfg st t b p ≡ Refused place number
-    → ((number ≡ 1) × (place ≡ 0)) ⊎ ((number ≡ 31) ⊎ ((number ≡ 18) ⊎ ((number ≡ 27) × (place ≡ 0))))
+    → ((number ≡ notSound) × (place ≡ 0)) ⊎ ((number ≡ noFill) ⊎ ((number ≡ badField) ⊎ ((number ≡ noRoom) × (place ≡ 0))))
 
 -- ---- accepted
 
@@ -165,7 +168,7 @@ MendedKeeps = (cfg : Config) (t b p : List ℕ) (n k : ℕ) → Bytes t → mend
 abbrev pub BuffersHold : Type 0
 BuffersHold =
     (cfg : Config) (st : State) (t b p : List ℕ) (n k : ℕ) → mendTo cfg st t b p ≡ Whole n k
-    → (mendWritten cfg st t b p ≡ textOf (mended cfg st t) ++ drop (n * 16 + 3) b) × (length (textOf (mended cfg st t)) ≡ n * 16 + 3)
+    → (mendWritten cfg st t b p ≡ textOf (mended cfg st t) ++ drop (n * stepSize + endSize) b) × (length (textOf (mended cfg st t)) ≡ n * stepSize + endSize)
     × (mendReported cfg st t b p ≡ reportFrom 0 (turnsIn cfg st t) ++ drop (k * 16) p) × (length (reportFrom 0 (turnsIn cfg st t)) ≡ k * 16)
 
 -- a refusal leaves every lent byte (W-209, refusals)
@@ -177,7 +180,7 @@ abbrev pub FourTimesSuffice : Type 0
 FourTimesSuffice =
     (cfg : Config) (st : State) (t b p : List ℕ)
     → (length (mended cfg st t) ≤ 4 * length (stepsIn t)) × (noteCount (turnsIn cfg st t) ≤ 4 * length (stepsIn t))
-    × (4 * length t ≤ length b → 4 * length t ≤ length p → (place : ℕ) → mendTo cfg st t b p ≡ Refused place 27 → ⊥)
+    × (4 * length t ≤ length b → 4 * length t ≤ length p → (place : ℕ) → mendTo cfg st t b p ≡ Refused place noRoom → ⊥)
 
 -- ---- still
 

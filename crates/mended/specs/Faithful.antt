@@ -12,7 +12,7 @@ use Rattle.values.specs.declared.Answer.the-variants.{Taken}
 use Rattle.values.specs.Values.{voidV}
 use Rattle.config.specs.declared.Config.{Config}
 use Rattle.state.specs.declared.State.{State}
-use Rattle.rules.specs.Step.{stepOf}
+use Rattle.effects.specs.Step.{stepOf}
 use Rattle.wire.specs.Bytes.{numberOf}
 use Rattle.wire.proofs.Laws.{Bytes}
 use Rattle.recording.specs.Whole.{stepsIn}

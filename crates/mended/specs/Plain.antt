@@ -8,7 +8,7 @@ use lib.ListN.{length}
 use Rattle.values.specs.declared.Step.{Step}
 use Rattle.config.specs.declared.Config.{Config}
 use Rattle.state.specs.declared.State.{State}
-use Rattle.rules.specs.Step.{stepOf}
+use Rattle.effects.specs.Step.{stepOf}
 use Rattle.history.specs.Promises.{Accepted}
 use Rattle.gaps.specs.Gaps.{Turn, turnsOf, mendedSteps}
 use Rattle.mended.specs.Claims.{Before, Unfilled}

@@ -28,7 +28,7 @@ module _ (c t b p : List ℕ) where
     long-recording h = let d = le-ltb maxConfig (length c) short in let e = lt-ltb maxRecording (length t) h in (rw (d, e), (rw (d, e), rw (d, e)))
 
     module _ (few : length t ≤ maxRecording) {g : Reading} (q : g ≡ configOf c) where
-      pub unread : (k place : ℕ) → g .outcome ≡ NotRead k place → (Configuration place k ≡ toldOf c t b p) × ((b ≡ toldText c t b p) × (p ≡ toldReport c t b p))
+      pub unread : (k place : ℕ) → g .outcome ≡ NotRead place k → (Configuration place k ≡ toldOf c t b p) × ((b ≡ toldText c t b p) × (p ≡ toldReport c t b p))
       unfolding toldOf toldText toldReport
       unread k place o =
           let d = le-ltb maxConfig (length c) short in

@@ -35,7 +35,7 @@ toldBy (Refused place number) = IsRefused place number
 -- by cases on what a configuration was read as
 abbrev pub onRead : {A : Type 0} → Outcome → A → (ℕ → ℕ → A) → A
 onRead Read a f = a
-onRead (NotRead k p) a f = f k p
+onRead (NotRead p k) a f = f k p
 
 -- one of the two files is longer than the program takes ("Judging", the program)
 abbrev pub isTooLong : List ℕ → List ℕ → Bool

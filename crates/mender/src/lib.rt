@@ -49,7 +49,7 @@ pub fn mend_files(config: &[u8], recording: &[u8], out: &mut [u8], report: &mut 
     let g = reading::read_config(config);
     let o = g.outcome;
     match o {
-        Outcome::Refused(k, place) => Told::Configuration(place, k),
+        Outcome::Refused(place, k) => Told::Configuration(place, k),
         Outcome::Whole => {
             let cfg = g.config;
             told_by(mending::mend(cfg, State::start(cfg), recording, out, report))

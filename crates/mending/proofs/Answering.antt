@@ -14,7 +14,7 @@ use Rattle.values.specs.declared.Step.{Step}
 use Rattle.config.specs.declared.Config.{Config}
 use Rattle.state.specs.declared.State.{State}
 use Rattle.rules.specs.Sound.{soundOf}
-use Rattle.rules.specs.Step.{innerOf, stepOf}
+use Rattle.effects.specs.Step.{innerOf, stepOf}
 use Rattle.wire.specs.Bytes.{putAt, wroteBytes}
 use Rattle.wire.proofs.Laws.{Bytes}
 use Rattle.recording.specs.declared.Field.{Field}
@@ -88,7 +88,7 @@ survey-told cfg st t n m h = go (eqb (length ts) (length (stepsIn t))) (wholeOf 
         → (length ts ≡ length (stepsIn t)) × (isSound t ≡ true)
     go true (IsStep s z) e l k = refuses k
     go true End e l k = (eqb-true _ _ e, ap isEnd l)
-    go true (NoField j p) e l k = refuses k
+    go true (NoField p j) e l k = refuses k
     go false f e l k = refuses k
 
 -- a recording that needs no mending is its own text, and the report is empty

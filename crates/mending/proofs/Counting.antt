@@ -10,6 +10,7 @@ use native.Mathlib.Omega.{arith}
 use lib.ListN.{length, getD, List·getD-append}
 use lib.Seq.{getD-append-add, getD-append-seam}
 use borrow.Author.Tests.{lt-ltb, le-ltb}
+use Rattle.numbers.specs.Codes.{spawnCode, timeoutCode, tickCode}
 use Rattle.values.specs.declared.Step.{Step}
 use Rattle.gaps.specs.declared.Choices.{Choices}
 use Rattle.gaps.specs.Orders.{each, sequences}
@@ -56,33 +57,33 @@ unfolding choiceAt choicesIn
 choice-is n k d ha hb hc h = go (decLt k (n .spawns)) (decLt k (n .spawns + n .timeouts))
   where
     l₁ : List Step
-    l₁ = each (choice 15) (n .spawns)
+    l₁ = each (choice spawnCode) (n .spawns)
 
     l₂ : List Step
-    l₂ = each (choice 16) (n .timeouts)
+    l₂ = each (choice timeoutCode) (n .timeouts)
 
     l₃ : List Step
-    l₃ = each (choice 17) (n .ticks)
+    l₃ = each (choice tickCode) (n .ticks)
 
     go : Dec (k < n .spawns) → Dec (k < n .spawns + n .timeouts) → choiceAt n k ≡ getD (l₁ ++ (l₂ ++ l₃)) k d
     go (yes p) q =
         rw (lt-ltb _ _ p, small k (omega arith))
-        (sym (List·getD-append l₁ (l₂ ++ l₃) d k (omega (arith, length-each (choice 15) (n .spawns))) ∙ at-each (choice 15) (n .spawns) k d p))
+        (sym (List·getD-append l₁ (l₂ ++ l₃) d k (omega (arith, length-each (choice spawnCode) (n .spawns))) ∙ at-each (choice spawnCode) (n .spawns) k d p))
     go (no p) (yes q) =
         let a : n .spawns ≤ k = omega (arith, p) in
         rw (le-ltb _ _ a, lt-ltb _ _ q, small (k - n .spawns) (omega arith))
-        (sym (at-second l₁ (l₂ ++ l₃) k (n .spawns) d (length-each (choice 15) (n .spawns)) a
-        ∙ List·getD-append l₂ l₃ d (k - n .spawns) (omega (arith, length-each (choice 16) (n .timeouts)))
-        ∙ at-each (choice 16) (n .timeouts) (k - n .spawns) d (omega arith)))
+        (sym (at-second l₁ (l₂ ++ l₃) k (n .spawns) d (length-each (choice spawnCode) (n .spawns)) a
+        ∙ List·getD-append l₂ l₃ d (k - n .spawns) (omega (arith, length-each (choice timeoutCode) (n .timeouts)))
+        ∙ at-each (choice timeoutCode) (n .timeouts) (k - n .spawns) d (omega arith)))
     go (no p) (no q) =
         let a : n .spawns ≤ k = omega (arith, p) in
         let b : n .spawns + n .timeouts ≤ k = omega (arith, q) in
         let e : k - n .spawns - n .timeouts ≡ k - (n .spawns + n .timeouts) = omega arith in
         rw (le-ltb _ _ a, le-ltb _ _ b, small (k - (n .spawns + n .timeouts)) (omega arith))
-        (sym (at-second l₁ (l₂ ++ l₃) k (n .spawns) d (length-each (choice 15) (n .spawns)) a
-        ∙ at-second l₂ l₃ (k - n .spawns) (n .timeouts) d (length-each (choice 16) (n .timeouts)) (omega arith)
+        (sym (at-second l₁ (l₂ ++ l₃) k (n .spawns) d (length-each (choice spawnCode) (n .spawns)) a
+        ∙ at-second l₂ l₃ (k - n .spawns) (n .timeouts) d (length-each (choice timeoutCode) (n .timeouts)) (omega arith)
         ∙ ap (λ (j : ℕ). getD l₃ j d) e
-        ∙ at-each (choice 17) (n .ticks) (k - (n .spawns + n .timeouts)) d (omega arith)))
+        ∙ at-each (choice tickCode) (n .ticks) (k - (n .spawns + n .timeouts)) d (omega arith)))
 
 -- ---- how many sequences
 

@@ -8,13 +8,14 @@ use native.Mathlib.Omega.{arith}
 use lib.ListN.{length, getD, length-append}
 use lib.Dec.{ltb}
 use borrow.Author.Tests.{ltb-true, ne-eqb}
+use Rattle.numbers.specs.Codes.{spawnCode, timeoutCode, tickCode}
 use Rattle.laws.specs.Choice.{pick}
 use Rattle.laws.proofs.Choosing.{pick-has}
 use Rattle.values.specs.declared.Step.{Step}
 use Rattle.config.specs.declared.Config.{Config}
 use Rattle.state.specs.declared.State.{State}
 use Rattle.state.specs.declared.Stepped.{Stepped}
-use Rattle.rules.specs.Step.{possibleOf, innerOf}
+use Rattle.effects.specs.Step.{possibleOf, innerOf}
 use Rattle.wire.specs.Bytes.{putAt, Written}
 use Rattle.wire.specs.declared.Wrote.{Wrote}
 use Rattle.recording.specs.Recording.{Recorded, bytesOf, stepWritten}
@@ -25,7 +26,7 @@ use Rattle.gaps.specs.Report.{stepNote, gapNote, stepNotes, turnNotes}
 use Rattle.gaps.proofs.Same.{answered-is}
 use Rattle.gaps.proofs.Reported.{notes-length, notes-one}
 use Rattle.gaps.proofs.Turns.{answered-length}
-use Rattle.gaps.proofs.Answers.{answered-recorded}
+use Rattle.gaps.proofs.Answers.{spawn, timeout, tick, answered-recorded}
 use Rattle.mending.specs.declared.Picks.{Picks}
 use Rattle.mending.specs.Going.{Counted, mostOf, choiceAt, picksOf, Fillable, crossedOf, picked, restOf, takenAll, claimingOf, fieldsOf, noteOf, Room}
 use Rattle.mending.proofs.Searching.{Passed}
@@ -38,10 +39,10 @@ pub choice-recorded : (cfg : Config) (st : State) (n : Choices) (k : ℕ) → Re
 unfolding choiceAt
 choice-recorded cfg st n k =
     pick-has (λ (x : Step). Recorded (answered cfg st x)) (ltb k (n .spawns)) _ _
-    (λ e. answered-recorded cfg st 15 _ (omega arith))
+    (λ e. answered-recorded cfg st spawnCode _ spawn)
     (λ e. pick-has (λ (x : Step). Recorded (answered cfg st x)) (ltb k (n .spawns + n .timeouts)) _ _
-    (λ d. answered-recorded cfg st 16 _ (omega arith))
-    (λ d. answered-recorded cfg st 17 _ (omega arith)))
+    (λ d. answered-recorded cfg st timeoutCode _ timeout)
+    (λ d. answered-recorded cfg st tickCode _ tick))
 
 module _ (cfg : Config) (all : Choices) (out₀ : List ℕ) (n : ℕ) (report₀ : List ℕ) (m : ℕ) (st : State) (fill : Picks) where
   pub record Filling (out report : List ℕ) (reached : State) (left : Picks) (done : ℕ) : Type 0 where

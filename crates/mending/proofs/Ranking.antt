@@ -14,7 +14,7 @@ use Rattle.values.specs.declared.Step.{Step}
 use Rattle.config.specs.declared.Config.{Config}
 use Rattle.state.specs.declared.State.{State}
 use Rattle.state.specs.declared.Stepped.{Stepped}
-use Rattle.rules.specs.Step.{possibleOf}
+use Rattle.effects.specs.Step.{possibleOf}
 use Rattle.gaps.specs.declared.Choices.{Choices}
 use Rattle.gaps.specs.Orders.{passedOver, behind, sequences, upToThree}
 use Rattle.gaps.specs.Gaps.{choicesIn}

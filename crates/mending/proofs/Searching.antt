@@ -13,7 +13,7 @@ use Rattle.values.specs.declared.Answer.the-variants.{Taken, Refused as Barred}
 use Rattle.config.specs.declared.Config.{Config}
 use Rattle.state.specs.declared.State.{State}
 use Rattle.state.specs.declared.Stepped.{Stepped}
-use Rattle.rules.specs.Step.{possibleOf, innerOf}
+use Rattle.effects.specs.Step.{possibleOf, innerOf}
 use Rattle.gaps.specs.declared.Choices.{Choices}
 use Rattle.gaps.specs.Orders.{passedOver, behind, sequences}
 use Rattle.gaps.specs.Gaps.{choicesIn, isTaken, fills}

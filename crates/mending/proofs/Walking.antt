@@ -19,7 +19,7 @@ use Rattle.values.specs.declared.Answer.the-variants.{Taken, Refused as Barred}
 use Rattle.config.specs.declared.Config.{Config}
 use Rattle.state.specs.declared.State.{State}
 use Rattle.state.specs.declared.Stepped.{Stepped}
-use Rattle.rules.specs.Step.{innerOf}
+use Rattle.effects.specs.Step.{innerOf}
 use Rattle.recording.proofs.Field.{the-type}
 use Rattle.recording.specs.declared.Field.{Field}
 use Rattle.recording.specs.declared.Field.the-variants.{Step as IsStep, End, Refused as NoField}
@@ -98,7 +98,7 @@ module _ (cfg : Config) (st : State) (t : List ℕ) (reached : State) (at : ℕ)
 pub no-step : (t : List ℕ) (f : Field) → OneOf (1 ∷ 2 ∷ []) (tagOf the-type f) → f ≡ fieldOf t → wholeOf t ≡ record { steps = []; last = f }
 no-step t (IsStep x n) p e = ⊎-elim (λ q. absurd (omega arith)) (λ q. absurd (omega arith)) p
 no-step t End p e = whole-end t (sym e)
-no-step t (NoField k n) p e = whole-refused t k n (sym e)
+no-step t (NoField n k) p e = whole-refused t k n (sym e)
 
 module _ (cfg : Config) (st : State) (t : List ℕ) (reached : State) (at : ℕ) (done : List Turn) (w : Along cfg st t reached at done) (f : Field) (e : wholeOf (drop at t) ≡ record { steps = []; last = f }) where
   over : turnsOf (innerOf cfg) cfg st (stepsIn t) ≡ done

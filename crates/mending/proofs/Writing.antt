@@ -15,7 +15,7 @@ use Rattle.values.specs.declared.Answer.the-variants.{Taken, Refused as Barred}
 use Rattle.config.specs.declared.Config.{Config}
 use Rattle.state.specs.declared.State.{State}
 use Rattle.state.specs.declared.Stepped.{Stepped}
-use Rattle.rules.specs.Step.{innerOf}
+use Rattle.effects.specs.Step.{innerOf}
 use Rattle.wire.specs.Bytes.{endBytes, putAt, Written}
 use Rattle.wire.specs.declared.Wrote.{Wrote}
 use Rattle.recording.specs.declared.Field.{Field}
@@ -51,7 +51,7 @@ survey-counts cfg st t n m h = go (eqb (length (turnsOf (innerOf cfg) cfg st (st
     go : (b : Bool) (f : Field) → pick b (onLast f (length (stepsIn t)) (Mends (length (mendedSteps ts)) (noteCount ts))) (Refused (length ts + 1) 31) ≡ Mends n m → (n ≡ length (mendedSteps ts)) × (m ≡ noteCount ts)
     go true (IsStep s z) e = refuses e
     go true End e = (cc, cc)
-    go true (NoField k p) e = refuses e
+    go true (NoField p k) e = refuses e
     go false f e = refuses e
 
 -- ---- the loop

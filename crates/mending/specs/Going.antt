@@ -7,6 +7,7 @@ use mathlib.Core.List.{List, [], _∷_, _++_}
 use mathlib.Core.Path.{_≡_}
 use lib.Dec.{ltb, eqb}
 use lib.ListN.{length}
+use Rattle.numbers.specs.Codes.{spawnCode, timeoutCode, tickCode}
 use Rattle.laws.specs.Choice.{pick}
 use Rattle.values.specs.declared.Value.{Value}
 use Rattle.values.specs.declared.Step.{Step}
@@ -14,7 +15,7 @@ use Rattle.values.specs.declared.Answer.{Answer}
 use Rattle.values.specs.Values.{valueIn}
 use Rattle.config.specs.declared.Config.{Config}
 use Rattle.state.specs.declared.State.{State}
-use Rattle.rules.specs.Step.{possibleOf, innerOf}
+use Rattle.effects.specs.Step.{possibleOf, innerOf}
 use Rattle.wire.specs.Bytes.{bytes32}
 use Rattle.recording.specs.Recording.{valuesGood, bytesOf}
 use Rattle.gaps.specs.declared.Choices.{Choices}
@@ -39,9 +40,9 @@ pub record Counted (n : Choices) (r : ℕ) : Type 0 where
 -- the choice with the number k
 unfoldable pub choiceAt : Choices → ℕ → Step
 choiceAt n k =
-    pick (ltb k (n .spawns)) (choice 15 (k % 256))
-    (pick (ltb k (n .spawns + n .timeouts)) (choice 16 ((k - n .spawns) % 256))
-    (choice 17 ((k - (n .spawns + n .timeouts)) % 256)))
+    pick (ltb k (n .spawns)) (choice spawnCode (k % 256))
+    (pick (ltb k (n .spawns + n .timeouts)) (choice timeoutCode ((k - n .spawns) % 256))
+    (choice tickCode ((k - (n .spawns + n .timeouts)) % 256)))
 
 -- how many sequences of length m there are, m at most 3
 unfoldable pub sizeOf : ℕ → ℕ → ℕ

@@ -6,7 +6,7 @@ ghost use lib.ListN.{length, drop};
 ghost use Rattle.laws.specs.Choice.{both};
 ghost use Rattle.wire.specs.Bytes.{putAt, Written};
 ghost use Rattle.recording.specs.Whole.{stepsIn, textOf};
-ghost use Rattle.rules.specs.Step.{innerOf};
+ghost use Rattle.effects.specs.Step.{innerOf};
 ghost use Rattle.gaps.specs.Orders.{passedOver, behind, sequences, upToThree};
 ghost use Rattle.gaps.specs.Gaps.{choice, countsOf, choicesIn, fills, answeredAll, turnOf, turnSteps, turnsOf, mendedSteps};
 ghost use Rattle.gaps.specs.Report.{onMended, stepNotes, turnNotes, reportFrom, onLast, surveyOf, fitted, mendTo, mendWritten, mendReported};
@@ -89,12 +89,12 @@ fn choice_at(all: Choices, k: usize) -> Step
     let spawns = all.spawns as usize;
     let both = spawns + all.timeouts as usize;
     if k < spawns {
-        return choice(15, k);
+        return choice(numbers::CODE_SPAWN, k);
     }
     if k < both {
-        return choice(16, k - spawns);
+        return choice(numbers::CODE_TIMEOUT, k - spawns);
     }
-    choice(17, k - both)
+    choice(numbers::CODE_TICK, k - both)
 }
 
 // How many sequences of n choices there are, of k to choose from.
@@ -225,9 +225,9 @@ fn ended(f: Field, count: usize, steps: usize, notes: usize) -> Mended
     ensures { λ r. ⌜ r ≡ onLast f count (Whole steps notes) ⌝ }
 {
     match f {
-        Field::Step(_, _) => Mended::Refused(count + 1, 18),
+        Field::Step(_, _) => Mended::Refused(count + 1, numbers::BAD_FIELD),
         Field::End => Mended::Whole(steps, notes),
-        Field::Refused(k, past) => Mended::Refused(count + 1 + past as usize, k),
+        Field::Refused(past, k) => Mended::Refused(count + 1 + past as usize, k),
     }
 }
 
@@ -260,7 +260,7 @@ fn survey(cfg: Config, st: State, s: &[u8]) -> Mended
             Answer::Refused(_) => {
                 let passed = rank(cfg, reached, x, all);
                 if most <= passed {
-                    return Mended::Refused(count + 1, 31);
+                    return Mended::Refused(count + 1, numbers::NO_FILL);
                 }
                 let fill = picks_of(k, passed);
                 let next = taken_all(cfg, reached, all, fill);
@@ -474,7 +474,7 @@ fn mend_sound(cfg: Config, st: State, s: &[u8], out: &mut [u8], report: &mut [u8
         write_all(cfg, st, s, out, report);
         return r;
     }
-    Mended::Refused(0, 27)
+    Mended::Refused(0, numbers::NO_ROOM)
 }
 
 // Mends a recording from a first state: the mended text into one lent buffer, the report into another. A refusal leaves both as they are.
@@ -486,5 +486,5 @@ pub fn mend(cfg: Config, st: State, s: &[u8], out: &mut [u8], report: &mut [u8])
     if sound::is_sound(cfg, st) {
         return mend_sound(cfg, st, s, out, report);
     }
-    Mended::Refused(0, 1)
+    Mended::Refused(0, numbers::NOT_SOUND)
 }

@@ -13,7 +13,7 @@ use Rattle.config.specs.declared.Config.{Config}
 use Rattle.state.specs.declared.State.{State}
 use Rattle.state.specs.Start.{startOf}
 use Rattle.rules.specs.Sound.{soundOf}
-use Rattle.rules.specs.Step.{stepOf}
+use Rattle.effects.specs.Step.{stepOf}
 use Rattle.reading.specs.declared.Outcome.{Outcome}
 use Rattle.reading.specs.declared.Outcome.the-variants.{Whole, Refused as NotRead}
 use Rattle.reading.specs.Reading.{configOf}
@@ -168,7 +168,7 @@ line-ends j not u = not (j .count) (rw u)
 
 outcome-same : (o : Outcome) (x y : Line) → (o ≡ Whole → x ≡ y) → outcomeLine o x ≡ outcomeLine o y
 outcome-same Whole x y e = e refl
-outcome-same (NotRead k p) x y e = refl
+outcome-same (NotRead p k) x y e = refl
 
 pub long-is-line : LongIsLine
 unfolding longLine lineOf readLine

@@ -66,7 +66,7 @@ EachLong (p ∷ ps) = (16 ≤ length p) × EachLong ps
 unfoldable pub longLine : List ℕ → List ℕ → Line
 longLine c t = pick (ltb maxConfig (length c)) TooLong (outcomeLine (configOf c .outcome) (judgedLine (wholeOf (configOf c .config) (startOf (configOf c .config)) t)))
 
--- THE CLAIM: judged in parts, however they are cut, a recording has the verdict, the count and the state of one judging without limits
+-- THE CLAIM: judged in parts of sixteen bytes or more, wherever they are cut, a recording has the verdict, the count and the state of one judging without limits
 abbrev pub PartsAsOne : Type 0
 PartsAsOne = (cfg : Config) (st : State) (n : ℕ) (held : List ℕ) (ps : List (List ℕ)) → soundOf cfg st ≡ true → EachLong ps
     → inParts cfg st n held ps ≡ later n (wholeOf cfg st (held ++ joined ps))

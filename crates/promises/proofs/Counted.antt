@@ -17,8 +17,8 @@ use Rattle.config.specs.declared.Config.{Config}
 use Rattle.state.specs.declared.State.{State}
 use Rattle.state.specs.declared.Stepped.{Stepped}
 use Rattle.rules.specs.Sound.{soundOf}
-use Rattle.rules.specs.Steps.{refused}
-use Rattle.rules.specs.Step.{claimedOf, possibleOf, innerOf, stepOf}
+use Rattle.effects.specs.Steps.{refused}
+use Rattle.effects.specs.Step.{claimedOf, possibleOf, innerOf, stepOf}
 use Rattle.recording.specs.declared.Field.the-variants.{Step as IsStep, End}
 use Rattle.recording.specs.Recording.{fieldOf}
 use Rattle.recording.specs.Whole.{Whole, stepsIn, isEnd, isSound}

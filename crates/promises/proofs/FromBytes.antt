@@ -88,14 +88,14 @@ count-same (Refused p k) n h = absurd (h refl)
 count-same Unfinished n h = refl
 
 -- the line of a configuration that is not read
-unread-line : (c t : List ℕ) (p k : ℕ) → Fits c t → configOf c .outcome ≡ NotRead k p → lineOf c t ≡ Configuration p k
+unread-line : (c t : List ℕ) (p k : ℕ) → Fits c t → configOf c .outcome ≡ NotRead p k → lineOf c t ≡ Configuration p k
 unfolding readLine
 unread-line c t p k f e = fit-line c t f ∙ rw e
 
 -- by the files: too long, not read, or judged
 data Files (c t : List ℕ) : Type 0 where
   tooLong : (Fits c t → ⊥) → lineOf c t ≡ TooLong → Files c t
-  unread : (p k : ℕ) → Fits c t → configOf c .outcome ≡ NotRead k p → lineOf c t ≡ Configuration p k → Files c t
+  unread : (p k : ℕ) → Fits c t → configOf c .outcome ≡ NotRead p k → lineOf c t ≡ Configuration p k → Files c t
   readable : Readable c t → Files c t
 
 files : (c t : List ℕ) → Files c t
@@ -103,7 +103,7 @@ files c t = go (fits-or c t)
   where
     by : Fits c t → (o : Outcome) → configOf c .outcome ≡ o → Files c t
     by f Whole e = readable (f, ap Outcome·refusalIn e)
-    by f (NotRead k p) e = unread p k f e (unread-line c t p k f e)
+    by f (NotRead p k) e = unread p k f e (unread-line c t p k f e)
 
     go : Dec (Fits c t) → Files c t
     go (yes f) = by f (configOf c .outcome) refl
@@ -186,7 +186,7 @@ configuration-is-unread c t p k = (to (files c t), from (files c t))
         let same : m ≡ k = sym (ap Line·refusalIn e) ∙ h .2 in
         (f, ap Outcome·placeIn o ∙ sym (ap Line·placeIn e) ∙ h .1, ap Outcome·refusalIn o ∙ same, omega (arith, same, not-zero m q o))
       where
-        not-zero : (m q : ℕ) → configOf c .outcome ≡ NotRead m q → 0 < m
+        not-zero : (m q : ℕ) → configOf c .outcome ≡ NotRead q m → 0 < m
         not-zero m q o = go (decLt 0 m)
           where
             go : Dec (0 < m) → 0 < m

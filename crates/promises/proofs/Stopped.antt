@@ -10,7 +10,7 @@ use Rattle.values.specs.declared.Answer.the-variants.{Refused as Barred}
 use Rattle.values.specs.Values.{refusalIn}
 use Rattle.config.specs.declared.Config.{Config}
 use Rattle.state.specs.declared.State.{State}
-use Rattle.rules.specs.Step.{stepOf}
+use Rattle.effects.specs.Step.{stepOf}
 use Rattle.keep.proofs.Refusals.{never-zero}
 use Rattle.recording.specs.declared.Field.the-variants.{Step as IsStep, Refused as NoField}
 use Rattle.recording.specs.Recording.{fieldOf, refusalIn as Field·refusalIn, pastIn}
@@ -50,7 +50,7 @@ module _ (cfg : Config) where
     stops = one-more a t s z (f .steps) (j .state) (f .place) (Verdict·refusalIn (j .verdict)) e (f .stops);
   }
 
-  field-stops : (a : ℕ) (t : List ℕ) (n : ℕ) (st : State) (k past : ℕ) → fieldOf t ≡ NoField k past → StopsFrom a t n (judged (Refused (n + 1 + past) k) n st)
+  field-stops : (a : ℕ) (t : List ℕ) (n : ℕ) (st : State) (k past : ℕ) → fieldOf t ≡ NoField past k → StopsFrom a t n (judged (Refused (n + 1 + past) k) n st)
   field-stops a t n st k past e = record {
     steps = 0;
     place = 1 + past;

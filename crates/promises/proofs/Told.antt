@@ -14,7 +14,7 @@ use Rattle.values.specs.declared.Answer.the-variants.{Taken, Refused as Barred}
 use Rattle.values.specs.Values.{refusalIn}
 use Rattle.config.specs.declared.Config.{Config}
 use Rattle.state.specs.declared.State.{State}
-use Rattle.rules.specs.Step.{stepOf}
+use Rattle.effects.specs.Step.{stepOf}
 use Rattle.keep.proofs.Refusals.{never-zero}
 use Rattle.recording.specs.declared.Field.the-variants.{Step as IsStep, End, Refused as NoField}
 use Rattle.recording.specs.Recording.{fieldOf, refusalIn as Field·refusalIn, pastIn}
@@ -108,7 +108,7 @@ module _ (cfg : Config) where
   stops-end a t m x p k e (atStep s′ rest d l c r g) = omega (arith, ap length d, length-drop m (stepsIn t), ap length (steps-end t e))
   stops-end a t m x p k e (atField c l w r g) = omega (arith, g, sym r ∙ ap (λ (w : Whole). Field·refusalIn (w .last)) (whole-end t e))
 
-  stops-field : (a : ℕ) (t : List ℕ) (m : ℕ) (x : State) (p k k′ past : ℕ) → fieldOf t ≡ NoField k′ past → Stops cfg a t m x p k → (m ≡ 0) × (p ≡ 1 + past) × (k ≡ k′)
+  stops-field : (a : ℕ) (t : List ℕ) (m : ℕ) (x : State) (p k k′ past : ℕ) → fieldOf t ≡ NoField past k′ → Stops cfg a t m x p k → (m ≡ 0) × (p ≡ 1 + past) × (k ≡ k′)
   stops-field a t m x p k k′ past e (atStep s′ rest d l c r g) = absurd (omega (arith, ap length d, length-drop m (stepsIn t), ap (λ (w : Whole). length (w .steps)) (whole-refused t k′ past e)))
   stops-field a t m x p k k′ past e (atField c l w r g) =
       let z : m ≡ 0 = omega (arith, c, ap (λ (w : Whole). length (w .steps)) (whole-refused t k′ past e)) in
@@ -129,7 +129,7 @@ module _ (cfg : Config) where
   alike : (p p′ k k′ n n′ : ℕ) (x x′ : State) → p ≡ p′ → k ≡ k′ → n ≡ n′ → x ≡ x′ → judged (Refused p k) n x ≡ judged (Refused p′ k′) n′ x′
   alike p p′ k k′ n n′ x x′ a b c d = cc
 
-  field-stopped : (a : ℕ) (t : List ℕ) (n : ℕ) (st : State) (k past : ℕ) → fieldOf t ≡ NoField k past → Stopped a t n st (judged (Refused (n + 1 + past) k) n st)
+  field-stopped : (a : ℕ) (t : List ℕ) (n : ℕ) (st : State) (k past : ℕ) → fieldOf t ≡ NoField past k → Stopped a t n st (judged (Refused (n + 1 + past) k) n st)
   field-stopped a t n st k′ past e m st′ p k h s =
       let w = stops-field a t m st′ p k k′ past e s in
       let none : take m (stepsIn t) ≡ [] = ap (λ (j : ℕ). take j (stepsIn t)) (w .0) in

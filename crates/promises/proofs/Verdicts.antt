@@ -12,7 +12,7 @@ use Rattle.state.specs.declared.State.{State}
 use Rattle.state.specs.Start.{startOf}
 use Rattle.entries.specs.Faults.{configSound}
 use Rattle.rules.specs.Sound.{soundOf}
-use Rattle.rules.specs.Step.{innerOf, stepOf}
+use Rattle.effects.specs.Step.{innerOf, stepOf}
 use Rattle.keep.proofs.Start.{start-sound}
 use Rattle.keep.proofs.Keeps.{once, kept}
 use Rattle.recording.specs.Whole.{stepsIn, isSound}

@@ -14,7 +14,7 @@ use Rattle.config.specs.declared.Config.{Config}
 use Rattle.state.specs.declared.State.{State}
 use Rattle.state.specs.Start.{startOf}
 use Rattle.entries.specs.Faults.{configSound}
-use Rattle.rules.specs.Step.{innerOf, stepOf}
+use Rattle.effects.specs.Step.{innerOf, stepOf}
 use Rattle.wire.proofs.Laws.{Bytes}
 use Rattle.reading.specs.Reading.{configOf, refusalIn as Outcome·refusalIn, placeIn as Outcome·placeIn}
 use Rattle.recording.specs.Recording.{refusalIn as Field·refusalIn, pastIn}

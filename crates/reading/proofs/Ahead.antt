@@ -86,17 +86,17 @@ module _ (s : List ℕ) (cfg : Config) (at last place : ℕ) (a : Ahead s cfg at
       let f : length s + 2 - place ≡ suc (length s + 2 - (place + 1)) = omega arith in
       a .read ∙ ap₂ (λ (k : ℕ) (l : List ℕ). readFrom k l cfg last place) f (sym et) ∙ ap (λ (x : Head). onHead x t cfg place next) e
 
-  pub turn-bad : {number : ℕ} → headOf t last ≡ Bad number → refusedAt number place ≡ configOf s
+  pub turn-bad : {number : ℕ} → headOf t last ≡ Bad number → refusedAt place number ≡ configOf s
   turn-bad {number} e = sym (turn (Bad number) e)
 
   pub turn-end : headOf t last ≡ End → length t ≡ 3 → wholeOf cfg ≡ configOf s
   turn-end e l = sym (rw (eq-eqb (length t) 3 l) at (turn End e))
 
-  pub turn-behind : headOf t last ≡ End → (length t ≡ 3 → ⊥) → refusedAt 21 (place + 1) ≡ configOf s
+  pub turn-behind : headOf t last ≡ End → (length t ≡ 3 → ⊥) → refusedAt (place + 1) 21 ≡ configOf s
   turn-behind e l = sym (rw (ne-eqb (length t) 3 l) at (turn End e))
 
   module _ {tag size : ℕ} (e : headOf t last ≡ Field tag size) where
-    pub turn-fault : (bodyFault cfg tag t ≡ 0 → ⊥) → refusedAt (bodyFault cfg tag t) place ≡ configOf s
+    pub turn-fault : (bodyFault cfg tag t ≡ 0 → ⊥) → refusedAt place (bodyFault cfg tag t) ≡ configOf s
     turn-fault n = sym (rw (ne-eqb (bodyFault cfg tag t) 0 n) at (turn (Field tag size) e))
 
     pub turn-room : at + 3 + size ≤ length s

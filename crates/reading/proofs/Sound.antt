@@ -131,7 +131,7 @@ pub record Given (r : Reading) : Type 0 where
   pub blank : (r .outcome ≡ Whole → ⊥) → r .config ≡ noConfig
   pub number : refusalIn (r .outcome) ≡ 0 → r .outcome ≡ Whole
 
-given-refused : (number place : ℕ) → (number ≡ 0 → ⊥) → Given (refusedAt number place)
+given-refused : (number place : ℕ) → (number ≡ 0 → ⊥) → Given (refusedAt place number)
 unfolding refusedAt
 given-refused number place n = record { sound = blank-sound; blank = λ _. refl; number = λ e. absurd (n e) }
 
@@ -165,11 +165,11 @@ given-from (suc fuel) t cfg last place f = go (λ tag size g. given-from fuel (d
     go : ((tag size : ℕ) → Sofar (placed cfg tag (entryIn tag t)) tag → Given (next tag size)) → (x : Head) → headOf t last ≡ x → Given (onHead x t cfg place next)
     go rest (Bad number) e = given-refused number place (bad-number t last number e)
     go rest End e =
-        pick-has Given (eqb (length t) 3) (wholeOf cfg) (refusedAt 21 (place + 1))
+        pick-has Given (eqb (length t) 3) (wholeOf cfg) (refusedAt (place + 1) 21)
         (λ _. record { sound = config-made cfg (f .kinds); blank = λ n. absurd (n refl); number = λ _. refl })
         (λ _. given-refused 21 (place + 1) (λ z. omega (arith, z)))
     go rest (Field tag size) e =
-        pick-has Given (eqb (bodyFault cfg tag t) 0) (next tag size) (refusedAt (bodyFault cfg tag t) place)
+        pick-has Given (eqb (bodyFault cfg tag t) 0) (next tag size) (refusedAt place (bodyFault cfg tag t))
         (λ z. rest tag size (sofar-field cfg last tag t f (order-up last tag (field-frame t last e .order)) (eqb-true (bodyFault cfg tag t) 0 z)))
         (λ n. given-refused (bodyFault cfg tag t) place (eqb-false (bodyFault cfg tag t) 0 n))
 

@@ -6,6 +6,8 @@ use mathlib.Core.Bool.{Bool, not}
 use mathlib.Core.List.{List}
 use lib.Dec.{ltb, leb, eqb}
 use lib.ListN.{length, getD, drop}
+use Rattle.numbers.specs.Refusals.{badOrder, badFrame, outOfRange}
+use Rattle.numbers.specs.Tags.{editionTag, runnableTag, variableTag, areaTag, requiredTag, providedTag, linkTag, operationTag, timerTag, dataEventTag, returnEventTag, endTag, editionLength, runnableLength, variableLength, areaLength, requiredLength, providedLength, linkLength, operationLength, timerLength, dataEventLength, returnEventLength, endLength, noLength}
 use Rattle.laws.specs.Choice.{pick, both}
 use Rattle.config.specs.declared.Config.{Config}
 use Rattle.config.specs.Tables.{noConfig}
@@ -22,29 +24,29 @@ use Rattle.reading.specs.declared.Head.the-variants.{Field, End, Bad}
 -- the number of refusal that an outcome stands for; 0 for a whole configuration ("Numbers of refusal")
 abbrev pub refusalIn : Outcome → ℕ
 refusalIn Whole = 0
-refusalIn (Refused number place) = number
+refusalIn (Refused place number) = number
 
 -- the place of the field that was refused, from 1; 0 for a whole configuration ("Numbers of refusal")
 abbrev pub placeIn : Outcome → ℕ
 placeIn Whole = 0
-placeIn (Refused number place) = place
+placeIn (Refused place number) = place
 
 -- how long the body of a field is, by its tag; for an unknown tag more than two bytes can say, so that no length fits it ("The files", the table)
 unfoldable pub sizeOf : ℕ → ℕ
 sizeOf tag =
-    pick (eqb tag 0x01) 1
-    (pick (eqb tag 0x10) 7
-    (pick (eqb tag 0x11) 6
-    (pick (eqb tag 0x12) 1
-    (pick (eqb tag 0x13) 2
-    (pick (eqb tag 0x14) 2
-    (pick (eqb tag 0x15) 2
-    (pick (eqb tag 0x16) 7
-    (pick (eqb tag 0x17) 5
-    (pick (eqb tag 0x18) 2
-    (pick (eqb tag 0x19) 2
-    (pick (eqb tag 0x7f) 0
-    65536)))))))))))
+    pick (eqb tag editionTag) editionLength
+    (pick (eqb tag runnableTag) runnableLength
+    (pick (eqb tag variableTag) variableLength
+    (pick (eqb tag areaTag) areaLength
+    (pick (eqb tag requiredTag) requiredLength
+    (pick (eqb tag providedTag) providedLength
+    (pick (eqb tag linkTag) linkLength
+    (pick (eqb tag operationTag) operationLength
+    (pick (eqb tag timerTag) timerLength
+    (pick (eqb tag dataEventTag) dataEventLength
+    (pick (eqb tag returnEventTag) returnEventLength
+    (pick (eqb tag endTag) endLength
+    noLength)))))))))))
 
 -- the number of the four bytes from place i on ("The files")
 abbrev pub numberAt : List ℕ → ℕ → ℕ
@@ -77,16 +79,16 @@ pairIn t = record { first = getD t 3 0; second = getD t 4 0; third = 0; number =
 -- the entry that the body of a field says, three bytes into the text ("The files", the table)
 unfoldable pub entryIn : ℕ → List ℕ → Entry
 entryIn tag t =
-    pick (eqb tag 0x10) (runnableIn t)
-    (pick (eqb tag 0x11) (variableIn t)
-    (pick (eqb tag 0x12) (areaIn t)
-    (pick (eqb tag 0x16) (operationIn t)
-    (pick (eqb tag 0x17) (timerIn t)
+    pick (eqb tag runnableTag) (runnableIn t)
+    (pick (eqb tag variableTag) (variableIn t)
+    (pick (eqb tag areaTag) (areaIn t)
+    (pick (eqb tag operationTag) (operationIn t)
+    (pick (eqb tag timerTag) (timerIn t)
     (pairIn t)))))
 
 -- the edition stands first and nowhere else, and no tag is lower than the one before it; 0 stands for no field before ("Numbers of refusal", 22)
 unfoldable pub inOrder : ℕ → ℕ → Bool
-inOrder last tag = pick (eqb last 0) (eqb tag 0x01) (both (leb last tag) (not (eqb tag 0x01)))
+inOrder last tag = pick (eqb last 0) (eqb tag editionTag) (both (leb last tag) (not (eqb tag editionTag)))
 
 -- a field by its tag, the length that it says, its tag's own length, how many bytes are behind these, and whether it is in order: 21, then 22 ("Numbers of refusal")
 abbrev pub headWith : ℕ → ℕ → ℕ → ℕ → Bool → Head
@@ -94,39 +96,39 @@ headWith tag said size left ordered =
     pick (eqb said size)
     (pick (leb size left)
     (pick ordered
-    (pick (eqb tag 0x7f) End (Field tag size))
-    (Bad 22))
-    (Bad 21))
-    (Bad 21)
+    (pick (eqb tag endTag) End (Field tag size))
+    (Bad badOrder))
+    (Bad badFrame))
+    (Bad badFrame)
 
 -- the field at the front of a text, behind a field with the tag last ("Numbers of refusal", 21 and 22)
 unfoldable pub headOf : List ℕ → ℕ → Head
 headOf t last =
-    pick (ltb (length t) 3) (Bad 21)
+    pick (ltb (length t) 3) (Bad badFrame)
     (headWith (getD t 0 0) (lengthOf (getD t 1 0) (getD t 2 0)) (sizeOf (getD t 0 0)) (length t - 3) (inOrder last (getD t 0 0)))
 
 -- the first fault of a field's body: an edition other than 1, or a fault of the part's entry; 0 for none ("Numbers of refusal", 23 to 26)
 unfoldable pub bodyFault : Config → ℕ → List ℕ → ℕ
 bodyFault cfg tag t =
-    pick (eqb tag 0x01) (pick (eqb (getD t 3 0) 1) 0 24) (entryFault cfg tag (countOf cfg tag) (entryIn tag t))
+    pick (eqb tag editionTag) (pick (eqb (getD t 3 0) 1) 0 outOfRange) (entryFault cfg tag (countOf cfg tag) (entryIn tag t))
 
 -- a whole configuration ("Numbers of refusal", reading a configuration)
 abbrev pub wholeOf : Config → Reading
 wholeOf cfg = record { outcome = Whole; config = cfg }
 
--- a refused reading: the number and the place, beside a blank configuration ("Numbers of refusal", a refused read)
+-- a refused reading: the place and the number, beside a blank configuration ("Numbers of refusal", a refused read)
 unfoldable pub refusedAt : ℕ → ℕ → Reading
-refusedAt number place = record { outcome = Refused number place; config = noConfig }
+refusedAt place number = record { outcome = Refused place number; config = noConfig }
 
 -- what the field at the front comes to; next goes on behind a field without fault, and bytes behind the end stand one place further ("Numbers of refusal", reading a configuration)
 abbrev pub onHead : Head → List ℕ → Config → ℕ → (ℕ → ℕ → Reading) → Reading
-onHead (Bad number) t cfg place next = refusedAt number place
-onHead End t cfg place next = pick (eqb (length t) 3) (wholeOf cfg) (refusedAt 21 (place + 1))
-onHead (Field tag size) t cfg place next = pick (eqb (bodyFault cfg tag t) 0) (next tag size) (refusedAt (bodyFault cfg tag t) place)
+onHead (Bad number) t cfg place next = refusedAt place number
+onHead End t cfg place next = pick (eqb (length t) 3) (wholeOf cfg) (refusedAt (place + 1) badFrame)
+onHead (Field tag size) t cfg place next = pick (eqb (bodyFault cfg tag t) 0) (next tag size) (refusedAt place (bodyFault cfg tag t))
 
 -- reading goes on: t is ahead, cfg holds the parts before it, last is the tag before it, place the place of its first field; the first number bounds the fields ("Numbers of refusal", reading a configuration)
 unfoldable pub readFrom : ℕ → List ℕ → Config → ℕ → ℕ → Reading
-readFrom zero t cfg last place = refusedAt 21 place
+readFrom zero t cfg last place = refusedAt place badFrame
 readFrom (suc k) t cfg last place =
     onHead (headOf t last) t cfg place (λ (tag size : ℕ). readFrom k (drop (3 + size) t) (placed cfg tag (entryIn tag t)) tag (place + 1))
 

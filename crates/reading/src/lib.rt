@@ -5,10 +5,10 @@ ghost use Rattle.reading.specs.Reading.{sizeOf, numberAt, runnableIn, va
 use config::Config;
 use entries::Entry;
 
-// How a reading ended: with a whole configuration, or with a number of refusal and the place of its field, from 1.
+// How a reading ended: with a whole configuration, or with the place of a field, from 1, and a number of refusal.
 pub enum Outcome {
     Whole,
-    Refused(u8, usize),
+    Refused(usize, u8),
 }
 
 // A refused reading has the blank configuration beside it.
@@ -52,19 +52,19 @@ fn size_of(tag: u8) -> usize
     ensures { λ r. ⌜ r ≡ sizeOf tag ⌝ }
 {
     match tag {
-        0x01 => 1,
-        0x10 => 7,
-        0x11 => 6,
-        0x12 => 1,
-        0x13 => 2,
-        0x14 => 2,
-        0x15 => 2,
-        0x16 => 7,
-        0x17 => 5,
-        0x18 => 2,
-        0x19 => 2,
-        0x7f => 0,
-        _ => 65536,
+        numbers::TAG_EDITION => numbers::LENGTH_EDITION,
+        numbers::TAG_RUNNABLE => numbers::LENGTH_RUNNABLE,
+        numbers::TAG_VARIABLE => numbers::LENGTH_VARIABLE,
+        numbers::TAG_AREA => numbers::LENGTH_AREA,
+        numbers::TAG_REQUIRED => numbers::LENGTH_REQUIRED,
+        numbers::TAG_PROVIDED => numbers::LENGTH_PROVIDED,
+        numbers::TAG_LINK => numbers::LENGTH_LINK,
+        numbers::TAG_OPERATION => numbers::LENGTH_OPERATION,
+        numbers::TAG_TIMER => numbers::LENGTH_TIMER,
+        numbers::TAG_DATA_EVENT => numbers::LENGTH_DATA_EVENT,
+        numbers::TAG_RETURN_EVENT => numbers::LENGTH_RETURN_EVENT,
+        numbers::TAG_END => numbers::LENGTH_END,
+        _ => numbers::NO_LENGTH,
     }
 }
 
@@ -139,11 +139,11 @@ fn entry_in(tag: u8, t: &[u8]) -> Entry
     ensures { λ r. ⌜ r ≡ entryIn tag (now (t .entry)) ⌝ }
 {
     match tag {
-        0x10 => runnable_in(t),
-        0x11 => variable_in(t),
-        0x12 => area_in(t),
-        0x16 => operation_in(t),
-        0x17 => timer_in(t),
+        numbers::TAG_RUNNABLE => runnable_in(t),
+        numbers::TAG_VARIABLE => variable_in(t),
+        numbers::TAG_AREA => area_in(t),
+        numbers::TAG_OPERATION => operation_in(t),
+        numbers::TAG_TIMER => timer_in(t),
         _ => pair_in(t),
     }
 }
@@ -153,10 +153,10 @@ fn in_order(last: u8, tag: u8) -> bool
     ensures { λ r. ⌜ r ≡ inOrder last tag ⌝ }
 {
     if last == 0 {
-        return tag == 0x01;
+        return tag == numbers::TAG_EDITION;
     }
     if last <= tag {
-        return tag != 0x01;
+        return tag != numbers::TAG_EDITION;
     }
     false
 }
@@ -168,23 +168,23 @@ fn head_with(tag: u8, said: usize, size: usize, left: usize, ordered: bool) -> H
     if said == size {
         if size <= left {
             if ordered {
-                if tag == 0x7f {
+                if tag == numbers::TAG_END {
                     return Head::End;
                 }
                 return Head::Field(tag, size);
             }
-            return Head::Bad(22);
+            return Head::Bad(numbers::BAD_ORDER);
         }
-        return Head::Bad(21);
+        return Head::Bad(numbers::BAD_FRAME);
     }
-    Head::Bad(21)
+    Head::Bad(numbers::BAD_FRAME)
 }
 
 fn head_of(t: &[u8], last: u8) -> Head
     ensures { λ r. ⌜ r ≡ headOf (now (t .entry)) last ⌝ }
 {
     if t.len() < 3 {
-        return Head::Bad(21);
+        return Head::Bad(numbers::BAD_FRAME);
     }
     let tag = t[0];
     head_with(
@@ -200,20 +200,20 @@ fn head_of(t: &[u8], last: u8) -> Head
 fn body_fault(cfg: Config, tag: u8, t: &[u8]) -> u8
     ensures { λ r. ⌜ r ≡ bodyFault cfg tag (now (t .entry)) ⌝ }
 {
-    if tag == 0x01 {
+    if tag == numbers::TAG_EDITION {
         if byte_at(t, 3) == 1 {
             return 0;
         }
-        return 24;
+        return numbers::OUT_OF_RANGE;
     }
     entries::entry_fault(cfg, tag, entries::count_of(cfg, tag), entry_in(tag, t))
 }
 
-fn refused_at(number: u8, place: usize) -> Reading
-    ensures { λ r. ⌜ r ≡ refusedAt number place ⌝ }
+fn refused_at(place: usize, number: u8) -> Reading
+    ensures { λ r. ⌜ r ≡ refusedAt place number ⌝ }
 {
     Reading {
-        outcome: Outcome::Refused(number, place),
+        outcome: Outcome::Refused(place, number),
         config: Config::none(),
     }
 }
@@ -230,7 +230,7 @@ pub fn read_config(s: &[u8]) -> Reading
         let t = &s[at..];
         match head_of(t, last) {
             Head::Bad(number) => {
-                return refused_at(number, place);
+                return refused_at(place, number);
             }
             Head::End => {
                 if t.len() == 3 {
@@ -239,12 +239,12 @@ pub fn read_config(s: &[u8]) -> Reading
                         config: cfg,
                     };
                 }
-                return refused_at(21, place + 1);
+                return refused_at(place + 1, numbers::BAD_FRAME);
             }
             Head::Field(tag, size) => {
                 let fault = body_fault(cfg, tag, t);
                 if fault != 0 {
-                    return refused_at(fault, place);
+                    return refused_at(place, fault);
                 }
                 cfg = entries::placed(cfg, tag, entry_in(tag, t));
                 last = tag;

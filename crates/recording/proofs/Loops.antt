@@ -45,7 +45,7 @@ module _ (s : List ℕ) (at : ℕ) (r : Reading s at) where
   pub reading-end : fieldOf (drop at s) ≡ End → true ≡ isSound s
   reading-end e = sym (r .sound ∙ ap (λ (w : Whole). isEnd (w .last)) (whole-end (drop at s) e))
 
-  pub reading-refused : (k p : ℕ) → fieldOf (drop at s) ≡ Refused k p → false ≡ isSound s
+  pub reading-refused : (k p : ℕ) → fieldOf (drop at s) ≡ Refused p k → false ≡ isSound s
   reading-refused k p e = sym (r .sound ∙ ap (λ (w : Whole). isEnd (w .last)) (whole-refused (drop at s) k p e))
 
 -- ---- copying: the buffer begins with the first bytes of s, as many as at says, and has kept the rest of its own
@@ -105,7 +105,7 @@ module _ (s b₀ b b′ : List ℕ) (at : ℕ) (k : Copying s b₀ b at) (room :
             ∙ ap (λ (q : ℕ). take q s ++ drop q b₀) l ∙ ap (λ (q : List ℕ). q ++ drop (length s) b₀) (take-length s),
       )
 
-  pub copying-on : (r p : ℕ) {A : Type 0} → fieldOf (drop at s) ≡ Refused r p → A
+  pub copying-on : (r p : ℕ) {A : Type 0} → fieldOf (drop at s) ≡ Refused p r → A
   copying-on r p e = absurd (clash (isSound (drop at s)) (k .sound) (ap (λ (w : Whole). isEnd (w .last)) (whole-refused (drop at s) r p e)))
 
 -- ---- a recording written again: too long, and whole
@@ -125,10 +125,10 @@ not-to : {r n : ℕ} {A : Type 0} → NotWritten r ≡ To n → A
 not-to e = let z : _≡_ {A = ℕ} 0 1 = cc in absurd (omega arith)
 
 refused-as : (x y : Bool) (m n : ℕ) (s : Step) → pick x (pick y (To m) (NotWritten 27)) (NotWritten 18) ≡ NotWritten n
-    → Refused n 0 ≡ pick x (pick y (IsStep s 16) (Refused 27 0)) (Refused 18 0)
+    → Refused 0 n ≡ pick x (pick y (IsStep s 16) (Refused 0 27)) (Refused 0 18)
 refused-as true true m n s e = not-to (sym e)
-refused-as true false m n s e = let q : n ≡ 27 = cc in ap (λ (k : ℕ). Refused k 0) q
-refused-as false y m n s e = let q : n ≡ 18 = cc in ap (λ (k : ℕ). Refused k 0) q
+refused-as true false m n s e = let q : n ≡ 27 = cc in ap (λ (k : ℕ). Refused 0 k) q
+refused-as false y m n s e = let q : n ≡ 18 = cc in ap (λ (k : ℕ). Refused 0 k) q
 
 module _ (b b′ : List ℕ) (at : ℕ) (s : Step) (r : Wrote) (to : r ≡ stepTo b at s) (bytes : b′ ≡ stepWritten b at s) where
   pub back-read : (n : ℕ) → s .argument .number < 2 ^ 32 → s .claim .number < 2 ^ 32 → r ≡ To n → fieldOf (drop at b′) ≡ writeAndReadOf b at s
@@ -141,7 +141,7 @@ module _ (b b′ : List ℕ) (at : ℕ) (s : Step) (r : Wrote) (to : r ≡ stepT
       let put : b′ ≡ putAt b at (bytesOf s) = bytes ∙ ap₂ (λ (x y : Bool). pick x (pick y (putAt b at (bytesOf s)) b) b) good room in
       ap (λ (x : List ℕ). fieldOf (drop at x)) put ∙ ap fieldOf (drop-put b (bytesOf s) at (omega arith))
       ∙ step-reads s (drop (at + 16) b) (record { good = good; argument = ha; claim = hc })
-      ∙ sym (ap₂ (λ (x y : Bool). pick x (pick y (IsStep s 16) (Refused 27 0)) (Refused 18 0)) good room)
+      ∙ sym (ap₂ (λ (x y : Bool). pick x (pick y (IsStep s 16) (Refused 0 27)) (Refused 0 18)) good room)
 
-  pub back-refused : (n : ℕ) → r ≡ NotWritten n → Refused n 0 ≡ writeAndReadOf b at s
+  pub back-refused : (n : ℕ) → r ≡ NotWritten n → Refused 0 n ≡ writeAndReadOf b at s
   back-refused n e = refused-as (valuesGood s) (leb (at + 16) (length b)) (at + 16) n s (sym to ∙ e)

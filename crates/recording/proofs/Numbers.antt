@@ -20,7 +20,7 @@ field-number t n = go (fieldOf t) refl
     go : (f : Field) → fieldOf t ≡ f → refusalIn (fieldOf t) ≡ 18
     go (IsStep s k) e = absurd (n (ap refusalIn e))
     go End e = absurd (n (ap refusalIn e))
-    go (Refused r p) e = ap refusalIn e ∙ refused-18 t r p e .0
+    go (Refused p r) e = ap refusalIn e ∙ refused-18 t r p e .0
 
 module _ (b : List ℕ) (at : ℕ) (s : Step) where
   pub bad-refused : valuesGood s ≡ false → (writtenAs (stepTo b at s) ≡ 18) × (stepWritten b at s ≡ b)

@@ -21,7 +21,7 @@ use Rattle.recording.specs.declared.Field.the-variants.{Step as IsStep, 
 -- ---- written, then read
 
 -- nothing is ahead: refused at the place asked for
-pub none-ahead : fieldOf [] ≡ Refused 18 0
+pub none-ahead : fieldOf [] ≡ Refused 0 18
 unfolding fieldOf
 none-ahead = refl
 
@@ -55,11 +55,11 @@ pub record StepField (t : List ℕ) (s : Step) (n : ℕ) : Type 0 where
   pub tag : getD t 0 0 ≡ 0x40
   pub body : lengthOf (getD t 1 0) (getD t 2 0) ≡ 13
 
-no-step : {A : Type 0} {r p n : ℕ} {s : Step} → Refused r p ≡ IsStep s n → A
+no-step : {A : Type 0} {r p n : ℕ} {s : Step} → Refused p r ≡ IsStep s n → A
 no-step e = let z : _≡_ {A = ℕ} 0 1 = cc in absurd (omega arith)
 
 -- the branch of the end gives no step
-end-no-step : (a b c : Bool) {s : Step} {n : ℕ} → pick a (pick b (pick c End (Refused 18 1)) (Refused 18 0)) (Refused 18 0) ≡ IsStep s n → ⊥
+end-no-step : (a b c : Bool) {s : Step} {n : ℕ} → pick a (pick b (pick c End (Refused 1 18)) (Refused 0 18)) (Refused 0 18) ≡ IsStep s n → ⊥
 end-no-step true true true e = let z : _≡_ {A = ℕ} 0 1 = cc in omega arith
 end-no-step true true false e = no-step e
 end-no-step true false c e = no-step e
@@ -112,11 +112,11 @@ step-bytes t s n h e =
     let c = bytes32-be (s .claim .number) (getD t 12 0) (getD t 13 0) (getD t 14 0) (getD t 15 0) (ap (λ (x : Step). x .claim .number) (sym u)) (h 12) (h 13) (h 14) (h 15) in
     front-read 16 t (bytesOf s) (f .long) (cc)
 
-no-end : {A : Type 0} {r p : ℕ} → Refused r p ≡ End → A
+no-end : {A : Type 0} {r p : ℕ} → Refused p r ≡ End → A
 no-end e = let z : _≡_ {A = ℕ} 0 1 = cc in absurd (omega arith)
 
 -- the branch of a step gives no end
-step-no-end : (a b c : Bool) (s : Step) → pick a (pick b (Refused 18 0) (pick c (IsStep s 16) (Refused 18 0))) (Refused 18 0) ≡ End → ⊥
+step-no-end : (a b c : Bool) (s : Step) → pick a (pick b (Refused 0 18) (pick c (IsStep s 16) (Refused 0 18))) (Refused 0 18) ≡ End → ⊥
 step-no-end true true c s e = no-end e
 step-no-end true false true s e = let z : _≡_ {A = ℕ} 0 1 = cc in omega arith
 step-no-end true false false s e = no-end e
@@ -144,23 +144,23 @@ end-bytes t e =
 abbrev Numbered : Field → Type 0
 Numbered (IsStep s n) = Unit {0}
 Numbered End = Unit {0}
-Numbered (Refused r p) = (r ≡ 18) × (p ≤ 1)
+Numbered (Refused p r) = (r ≡ 18) × (p ≤ 1)
 
-here : Numbered (Refused 18 0)
+here : Numbered (Refused 0 18)
 here = (refl, omega arith)
 
 numbered : (t : List ℕ) → Numbered (fieldOf t)
 unfolding fieldOf stepIn endIn tested
 numbered t =
-    let step : Numbered (stepIn t) = pick-has Numbered (ltb (length t) 16) (Refused 18 0) (tested (stepAt t)) (λ e. here)
-    (λ e. pick-has Numbered (valuesGood (stepAt t)) (IsStep (stepAt t) 16) (Refused 18 0) (λ d. tt) (λ d. here)) in
-    let end : Numbered (endIn t) = pick-has Numbered (eqb (length t) 3) End (Refused 18 1) (λ e. tt) (λ e. (refl, omega arith)) in
-    pick-has Numbered (ltb (length t) 3) (Refused 18 0) _ (λ e. here)
+    let step : Numbered (stepIn t) = pick-has Numbered (ltb (length t) 16) (Refused 0 18) (tested (stepAt t)) (λ e. here)
+    (λ e. pick-has Numbered (valuesGood (stepAt t)) (IsStep (stepAt t) 16) (Refused 0 18) (λ d. tt) (λ d. here)) in
+    let end : Numbered (endIn t) = pick-has Numbered (eqb (length t) 3) End (Refused 1 18) (λ e. tt) (λ e. (refl, omega arith)) in
+    pick-has Numbered (ltb (length t) 3) (Refused 0 18) _ (λ e. here)
     (λ e. pick-has Numbered (eqb (getD t 0 0) 0x40) _ _
-    (λ d. pick-has Numbered (eqb (lengthOf (getD t 1 0) (getD t 2 0)) 13) (stepIn t) (Refused 18 0) (λ q. step) (λ q. here))
-    (λ d. pick-has Numbered (eqb (getD t 0 0) 0x7f) _ (Refused 18 0)
-    (λ q. pick-has Numbered (eqb (lengthOf (getD t 1 0) (getD t 2 0)) 0) (endIn t) (Refused 18 0) (λ z. end) (λ z. here))
+    (λ d. pick-has Numbered (eqb (lengthOf (getD t 1 0) (getD t 2 0)) 13) (stepIn t) (Refused 0 18) (λ q. step) (λ q. here))
+    (λ d. pick-has Numbered (eqb (getD t 0 0) 0x7f) _ (Refused 0 18)
+    (λ q. pick-has Numbered (eqb (lengthOf (getD t 1 0) (getD t 2 0)) 0) (endIn t) (Refused 0 18) (λ z. end) (λ z. here))
     (λ q. here)))
 
-pub refused-18 : (t : List ℕ) (r p : ℕ) → fieldOf t ≡ Refused r p → (r ≡ 18) × (p ≤ 1)
+pub refused-18 : (t : List ℕ) (r p : ℕ) → fieldOf t ≡ Refused p r → (r ≡ 18) × (p ≤ 1)
 refused-18 t r p e = subst Numbered e (numbered t)

@@ -28,7 +28,7 @@ step-shorter t s n e = let f = step-told t s n e in omega (arith, length-drop n 
 module _ (P : List ℕ → Type 0)
     (at-step : (t : List ℕ) (s : Step) (n : ℕ) → fieldOf t ≡ IsStep s n → P (drop n t) → P t)
     (at-end : (t : List ℕ) → fieldOf t ≡ End → P t)
-    (at-refused : (t : List ℕ) (r p : ℕ) → fieldOf t ≡ Refused r p → P t) where
+    (at-refused : (t : List ℕ) (r p : ℕ) → fieldOf t ≡ Refused p r → P t) where
   by-length : (k : ℕ) (t : List ℕ) → length t < k → P t
   by-length zero t l = absurd (not-suc-le-zero l)
   by-length (suc k) t l = go (fieldOf t) refl (λ u m. by-length k u m)
@@ -36,7 +36,7 @@ module _ (P : List ℕ → Type 0)
       go : (f : Field) → fieldOf t ≡ f → ((u : List ℕ) → length u < k → P u) → P t
       go (IsStep s n) e rest = let m = step-shorter t s n e in at-step t s n e (rest (drop n t) (omega arith))
       go End e rest = at-end t e
-      go (Refused r p) e rest = at-refused t r p e
+      go (Refused p r) e rest = at-refused t r p e
 
   pub by-fields : (t : List ℕ) → P t
   by-fields t = by-length (suc (length t)) t (omega arith)
@@ -64,7 +64,7 @@ free-last t f e same (suc k) zero h g = absurd (not-suc-le-zero g)
 free-last t f e same (suc k) (suc j) h g = one-turn t k j f e (same k j)
 
 bound-free : (t : List ℕ) → BoundFree t
-bound-free t = by-fields BoundFree free-step (λ u e. free-last u End e (λ k j. refl)) (λ u r p e. free-last u (Refused r p) e (λ k j. refl)) t
+bound-free t = by-fields BoundFree free-step (λ u e. free-last u End e (λ k j. refl)) (λ u r p e. free-last u (Refused p r) e (λ k j. refl)) t
 
 pub whole-step : (t : List ℕ) (s : Step) (n : ℕ) → fieldOf t ≡ IsStep s n
     → wholeOf t ≡ record { steps = s ∷ wholeOf (drop n t) .steps; last = wholeOf (drop n t) .last }
@@ -79,7 +79,7 @@ pub whole-end : (t : List ℕ) → fieldOf t ≡ End → wholeOf t ≡ record { 
 unfolding wholeOf wholeFrom
 whole-end t e = ap (λ (f : Field). onField f (λ (m : ℕ). wholeFrom (length t) (drop m t))) e
 
-pub whole-refused : (t : List ℕ) (r p : ℕ) → fieldOf t ≡ Refused r p → wholeOf t ≡ record { steps = []; last = Refused r p }
+pub whole-refused : (t : List ℕ) (r p : ℕ) → fieldOf t ≡ Refused p r → wholeOf t ≡ record { steps = []; last = Refused p r }
 unfolding wholeOf wholeFrom
 whole-refused t r p e = ap (λ (f : Field). onField f (λ (m : ℕ). wholeFrom (length t) (drop m t))) e
 
@@ -112,7 +112,7 @@ again-end : (t : List ℕ) → fieldOf t ≡ End → Again t
 unfolding textOf
 again-end t e h sound = ap (λ (x : Whole). textOf (x .steps)) (whole-end t e) ∙ sym (end-bytes t e)
 
-again-refused : (t : List ℕ) (r p : ℕ) → fieldOf t ≡ Refused r p → Again t
+again-refused : (t : List ℕ) (r p : ℕ) → fieldOf t ≡ Refused p r → Again t
 again-refused t r p e h sound = absurd (clash (isSound t) sound (ap (λ (x : Whole). isEnd (x .last)) (whole-refused t r p e)))
 
 pub text-again : (t : List ℕ) → Bytes t → isSound t ≡ true → textOf (stepsIn t) ≡ t

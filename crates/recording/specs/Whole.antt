@@ -5,6 +5,7 @@ use mathlib.Core.Bool.{Bool}
 use mathlib.Core.List.{List, [], _∷_, _++_}
 use lib.Dec.{eqb}
 use lib.ListN.{length, drop}
+use Rattle.numbers.specs.Refusals.{badField}
 use Rattle.laws.specs.Choice.{pick}
 use Rattle.values.specs.declared.Step.{Step}
 use Rattle.wire.specs.Bytes.{endBytes, wroteTo, wroteBytes}
@@ -23,11 +24,11 @@ pub record Whole : Type 0 where
 abbrev pub onField : Field → (ℕ → Whole) → Whole
 onField (IsStep s n) next = record { steps = s ∷ next n .steps; last = next n .last }
 onField End next = record { steps = []; last = End }
-onField (Refused r p) next = record { steps = []; last = Refused r p }
+onField (Refused p r) next = record { steps = []; last = Refused p r }
 
 -- the same with a bound on the fields
 unfoldable pub wholeFrom : ℕ → List ℕ → Whole
-wholeFrom zero t = record { steps = []; last = Refused 18 0 }
+wholeFrom zero t = record { steps = []; last = Refused 0 badField }
 wholeFrom (suc k) t = onField (fieldOf t) (λ (n : ℕ). wholeFrom k (drop n t))
 
 -- a field has bytes, so there are no more fields than bytes
@@ -58,7 +59,7 @@ EachRecorded (s ∷ ss) = Recorded s × EachRecorded ss
 
 -- a recording read and written again: 18 for a text that is none, then 27 ("Numbers of refusal", 18 and writing)
 abbrev pub rewriteTo : List ℕ → List ℕ → Wrote
-rewriteTo s b = pick (isSound s) (wroteTo b 0 (length s)) (NotWritten 18)
+rewriteTo s b = pick (isSound s) (wroteTo b 0 (length s)) (NotWritten badField)
 
 -- the buffer afterwards: the same text ("Numbers of refusal", writing)
 abbrev pub rewriteWritten : List ℕ → List ℕ → List ℕ

@@ -8,7 +8,7 @@ ghost use Rattle.wire.specs.Bytes.{endBytes, Written};
 ghost use Rattle.recording.specs.Recording.{valuesGood, tested, stepIn, endIn, fieldOf, stepTo, stepWritten, writeAndReadOf};
 ghost use Rattle.recording.specs.Whole.{isSound, rewriteTo, rewriteWritten};
 
-// What stands next in a recording: a step and the size of its field, the end, or a refusal and how many places past the field asked for it stands.
+// What stands next in a recording: a step and the size of its field, the end, or a refusal: how many places past the field asked for it stands, and its number.
 pub enum Field {
     Step(Step, usize),
     End,
@@ -34,7 +34,7 @@ fn tested(s: Step) -> Field
     if values_good(s) {
         return Field::Step(s, 16);
     }
-    Field::Refused(18, 0)
+    Field::Refused(0, numbers::BAD_FIELD)
 }
 
 // The step field at the front of a text.
@@ -42,7 +42,7 @@ fn step_in(t: &[u8]) -> Field
     ensures { λ r. ⌜ r ≡ stepIn (now (t .entry)) ⌝ }
 {
     if t.len() < 16 {
-        return Field::Refused(18, 0);
+        return Field::Refused(0, numbers::BAD_FIELD);
     }
     let argument = Value {
         kind: t[6],
@@ -68,7 +68,7 @@ fn end_in(t: &[u8]) -> Field
     if t.len() == 3 {
         return Field::End;
     }
-    Field::Refused(18, 1)
+    Field::Refused(1, numbers::BAD_FIELD)
 }
 
 // The field at the front of a text.
@@ -76,23 +76,23 @@ fn field_of(t: &[u8]) -> Field
     ensures { λ r. ⌜ r ≡ fieldOf (now (t .entry)) ⌝ }
 {
     if t.len() < 3 {
-        return Field::Refused(18, 0);
+        return Field::Refused(0, numbers::BAD_FIELD);
     }
     let tag = t[0];
     let size = wire::length_of(t[1], t[2]);
-    if tag == 0x40 {
+    if tag == numbers::TAG_STEP {
         if size == 13 {
             return step_in(t);
         }
-        return Field::Refused(18, 0);
+        return Field::Refused(0, numbers::BAD_FIELD);
     }
-    if tag == 0x7f {
+    if tag == numbers::TAG_END {
         if size == 0 {
             return end_in(t);
         }
-        return Field::Refused(18, 0);
+        return Field::Refused(0, numbers::BAD_FIELD);
     }
-    Field::Refused(18, 0)
+    Field::Refused(0, numbers::BAD_FIELD)
 }
 
 // The field at a place of a text.
@@ -100,7 +100,7 @@ pub fn read_field(s: &[u8], at: usize) -> Field
     ensures { λ r. ⌜ r ≡ fieldOf (drop at (now (s .entry))) ⌝ }
 {
     if s.len() < at {
-        return Field::Refused(18, 0);
+        return Field::Refused(0, numbers::BAD_FIELD);
     }
     field_of(&s[at..])
 }
@@ -116,7 +116,7 @@ pub fn write_step(buf: &mut [u8], at: usize, s: Step) -> Wrote
         let m = argument.number;
         let n = claim.number;
         let bytes = [
-            0x40,
+            numbers::TAG_STEP,
             0,
             13,
             s.code,
@@ -135,14 +135,14 @@ pub fn write_step(buf: &mut [u8], at: usize, s: Step) -> Wrote
         ];
         return wire::write(buf, at, &bytes);
     }
-    Wrote::Refused(18)
+    Wrote::Refused(numbers::BAD_FIELD)
 }
 
 // The end field written from a place on.
 pub fn write_end(buf: &mut [u8], at: usize) -> Wrote
     ensures { λ r. ⌜ Written (now (buf .entry)) at endBytes r (now (buf .exit)) ⌝ }
 {
-    wire::write(buf, at, &[0x7f, 0, 0])
+    wire::write(buf, at, &[numbers::TAG_END, 0, 0])
 }
 
 // A text is a recording: step fields, then the end.
@@ -172,10 +172,10 @@ pub fn rewrite(s: &[u8], buf: &mut [u8]) -> Wrote
 {
     if is_sound(s) {
         if buf.len() < s.len() {
-            return Wrote::Refused(27);
+            return Wrote::Refused(numbers::NO_ROOM);
         }
     } else {
-        return Wrote::Refused(18);
+        return Wrote::Refused(numbers::BAD_FIELD);
     }
     let mut at: usize = 0;
     loop {
@@ -187,7 +187,7 @@ pub fn rewrite(s: &[u8], buf: &mut [u8]) -> Wrote
             Field::End => {
                 return write_end(buf, at);
             }
-            Field::Refused(r, _) => {
+            Field::Refused(_, r) => {
                 return Wrote::Refused(r);
             }
         }
@@ -201,6 +201,6 @@ pub fn write_and_read(buf: &mut [u8], at: usize, s: Step) -> Field
 {
     match write_step(buf, at, s) {
         Wrote::To(_) => read_field(buf, at),
-        Wrote::Refused(r) => Field::Refused(r, 0),
+        Wrote::Refused(r) => Field::Refused(0, r),
     }
 }

@@ -1,5 +1,4 @@
--- Document 01 as definitions: "A sound state", "Numbers of refusal" (1 to 17) and "The eighteen steps".
+-- Document 01 as definitions: "A sound state", the table of codes, and refusals 2 to 5 ("Numbers of refusal").
 pub mod Sound
+pub mod Rows
 pub mod Refusals
-pub mod Steps
-pub mod Step

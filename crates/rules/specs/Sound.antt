@@ -1,7 +1,7 @@
 -- When a state is sound, as a test that computes ("A sound state"). Each clause is named, and goes over the tables that it reads; what is said of all stored values, or of all parts named, stands in the clauses of the tables that hold them.
 -- A state that code holds has tables of the right lengths; as a definition ranges over any lists, the lengths are tested too.
 -- Assumes nothing.
-use Prim.Native.Nat.{ℕ, _+_}
+use Prim.Native.Nat.{ℕ, _+_, _-_}
 use mathlib.Core.Bool.{Bool, not}
 use mathlib.Core.List.{List, [], _∷_}
 use lib.Dec.{ltb, leb, eqb}
@@ -9,7 +9,7 @@ use lib.ListN.{length, getD}
 use Rattle.laws.specs.Choice.{pick, both, either, alike, bit, allOf}
 use Rattle.laws.specs.Loop.{allBelow, sumBelow, countBelow}
 use Rattle.laws.specs.Row.{filled}
-use Rattle.values.specs.Values.{voidV, isVoid, isPayload}
+use Rattle.values.specs.Values.{voidV, timeoutV, neverReceivedV, invalidV, isVoid, isPayload}
 use Rattle.values.specs.declared.Value.{Value}
 use Rattle.config.specs.declared.Config.{Config}
 use Rattle.config.specs.Tables.{maxRunnableConfs, maxVariableConfs, maxAreaConfs, maxRequiredConfs, maxOperationConfs, maxTimerConfs, runnableConfIn, areaConfIn, requiredConfIn, operationConfIn, timerConfIn}
@@ -33,7 +33,7 @@ use Rattle.state.specs.declared.Stack.{Stack}
 use Rattle.state.specs.declared.Slot.{Slot}
 use Rattle.state.specs.declared.Slots.{Slots}
 use Rattle.state.specs.declared.State.{State}
-use Rattle.state.specs.Parts.{noClient, maxRequests, maxValues}
+use Rattle.state.specs.Parts.{lastNumber, noClient, maxRequests, maxValues}
 use Rattle.state.specs.Tables.{maxSlots, runnableIn, variableIn, areaIn, elementIn, operationIn, timerIn, slotIn}
 
 -- the component of a runnable ("The parts, and how many")
@@ -79,7 +79,7 @@ variableSound cfg v x = pick (ltb v (cfg .variables .n)) (isPayload (x .value)) 
 
 -- what an unqueued element may hold: a payload, NeverReceived or Invalid ("A sound state", stored values)
 unfoldable pub isStored : Value → Bool
-isStored v = either (isPayload v) (both (either (eqb (v .kind) 6) (eqb (v .kind) 7)) (eqb (v .number) 0))
+isStored v = either (isPayload v) (both (either (eqb (v .kind) (neverReceivedV .kind)) (eqb (v .kind) (invalidV .kind))) (eqb (v .number) 0))
 
 -- an element: an unqueued one holds what it may and has no queue; a queued one, or one that isn't there, holds no value and has its flag off ("A sound state", stored values and unused places)
 unfoldable pub elementSound : Config → ℕ → Element → Bool
@@ -92,7 +92,7 @@ elementSound cfg q x =
 
 -- what Done may hold: a payload or Timeout ("A sound state", stored values)
 unfoldable pub isOutcome : Value → Bool
-isOutcome v = either (isPayload v) (both (eqb (v .kind) 5) (eqb (v .number) 0))
+isOutcome v = either (isPayload v) (both (eqb (v .kind) (timeoutV .kind)) (eqb (v .number) 0))
 
 -- a Calling operation is there, its count is at most the timeout, its number at most 65,534, and it holds no value ("A sound state", Calling)
 unfoldable pub callingSound : Config → ℕ → Operation → Bool
@@ -100,7 +100,7 @@ callingSound cfg o x =
     allOf
     (ltb o (cfg .operations .n)
     ∷ leb (x .count) (operationConfIn (cfg .operations) o .timeout)
-    ∷ leb (x .number) 65534
+    ∷ leb (x .number) (lastNumber - 1)
     ∷ isVoid (x .done)
     ∷ [])
 
@@ -110,7 +110,7 @@ doneSound cfg o x = both (eqb (x .count) 0) (pick (ltb o (cfg .operations .n)) (
 
 -- an operation: its number fits, and it is soundly Calling or Done ("A sound state", Calling and Done)
 unfoldable pub operationSound : Config → ℕ → Operation → Bool
-operationSound cfg o x = both (leb (x .number) 65535) (pick (x .calling) (callingSound cfg o x) (doneSound cfg o x))
+operationSound cfg o x = both (leb (x .number) lastNumber) (pick (x .calling) (callingSound cfg o x) (doneSound cfg o x))
 
 -- a timer's count is at most its period ("A sound state", counts)
 unfoldable pub timerSound : Config → ℕ → Timer → Bool

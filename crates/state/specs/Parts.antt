@@ -63,6 +63,10 @@ noOperation = record { number = 0; calling = false; count = 0; done = voidV }
 abbrev pub noTimer : Timer
 noTimer = record { count = 0 }
 
+-- the highest number of an operation ("The parts, and how many")
+abbrev pub lastNumber : ℕ
+lastNumber = 65535
+
 -- the life of no instance ("A sound state", unused places)
 abbrev pub noLife : Life
 noLife = record { runnable = 0; waiting = false; on = 0; finished = false }

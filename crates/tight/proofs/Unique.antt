@@ -338,64 +338,82 @@ gate-scheduler-refusal κs a x y s t = same
 pub sound-is-sound : One Rattle.sound.proofs.is_sound.Kinds.ps Rattle.sound.proofs.is_sound.Kinds.r Rattle.sound.proofs.is_sound.Reads.Post
 sound-is-sound κs a x y s t = same
 
--- ---- steps
+-- ---- shared_steps
 
-pub steps-refuse : One Rattle.steps.proofs.refuse.Kinds.ps Rattle.steps.proofs.refuse.Kinds.r Rattle.steps.proofs.refuse.Reads.Post
-steps-refuse κs a x y s t = same
+pub shared-steps-refuse : One Rattle.shared_steps.proofs.refuse.Kinds.ps Rattle.shared_steps.proofs.refuse.Kinds.r Rattle.shared_steps.proofs.refuse.Reads.Post
+shared-steps-refuse κs a x y s t = same
 
-pub steps-read-variable : One Rattle.steps.proofs.read_variable.Kinds.ps Rattle.steps.proofs.read_variable.Kinds.r Rattle.steps.proofs.read_variable.Reads.Post
-steps-read-variable κs a x y s t = same
+pub shared-steps-take : One Rattle.shared_steps.proofs.take.Kinds.ps Rattle.shared_steps.proofs.take.Kinds.r Rattle.shared_steps.proofs.take.Reads.Post
+shared-steps-take κs a x y s t = same
 
-pub steps-write-variable : One Rattle.steps.proofs.write_variable.Kinds.ps Rattle.steps.proofs.write_variable.Kinds.r Rattle.steps.proofs.write_variable.Reads.Post
-steps-write-variable κs a x y s t = same
+pub shared-steps-within : One Rattle.shared_steps.proofs.within.Kinds.ps Rattle.shared_steps.proofs.within.Kinds.r Rattle.shared_steps.proofs.within.Reads.Post
+shared-steps-within κs a x y s t p q = same (p .1) (q .1)
 
-pub steps-enter : One Rattle.steps.proofs.enter.Kinds.ps Rattle.steps.proofs.enter.Kinds.r Rattle.steps.proofs.enter.Reads.Post
-steps-enter κs a x y s t = same
+pub shared-steps-woken : One Rattle.shared_steps.proofs.woken.Kinds.ps Rattle.shared_steps.proofs.woken.Kinds.r Rattle.shared_steps.proofs.woken.Reads.Post
+shared-steps-woken κs a x y s t = same
 
-pub steps-exit : One Rattle.steps.proofs.exit.Kinds.ps Rattle.steps.proofs.exit.Kinds.r Rattle.steps.proofs.exit.Reads.Post
-steps-exit κs a x y s t = same
+pub shared-steps-woken-if : One Rattle.shared_steps.proofs.woken_if.Kinds.ps Rattle.shared_steps.proofs.woken_if.Kinds.r Rattle.shared_steps.proofs.woken_if.Reads.Post
+shared-steps-woken-if κs a x y s t = same
 
-pub steps-read : One Rattle.steps.proofs.read.Kinds.ps Rattle.steps.proofs.read.Kinds.r Rattle.steps.proofs.read.Reads.Post
-steps-read κs a x y s t = same
+-- ---- data_steps
 
-pub steps-updated : One Rattle.steps.proofs.updated.Kinds.ps Rattle.steps.proofs.updated.Kinds.r Rattle.steps.proofs.updated.Reads.Post
-steps-updated κs a x y s t = same
+pub data-steps-read-variable : One Rattle.data_steps.proofs.read_variable.Kinds.ps Rattle.data_steps.proofs.read_variable.Kinds.r Rattle.data_steps.proofs.read_variable.Reads.Post
+data-steps-read-variable κs a x y s t = same
 
-pub steps-write : One Rattle.steps.proofs.write.Kinds.ps Rattle.steps.proofs.write.Kinds.r Rattle.steps.proofs.write.Reads.Post
-steps-write κs a x y s t = same
+pub data-steps-write-variable : One Rattle.data_steps.proofs.write_variable.Kinds.ps Rattle.data_steps.proofs.write_variable.Kinds.r Rattle.data_steps.proofs.write_variable.Reads.Post
+data-steps-write-variable κs a x y s t = same
 
-pub steps-invalidate : One Rattle.steps.proofs.invalidate.Kinds.ps Rattle.steps.proofs.invalidate.Kinds.r Rattle.steps.proofs.invalidate.Reads.Post
-steps-invalidate κs a x y s t = same
+pub data-steps-enter : One Rattle.data_steps.proofs.enter.Kinds.ps Rattle.data_steps.proofs.enter.Kinds.r Rattle.data_steps.proofs.enter.Reads.Post
+data-steps-enter κs a x y s t = same
 
-pub steps-send : One Rattle.steps.proofs.send.Kinds.ps Rattle.steps.proofs.send.Kinds.r Rattle.steps.proofs.send.Reads.Post
-steps-send κs a x y s t = same
+pub data-steps-exit : One Rattle.data_steps.proofs.exit.Kinds.ps Rattle.data_steps.proofs.exit.Kinds.r Rattle.data_steps.proofs.exit.Reads.Post
+data-steps-exit κs a x y s t = same
 
-pub steps-receive : One Rattle.steps.proofs.receive.Kinds.ps Rattle.steps.proofs.receive.Kinds.r Rattle.steps.proofs.receive.Reads.Post
-steps-receive κs a x y s t = same
+pub data-steps-read : One Rattle.data_steps.proofs.read.Kinds.ps Rattle.data_steps.proofs.read.Kinds.r Rattle.data_steps.proofs.read.Reads.Post
+data-steps-read κs a x y s t = same
 
-pub steps-call : One Rattle.steps.proofs.call.Kinds.ps Rattle.steps.proofs.call.Kinds.r Rattle.steps.proofs.call.Reads.Post
-steps-call κs a x y s t = same
+pub data-steps-updated : One Rattle.data_steps.proofs.updated.Kinds.ps Rattle.data_steps.proofs.updated.Kinds.r Rattle.data_steps.proofs.updated.Reads.Post
+data-steps-updated κs a x y s t = same
 
-pub steps-result : One Rattle.steps.proofs.result.Kinds.ps Rattle.steps.proofs.result.Kinds.r Rattle.steps.proofs.result.Reads.Post
-steps-result κs a x y s t = same
+pub data-steps-write : One Rattle.data_steps.proofs.write.Kinds.ps Rattle.data_steps.proofs.write.Kinds.r Rattle.data_steps.proofs.write.Reads.Post
+data-steps-write κs a x y s t = same
 
-pub steps-hand-back : One Rattle.steps.proofs.hand_back.Kinds.ps Rattle.steps.proofs.hand_back.Kinds.r Rattle.steps.proofs.hand_back.Reads.Post
-steps-hand-back κs a x y s t = same
+pub data-steps-invalidate : One Rattle.data_steps.proofs.invalidate.Kinds.ps Rattle.data_steps.proofs.invalidate.Kinds.r Rattle.data_steps.proofs.invalidate.Reads.Post
+data-steps-invalidate κs a x y s t = same
 
-pub steps-timeout : One Rattle.steps.proofs.timeout.Kinds.ps Rattle.steps.proofs.timeout.Kinds.r Rattle.steps.proofs.timeout.Reads.Post
-steps-timeout κs a x y s t = same
+pub data-steps-send : One Rattle.data_steps.proofs.send.Kinds.ps Rattle.data_steps.proofs.send.Kinds.r Rattle.data_steps.proofs.send.Reads.Post
+data-steps-send κs a x y s t = same
 
-pub steps-end : One Rattle.steps.proofs.end.Kinds.ps Rattle.steps.proofs.end.Kinds.r Rattle.steps.proofs.end.Reads.Post
-steps-end κs a x y s t = same
+pub data-steps-receive : One Rattle.data_steps.proofs.receive.Kinds.ps Rattle.data_steps.proofs.receive.Kinds.r Rattle.data_steps.proofs.receive.Reads.Post
+data-steps-receive κs a x y s t = same
 
-pub steps-spawn : One Rattle.steps.proofs.spawn.Kinds.ps Rattle.steps.proofs.spawn.Kinds.r Rattle.steps.proofs.spawn.Reads.Post
-steps-spawn κs a x y s t = same
+-- ---- call_steps
 
-pub steps-tick : One Rattle.steps.proofs.tick.Kinds.ps Rattle.steps.proofs.tick.Kinds.r Rattle.steps.proofs.tick.Reads.Post
-steps-tick κs a x y s t = same
+pub call-steps-call : One Rattle.call_steps.proofs.call.Kinds.ps Rattle.call_steps.proofs.call.Kinds.r Rattle.call_steps.proofs.call.Reads.Post
+call-steps-call κs a x y s t = same
 
-pub steps-wait : One Rattle.steps.proofs.wait.Kinds.ps Rattle.steps.proofs.wait.Kinds.r Rattle.steps.proofs.wait.Reads.Post
-steps-wait κs a x y s t = same
+pub call-steps-result : One Rattle.call_steps.proofs.result.Kinds.ps Rattle.call_steps.proofs.result.Kinds.r Rattle.call_steps.proofs.result.Reads.Post
+call-steps-result κs a x y s t = same
+
+pub call-steps-hand-back : One Rattle.call_steps.proofs.hand_back.Kinds.ps Rattle.call_steps.proofs.hand_back.Kinds.r Rattle.call_steps.proofs.hand_back.Reads.Post
+call-steps-hand-back κs a x y s t = same
+
+pub call-steps-timeout : One Rattle.call_steps.proofs.timeout.Kinds.ps Rattle.call_steps.proofs.timeout.Kinds.r Rattle.call_steps.proofs.timeout.Reads.Post
+call-steps-timeout κs a x y s t = same
+
+pub call-steps-end : One Rattle.call_steps.proofs.end.Kinds.ps Rattle.call_steps.proofs.end.Kinds.r Rattle.call_steps.proofs.end.Reads.Post
+call-steps-end κs a x y s t = same
+
+-- ---- time_steps
+
+pub time-steps-spawn : One Rattle.time_steps.proofs.spawn.Kinds.ps Rattle.time_steps.proofs.spawn.Kinds.r Rattle.time_steps.proofs.spawn.Reads.Post
+time-steps-spawn κs a x y s t = same
+
+pub time-steps-tick : One Rattle.time_steps.proofs.tick.Kinds.ps Rattle.time_steps.proofs.tick.Kinds.r Rattle.time_steps.proofs.tick.Reads.Post
+time-steps-tick κs a x y s t = same
+
+pub time-steps-wait : One Rattle.time_steps.proofs.wait.Kinds.ps Rattle.time_steps.proofs.wait.Kinds.r Rattle.time_steps.proofs.wait.Reads.Post
+time-steps-wait κs a x y s t = same
 
 -- ---- machine
 

@@ -192,7 +192,7 @@ end-text t cfg last e l =
 abbrev IsTextOf : List ℕ → Reading → Type 0
 IsTextOf s r = r .outcome ≡ Whole → textOf (r .config) ≡ s
 
-not-whole : (s : List ℕ) (number place : ℕ) → IsTextOf s (refusedAt number place)
+not-whole : (s : List ℕ) (number place : ℕ) → IsTextOf s (refusedAt place number)
 unfolding refusedAt
 not-whole s number place q = let z : _≡_ {A = ℕ} 0 1 = cc in absurd (omega arith)
 
@@ -209,10 +209,10 @@ again-from (suc fuel) t cfg last place h f =
         → (x : Head) → headOf t last ≡ x → IsTextOf (before cfg last ++ t) (onHead x t cfg place next)
     go rest (Bad number) e = not-whole (before cfg last ++ t) number place
     go rest End e =
-        pick-has (IsTextOf (before cfg last ++ t)) (eqb (length t) 3) (wholeOf cfg) (refusedAt 21 (place + 1))
+        pick-has (IsTextOf (before cfg last ++ t)) (eqb (length t) 3) (wholeOf cfg) (refusedAt (place + 1) 21)
         (λ l q. end-text t cfg last e (eqb-true (length t) 3 l)) (λ l. not-whole (before cfg last ++ t) 21 (place + 1))
     go rest (Field tag size) e =
-        pick-has (IsTextOf (before cfg last ++ t)) (eqb (bodyFault cfg tag t) 0) (next tag size) (refusedAt (bodyFault cfg tag t) place)
+        pick-has (IsTextOf (before cfg last ++ t)) (eqb (bodyFault cfg tag t) 0) (next tag size) (refusedAt place (bodyFault cfg tag t))
         (λ z q. let s = one-step t h cfg last tag size (field-frame t last e) f (eqb-true (bodyFault cfg tag t) 0 z) in rest tag size (s .tidy) q ∙ s .text)
         (λ z. not-whole (before cfg last ++ t) (bodyFault cfg tag t) place)
 
@@ -240,7 +240,7 @@ module _ (s b : List ℕ) (x : Reading) (q : x ≡ configOf s) where
             ∙ ap (λ (y : Outcome). rewriteWritten y s b) (sym o),
       )
 
-  pub again-refused : (n p : ℕ) → x .outcome ≡ Refused n p → (NotWritten n ≡ rewriteTo (configOf s .outcome) s b) × (b ≡ rewriteWritten (configOf s .outcome) s b)
+  pub again-refused : (n p : ℕ) → x .outcome ≡ Refused p n → (NotWritten n ≡ rewriteTo (configOf s .outcome) s b) × (b ≡ rewriteWritten (configOf s .outcome) s b)
   again-refused n p w =
-      let o : Refused n p ≡ configOf s .outcome = sym w ∙ ap (λ (y : Reading). y .outcome) q in
+      let o : Refused p n ≡ configOf s .outcome = sym w ∙ ap (λ (y : Reading). y .outcome) q in
       (ap (λ (y : Outcome). rewriteTo y s b) o, ap (λ (y : Outcome). rewriteWritten y s b) o)

@@ -50,7 +50,7 @@ turn : (fuel : ℕ) (t : List ℕ) (p : Config) (last place tag size : ℕ) → 
 unfolding readFrom
 turn fuel t p last place tag size e z =
     ap (λ (x : Head). onHead x t p place (λ (k m : ℕ). readFrom fuel (drop (3 + m) t) (placed p k (entryIn k t)) k (place + 1))) e
-    ∙ ap (λ (b : Bool). pick b (readFrom fuel (drop (3 + size) t) (placed p tag (entryIn tag t)) tag (place + 1)) (refusedAt (bodyFault p tag t) place)) (eq-eqb (bodyFault p tag t) 0 z)
+    ∙ ap (λ (b : Bool). pick b (readFrom fuel (drop (3 + size) t) (placed p tag (entryIn tag t)) tag (place + 1)) (refusedAt place (bodyFault p tag t))) (eq-eqb (bodyFault p tag t) 0 z)
 
 -- the edition comes first, and places nothing
 first : (rest : List ℕ) (fuel : ℕ) → readFrom (suc fuel) (editionBytes ++ rest) noConfig 0 1 ≡ readFrom fuel rest noConfig 0x01 2
@@ -179,5 +179,5 @@ module _ (b b′ : List ℕ) (cfg : Config) (r : Wrote) (to : r ≡ configTo b c
   pub back-whole : ((i : ℕ) → getD (cfg .variables .at) i noVariableConf .initial < 2 ^ 32) → r ≡ To n → configOf (take n b′) ≡ readBack (configTo b cfg) cfg
   back-whole v e = ap configOf (back-text e) ∙ text-back cfg (written e .sound) v ∙ ap (λ (x : Wrote). readBack x cfg) (sym e ∙ to)
 
-  pub back-refused : r ≡ NotWritten n → refusedAt n 0 ≡ readBack (configTo b cfg) cfg
+  pub back-refused : r ≡ NotWritten n → refusedAt 0 n ≡ readBack (configTo b cfg) cfg
   back-refused e = ap (λ (x : Wrote). readBack x cfg) (sym e ∙ to)

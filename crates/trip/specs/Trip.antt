@@ -15,14 +15,14 @@ use Rattle.reading.specs.Reading.{wholeOf, refusedAt}
 -- a text s, read and written again: the number that reading it gives, then 27 ("Numbers of refusal", writing)
 abbrev pub rewriteTo : Outcome → List ℕ → List ℕ → Wrote
 rewriteTo Whole s b = wroteTo b 0 (length s)
-rewriteTo (Refused number place) s b = NotWritten number
+rewriteTo (Refused place number) s b = NotWritten number
 
 -- the buffer afterwards: the same text ("The files")
 abbrev pub rewriteWritten : Outcome → List ℕ → List ℕ → List ℕ
 rewriteWritten Whole s b = wroteBytes b 0 s
-rewriteWritten (Refused number place) s b = b
+rewriteWritten (Refused place number) s b = b
 
 -- a configuration written and read back, by the answer to writing it: the same configuration, or the writer's number and no place ("The files")
 abbrev pub writeAndReadOf : Wrote → Config → Reading
 writeAndReadOf (To size) cfg = wholeOf cfg
-writeAndReadOf (NotWritten number) cfg = refusedAt number 0
+writeAndReadOf (NotWritten number) cfg = refusedAt 0 number

@@ -17,7 +17,7 @@ pub fn rewrite_config(s: &[u8], buf: &mut [u8]) -> Wrote
     let outcome = read.outcome;
     match outcome {
         Outcome::Whole => writing::write_config(buf, read.config),
-        Outcome::Refused(number, _) => Wrote::Refused(number),
+        Outcome::Refused(_, number) => Wrote::Refused(number),
     }
 }
 
@@ -29,7 +29,7 @@ pub fn write_and_read(buf: &mut [u8], cfg: Config) -> Reading
     match writing::write_config(buf, cfg) {
         Wrote::To(size) => reading::read_config(&buf[..size]),
         Wrote::Refused(number) => Reading {
-            outcome: Outcome::Refused(number, 0),
+            outcome: Outcome::Refused(0, number),
             config: Config::none(),
         },
     }

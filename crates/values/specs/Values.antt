@@ -44,13 +44,17 @@ invalidV = record { kind = 7; number = 0 }
 unfoldable pub isVoid : Value → Bool
 isVoid v = both (eqb (v .kind) 0) (eqb (v .number) 0)
 
+-- a Number, whatever it is ("The parts, and how many")
+abbrev pub isNumber : Value → Bool
+isNumber v = eqb (v .kind) 1
+
 -- a payload is Void or a Number (ours: instances hand over nothing else) ("The parts, and how many")
 unfoldable pub isPayload : Value → Bool
-isPayload v = either (eqb (v .kind) 1) (isVoid v)
+isPayload v = either (isNumber v) (isVoid v)
 
 -- a value is good if its kind is one of the eight and only a Number has a number; any other is a bad value ("The files", last sentence)
 unfoldable pub isGood : Value → Bool
-isGood v = either (eqb (v .kind) 1) (both (ltb (v .kind) 8) (eqb (v .number) 0))
+isGood v = either (isNumber v) (both (ltb (v .kind) 8) (eqb (v .number) 0))
 
 -- two values are the same if kind and number are ("Numbers of refusal", 17)
 unfoldable pub sameValue : Value → Value → Bool

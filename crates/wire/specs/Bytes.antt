@@ -5,6 +5,8 @@ use mathlib.Core.List.{List, [], _∷_, _++_}
 use mathlib.Core.Path.{_≡_}
 use lib.ListN.{length, take, drop}
 use lib.Dec.{leb}
+use Rattle.numbers.specs.Refusals.{noRoom}
+use Rattle.numbers.specs.Tags.{endTag}
 use Rattle.laws.specs.Choice.{pick}
 use Rattle.wire.specs.declared.Wrote.{Wrote}
 use Rattle.wire.specs.declared.Wrote.the-variants.{To, Refused}
@@ -33,7 +35,7 @@ bytes32 n = n / 256 / 256 / 256 % 256 ∷ n / 256 / 256 % 256 ∷ n / 256 % 256 
 
 -- the end field, which both files have: its tag, and no body ("The files", tag 7F)
 abbrev pub endBytes : List ℕ
-endBytes = 0x7f ∷ 0 ∷ 0 ∷ []
+endBytes = endTag ∷ 0 ∷ 0 ∷ []
 
 -- a buffer with xs from a place on; before them and behind them it is as it was ("Numbers of refusal", writing)
 abbrev pub putAt : List ℕ → ℕ → List ℕ → List ℕ
@@ -41,7 +43,7 @@ putAt b at xs = (take at b ++ xs) ++ drop (at + length xs) b
 
 -- the answer to writing so many bytes: 27 exactly where the buffer ends before them ("Numbers of refusal", writing)
 abbrev pub wroteTo : List ℕ → ℕ → ℕ → Wrote
-wroteTo b at size = pick (leb (at + size) (length b)) (To (at + size)) (Refused 27)
+wroteTo b at size = pick (leb (at + size) (length b)) (To (at + size)) (Refused noRoom)
 
 -- the buffer after writing: untouched by a refusal ("Numbers of refusal", writing)
 abbrev pub wroteBytes : List ℕ → ℕ → List ℕ → List ℕ

@@ -43,10 +43,10 @@ pub fn write(buf: &mut [u8], at: usize, bytes: &[u8]) -> Wrote
     let room = buf.len();
     let size = bytes.len();
     if room < size {
-        return Wrote::Refused(27);
+        return Wrote::Refused(numbers::NO_ROOM);
     }
     if room - size < at {
-        return Wrote::Refused(27);
+        return Wrote::Refused(numbers::NO_ROOM);
     }
     put(buf, at, bytes);
     Wrote::To(at + size)

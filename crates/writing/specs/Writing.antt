@@ -4,6 +4,8 @@ use Prim.Native.Nat.{ℕ, _+_, _*_}
 use mathlib.Core.List.{List, [], _∷_, _++_}
 use lib.ListN.{length}
 use lib.Dec.{eqb}
+use Rattle.numbers.specs.Refusals.{notSound}
+use Rattle.numbers.specs.Tags.{runnableTag, variableTag, areaTag, operationTag, timerTag, editionTag, runnableLength, fieldHead, variableLength, areaLength, operationLength, timerLength, pairLength, editionLength, partKinds}
 use Rattle.laws.specs.Choice.{pick}
 use Rattle.laws.specs.Loop.{sumBelow}
 use Rattle.config.specs.declared.Config.{Config}
@@ -16,47 +18,47 @@ use Rattle.entries.specs.Faults.{configSound}
 
 -- component, flags, start interval, request capacity ("The files", tag 10)
 abbrev pub runnableBytes : Entry → List ℕ
-runnableBytes e = 0x10 ∷ 0 ∷ 7 ∷ e .first ∷ e .second ∷ (bytes32 (e .number) ++ (e .third ∷ []))
+runnableBytes e = runnableTag ∷ 0 ∷ runnableLength ∷ e .first ∷ e .second ∷ (bytes32 (e .number) ++ (e .third ∷ []))
 
 -- component, mark of an initial, initial ("The files", tag 11)
 abbrev pub variableBytes : Entry → List ℕ
-variableBytes e = 0x11 ∷ 0 ∷ 6 ∷ e .first ∷ e .second ∷ bytes32 (e .number)
+variableBytes e = variableTag ∷ 0 ∷ variableLength ∷ e .first ∷ e .second ∷ bytes32 (e .number)
 
 -- component ("The files", tag 12)
 abbrev pub areaBytes : Entry → List ℕ
-areaBytes e = 0x12 ∷ 0 ∷ 1 ∷ e .first ∷ []
+areaBytes e = areaTag ∷ 0 ∷ areaLength ∷ e .first ∷ []
 
 -- component, kind, server, timeout ("The files", tag 16)
 abbrev pub operationBytes : Entry → List ℕ
-operationBytes e = 0x16 ∷ 0 ∷ 7 ∷ e .first ∷ e .second ∷ e .third ∷ bytes32 (e .number)
+operationBytes e = operationTag ∷ 0 ∷ operationLength ∷ e .first ∷ e .second ∷ e .third ∷ bytes32 (e .number)
 
 -- runnable, period ("The files", tag 17)
 abbrev pub timerBytes : Entry → List ℕ
-timerBytes e = 0x17 ∷ 0 ∷ 5 ∷ e .first ∷ bytes32 (e .number)
+timerBytes e = timerTag ∷ 0 ∷ timerLength ∷ e .first ∷ bytes32 (e .number)
 
 -- two bytes: elements, links and events ("The files", tags 13, 14, 15, 18, 19)
 abbrev pub pairBytes : ℕ → Entry → List ℕ
-pairBytes tag e = tag ∷ 0 ∷ 2 ∷ e .first ∷ e .second ∷ []
+pairBytes tag e = tag ∷ 0 ∷ pairLength ∷ e .first ∷ e .second ∷ []
 
 -- the field of a part: its tag, the length of its body, its body ("The files", the table)
 unfoldable pub entryBytes : ℕ → Entry → List ℕ
 entryBytes tag e =
-    pick (eqb tag 0x10) (runnableBytes e)
-    (pick (eqb tag 0x11) (variableBytes e)
-    (pick (eqb tag 0x12) (areaBytes e)
-    (pick (eqb tag 0x16) (operationBytes e)
-    (pick (eqb tag 0x17) (timerBytes e)
+    pick (eqb tag runnableTag) (runnableBytes e)
+    (pick (eqb tag variableTag) (variableBytes e)
+    (pick (eqb tag areaTag) (areaBytes e)
+    (pick (eqb tag operationTag) (operationBytes e)
+    (pick (eqb tag timerTag) (timerBytes e)
     (pairBytes tag e)))))
 
 -- how many bytes that field has, three before its body ("The files", the table)
 unfoldable pub fieldSize : ℕ → ℕ
 fieldSize tag =
-    pick (eqb tag 0x10) 10
-    (pick (eqb tag 0x11) 9
-    (pick (eqb tag 0x12) 4
-    (pick (eqb tag 0x16) 10
-    (pick (eqb tag 0x17) 8
-    5))))
+    pick (eqb tag runnableTag) (fieldHead + runnableLength)
+    (pick (eqb tag variableTag) (fieldHead + variableLength)
+    (pick (eqb tag areaTag) (fieldHead + areaLength)
+    (pick (eqb tag operationTag) (fieldHead + operationLength)
+    (pick (eqb tag timerTag) (fieldHead + timerLength)
+    (fieldHead + pairLength)))))
 
 -- the field of part i of a kind ("The files", the table)
 unfoldable pub partBytes : Config → ℕ → ℕ → List ℕ
@@ -72,19 +74,19 @@ kindSize cfg tag = countOf cfg tag * fieldSize tag
 
 -- the edition is 1 ("The files", tag 01)
 abbrev pub editionBytes : List ℕ
-editionBytes = 0x01 ∷ 0 ∷ 1 ∷ 1 ∷ []
+editionBytes = editionTag ∷ 0 ∷ editionLength ∷ 1 ∷ []
 
 -- the fields of the kind at place j among the ten, whose tags are 10 to 19 ("The files", the table)
 unfoldable pub blockOf : Config → ℕ → List ℕ
-blockOf cfg j = kindBytes cfg (0x10 + j)
+blockOf cfg j = kindBytes cfg (runnableTag + j)
 
 -- the fields of all ten, no tag below the one before ("Numbers of refusal", 22)
 unfoldable pub partsBytes : Config → List ℕ
-partsBytes cfg = build (blockOf cfg) 10
+partsBytes cfg = build (blockOf cfg) partKinds
 
 -- how many bytes these have ("The files", the table)
 unfoldable pub partsSize : Config → ℕ
-partsSize cfg = sumBelow (λ (j : ℕ). kindSize cfg (0x10 + j)) 10
+partsSize cfg = sumBelow (λ (j : ℕ). kindSize cfg (runnableTag + j)) partKinds
 
 -- the text of a configuration: edition, parts, end ("The files", the table)
 unfoldable pub textOf : Config → List ℕ
@@ -92,7 +94,7 @@ textOf cfg = (editionBytes ++ partsBytes cfg) ++ endBytes
 
 -- the answer to writing a configuration: 1, then 27 ("Numbers of refusal", writing)
 abbrev pub configTo : List ℕ → Config → Wrote
-configTo b cfg = pick (configSound cfg) (wroteTo b 0 (length (textOf cfg))) (Refused 1)
+configTo b cfg = pick (configSound cfg) (wroteTo b 0 (length (textOf cfg))) (Refused notSound)
 
 -- the buffer afterwards: bytes past the text stay, and all of them at a refusal ("Numbers of refusal", writing)
 abbrev pub configWritten : List ℕ → Config → List ℕ

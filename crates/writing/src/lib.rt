@@ -14,7 +14,7 @@ fn write_runnable(buf: &mut [u8], at: usize, e: Entry) -> Wrote
 {
     let n = e.number;
     let bytes = [
-        0x10,
+        numbers::TAG_RUNNABLE,
         0,
         7,
         e.first,
@@ -33,7 +33,7 @@ fn write_variable(buf: &mut [u8], at: usize, e: Entry) -> Wrote
 {
     let n = e.number;
     let bytes = [
-        0x11,
+        numbers::TAG_VARIABLE,
         0,
         6,
         e.first,
@@ -49,7 +49,7 @@ fn write_variable(buf: &mut [u8], at: usize, e: Entry) -> Wrote
 fn write_area(buf: &mut [u8], at: usize, e: Entry) -> Wrote
     ensures { λ r. ⌜ Written (now (buf .entry)) at (areaBytes e) r (now (buf .exit)) ⌝ }
 {
-    wire::write(buf, at, &[0x12, 0, 1, e.first])
+    wire::write(buf, at, &[numbers::TAG_AREA, 0, 1, e.first])
 }
 
 fn write_operation(buf: &mut [u8], at: usize, e: Entry) -> Wrote
@@ -57,7 +57,7 @@ fn write_operation(buf: &mut [u8], at: usize, e: Entry) -> Wrote
 {
     let n = e.number;
     let bytes = [
-        0x16,
+        numbers::TAG_OPERATION,
         0,
         7,
         e.first,
@@ -76,7 +76,7 @@ fn write_timer(buf: &mut [u8], at: usize, e: Entry) -> Wrote
 {
     let n = e.number;
     let bytes = [
-        0x17,
+        numbers::TAG_TIMER,
         0,
         5,
         e.first,
@@ -100,11 +100,11 @@ fn write_entry(buf: &mut [u8], at: usize, tag: u8, e: Entry) -> Wrote
     ensures { λ r. ⌜ Written (now (buf .entry)) at (entryBytes tag e) r (now (buf .exit)) ⌝ }
 {
     match tag {
-        0x10 => write_runnable(buf, at, e),
-        0x11 => write_variable(buf, at, e),
-        0x12 => write_area(buf, at, e),
-        0x16 => write_operation(buf, at, e),
-        0x17 => write_timer(buf, at, e),
+        numbers::TAG_RUNNABLE => write_runnable(buf, at, e),
+        numbers::TAG_VARIABLE => write_variable(buf, at, e),
+        numbers::TAG_AREA => write_area(buf, at, e),
+        numbers::TAG_OPERATION => write_operation(buf, at, e),
+        numbers::TAG_TIMER => write_timer(buf, at, e),
         _ => write_pair(buf, at, tag, e),
     }
 }
@@ -114,12 +114,12 @@ fn field_size(tag: u8) -> u8
     ensures { λ r. ⌜ r ≡ fieldSize tag ⌝ }
 {
     match tag {
-        0x10 => 10,
-        0x11 => 9,
-        0x12 => 4,
-        0x16 => 10,
-        0x17 => 8,
-        _ => 5,
+        numbers::TAG_RUNNABLE => numbers::SIZE_RUNNABLE,
+        numbers::TAG_VARIABLE => numbers::SIZE_VARIABLE,
+        numbers::TAG_AREA => numbers::SIZE_AREA,
+        numbers::TAG_OPERATION => numbers::SIZE_OPERATION,
+        numbers::TAG_TIMER => numbers::SIZE_TIMER,
+        _ => numbers::SIZE_PAIR,
     }
 }
 
@@ -158,7 +158,7 @@ fn write_kind(buf: &mut [u8], at: usize, cfg: Config, tag: u8) -> Wrote
         }
         return Wrote::To(next);
     }
-    Wrote::Refused(27)
+    Wrote::Refused(numbers::NO_ROOM)
 }
 
 // How many bytes the fields of all kinds have.
@@ -168,7 +168,7 @@ fn parts_size(cfg: Config) -> u32
     let mut j: u8 = 0;
     let mut size: u32 = 0;
     while j < 10 {
-        size = size + kind_size(cfg, 0x10 + j) as u32;
+        size = size + kind_size(cfg, numbers::TAG_RUNNABLE + j) as u32;
         j = j + 1;
     }
     size
@@ -183,25 +183,25 @@ fn write_parts(buf: &mut [u8], at: usize, cfg: Config) -> Wrote
         let mut j: u8 = 0;
         let mut next = at;
         while j < 10 {
-            write_kind(buf, next, cfg, 0x10 + j);
-            next = next + kind_size(cfg, 0x10 + j) as usize;
+            write_kind(buf, next, cfg, numbers::TAG_RUNNABLE + j);
+            next = next + kind_size(cfg, numbers::TAG_RUNNABLE + j) as usize;
             j = j + 1;
         }
         return Wrote::To(next);
     }
-    Wrote::Refused(27)
+    Wrote::Refused(numbers::NO_ROOM)
 }
 
 fn write_edition(buf: &mut [u8]) -> Wrote
     ensures { λ r. ⌜ Written (now (buf .entry)) 0 editionBytes r (now (buf .exit)) ⌝ }
 {
-    wire::write(buf, 0, &[0x01, 0, 1, 1])
+    wire::write(buf, 0, &[numbers::TAG_EDITION, 0, 1, 1])
 }
 
 fn write_end(buf: &mut [u8], at: usize) -> Wrote
     ensures { λ r. ⌜ Written (now (buf .entry)) at endBytes r (now (buf .exit)) ⌝ }
 {
-    wire::write(buf, at, &[0x7f, 0, 0])
+    wire::write(buf, at, &[numbers::TAG_END, 0, 0])
 }
 
 // The text of a configuration written from the start of a buffer: 1 for an unsound configuration, then 27 where it does not fit.
@@ -212,11 +212,11 @@ pub fn write_config(buf: &mut [u8], cfg: Config) -> Wrote
     if entries::config_sound(cfg) {
         let size = parts_size(cfg) as usize;
         if buf.len() < size + 7 {
-            return Wrote::Refused(27);
+            return Wrote::Refused(numbers::NO_ROOM);
         }
         write_edition(buf);
         write_parts(buf, 4, cfg);
         return write_end(buf, size + 4);
     }
-    Wrote::Refused(1)
+    Wrote::Refused(numbers::NOT_SOUND)
 }

@@ -1,25 +1,24 @@
 -- `gate::instance_refusal` meets its contract.
 -- Assumes nothing.
-use Rattle.gate.specs.Owned.{ownedRefusal}
 use Rattle.rules.specs.Refusals.{instanceRefusal}
 use Rattle.gate.proofs.instance_refusal.Statement.{statement}
 use Rattle.gate.proofs.instance_refusal.Tie as tie
 
 returns : tie.Need-returns
-unfolding instanceRefusal ownedRefusal
-returns c = rw (c .owned-refusal .ensures, ← c .before .before .before .before .before .before .before .before .formed .ensures, c .before .before .before .before .before .before .before .if1 .taken, ← c .before .before .before .before .before .before .get .ensures, c .before .before .before .before .if2 .taken, ← c .before .before .before .part-of .ensures, ← c .before .before .part-there .ensures, c .before .if3 .taken)
+unfolding instanceRefusal
+returns c = rw (c .owned-refusal .ensures, ← c .before .before .before .before .before .before .before .before .row-of .ensures, ← c .before .before .before .before .before .before .before .formed .ensures, c .before .before .before .before .before .before .if1 .taken, ← c .before .before .before .before .before .get .ensures, c .before .before .before .if2 .taken, ← c .before .before .part-there .ensures, c .before .if3 .taken)
 
 returns-2 : tie.Need-returns-2
-unfolding instanceRefusal ownedRefusal
-returns-2 c = rw (← c .before .before .before .before .before .before .before .formed .ensures, c .before .before .before .before .before .before .if1 .taken, ← c .before .before .before .before .before .get .ensures, c .before .before .before .if2 .taken, ← c .before .before .part-of .ensures, ← c .before .part-there .ensures, c .if3 .left)
+unfolding instanceRefusal
+returns-2 c = rw (← c .before .before .before .before .before .before .before .row-of .ensures, ← c .before .before .before .before .before .before .formed .ensures, c .before .before .before .before .before .if1 .taken, ← c .before .before .before .before .get .ensures, c .before .before .if2 .taken, ← c .before .part-there .ensures, c .if3 .left)
 
 returns-3 : tie.Need-returns-3
-unfolding instanceRefusal ownedRefusal
-returns-3 c = rw (← c .before .before .before .before .formed .ensures, c .before .before .before .if1 .taken, ← c .before .before .get .ensures, c .if2 .left)
+unfolding instanceRefusal
+returns-3 c = rw (← c .before .before .before .before .before .row-of .ensures, ← c .before .before .before .before .formed .ensures, c .before .before .before .if1 .taken, ← c .before .before .get .ensures, c .if2 .left)
 
 returns-4 : tie.Need-returns-4
-unfolding instanceRefusal ownedRefusal
-returns-4 c = rw (← c .before .formed .ensures, c .if1 .left)
+unfolding instanceRefusal
+returns-4 c = rw (← c .before .before .row-of .ensures, ← c .before .formed .ensures, c .if1 .left)
 
 pub instance-refusal-spec : {M : Type 1} → statement M
 instance-refusal-spec = tie.close (tie.spec (λ c κs. tt) (λ c κs. tt) (λ c κs. tt) (λ c κs. tt) (λ c κs. tt) returns returns-2 returns-3 returns-4)

@@ -2,21 +2,21 @@
 -- Assumes nothing.
 use mathlib.Core.Path.{ap}
 use Rattle.config.specs.declared.RunnableConf.{RunnableConf}
-use Rattle.gate.specs.Owned.{ownedRefusal}
+use Rattle.rules.specs.Refusals.{ownedRefusal}
 use Rattle.gate.proofs.owned_refusal.Statement.{statement}
 use Rattle.gate.proofs.owned_refusal.Tie as tie
 
 returns : tie.Need-returns
 unfolding ownedRefusal
-returns c = rw (← c .before .before .before .before .before .part-of .ensures, ← c .before .before .before .before .queueing-of .ensures, ← ap (λ (x : RunnableConf). x .component) (c .before .before .before .before .before .before .get .ensures), ← c .before .before .before .part-own .ensures, c .before .before .if1 .taken, ← c .before .life-lets .ensures, c .if2 .taken)
+returns c = rw (← ap (λ (x : RunnableConf). x .component) (c .before .before .before .before .get .ensures), ← c .before .before .before .part-own .ensures, c .before .before .if1 .taken, ← c .before .life-lets .ensures, c .if2 .taken)
 
 returns-2 : tie.Need-returns-2
 unfolding ownedRefusal
-returns-2 c = rw (← c .before .before .before .before .before .part-of .ensures, ← c .before .before .before .before .queueing-of .ensures, ← ap (λ (x : RunnableConf). x .component) (c .before .before .before .before .before .before .get .ensures), ← c .before .before .before .part-own .ensures, c .before .before .if1 .taken, ← c .before .life-lets .ensures, c .if2 .left)
+returns-2 c = rw (← ap (λ (x : RunnableConf). x .component) (c .before .before .before .before .get .ensures), ← c .before .before .before .part-own .ensures, c .before .before .if1 .taken, ← c .before .life-lets .ensures, c .if2 .left)
 
 returns-3 : tie.Need-returns-3
 unfolding ownedRefusal
-returns-3 c = rw (← c .before .before .before .part-of .ensures, ← c .before .before .queueing-of .ensures, ← ap (λ (x : RunnableConf). x .component) (c .before .before .before .before .get .ensures), ← c .before .part-own .ensures, c .if1 .left)
+returns-3 c = rw (← ap (λ (x : RunnableConf). x .component) (c .before .before .get .ensures), ← c .before .part-own .ensures, c .if1 .left)
 
 pub owned-refusal-spec : {M : Type 1} → statement M
-owned-refusal-spec = tie.close (tie.spec (λ c κs. tt) (λ c κs. tt) (λ c κs. tt) (λ c κs. tt) (λ c κs. tt) returns returns-2 returns-3)
+owned-refusal-spec = tie.close (tie.spec (λ c κs. tt) (λ c κs. tt) (λ c κs. tt) returns returns-2 returns-3)

@@ -14,4 +14,4 @@ unfolding partThere
 returns-2 c = rw (ne-eqb _ _ (c .before .if1 .left), ← c .count-of .ensures)
 
 pub part-there-spec : {M : Type 1} → statement M
-part-there-spec = tie.close (tie.spec returns (λ c κs. tt) returns-2)
+part-there-spec = tie.close (tie.spec (λ c κs. tt) returns returns-2)

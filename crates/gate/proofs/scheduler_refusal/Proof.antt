@@ -7,15 +7,15 @@ use Rattle.gate.proofs.scheduler_refusal.Tie as tie
 
 returns : tie.Need-returns
 unfolding schedulerRefusal
-returns c = rw (eq-eqb _ _ (c .before .before .before .before .before .if1 .taken), ← c .before .before .before .before .formed .ensures, c .before .before .before .if2 .taken, ← c .before .before .part-of .ensures, ← c .before .part-there .ensures, c .if3 .taken)
+returns c = rw (eq-eqb _ _ (c .before .before .before .before .if1 .taken), ← c .before .before .before .before .before .before .row-of .ensures, ← c .before .before .before .formed .ensures, c .before .before .if2 .taken, ← c .before .part-there .ensures, c .if3 .taken)
 
 returns-2 : tie.Need-returns-2
 unfolding schedulerRefusal
-returns-2 c = rw (eq-eqb _ _ (c .before .before .before .before .before .if1 .taken), ← c .before .before .before .before .formed .ensures, c .before .before .before .if2 .taken, ← c .before .before .part-of .ensures, ← c .before .part-there .ensures, c .if3 .left)
+returns-2 c = rw (eq-eqb _ _ (c .before .before .before .before .if1 .taken), ← c .before .before .before .before .before .before .row-of .ensures, ← c .before .before .before .formed .ensures, c .before .before .if2 .taken, ← c .before .part-there .ensures, c .if3 .left)
 
 returns-3 : tie.Need-returns-3
 unfolding schedulerRefusal
-returns-3 c = rw (eq-eqb _ _ (c .before .before .if1 .taken), ← c .before .formed .ensures, c .if2 .left)
+returns-3 c = rw (eq-eqb _ _ (c .before .before .if1 .taken), ← c .before .before .before .before .row-of .ensures, ← c .before .formed .ensures, c .if2 .left)
 
 returns-4 : tie.Need-returns-4
 unfolding schedulerRefusal

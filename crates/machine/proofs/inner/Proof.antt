@@ -1,7 +1,7 @@
 -- `machine::inner` meets its contract.
 -- Assumes nothing.
 use borrow.Author.Needs.{needs}
-use Rattle.rules.specs.Step.{claimedOf, innerOf}
+use Rattle.effects.specs.Step.{claimedOf, innerOf}
 use Rattle.machine.proofs.inner.Statement.{statement}
 use Rattle.machine.proofs.inner.Tie as tie
 

@@ -1,25 +1,26 @@
--- `machine::refusal` meets its contract.
+-- `machine::refusal` meets its contract: the ranges of codes are those of the table of steps (`slot-codes`, `scheduler-codes`).
 -- Assumes nothing.
-use borrow.Author.Tests.{le-ltb, lt-ltb}
-use Rattle.machine.specs.Going.{refusalOf}
+use native.Mathlib.Omega.{arith}
+use Rattle.rules.specs.Refusals.{refusalBy, refusalOf}
+use Rattle.rules.proofs.Codes.{slot-codes, scheduler-codes, low-codes, high-codes}
 use Rattle.machine.proofs.refusal.Statement.{statement}
 use Rattle.machine.proofs.refusal.Tie as tie
 
 returns : tie.Need-returns
-unfolding refusalOf
-returns c = rw (c .instance-refusal .ensures, le-ltb _ _ (c .before .before .if1 .left), lt-ltb _ _ (c .before .if2 .taken))
+unfolding refusalOf refusalBy
+returns c = rw (c .instance-refusal .ensures, slot-codes _ (c .before .before .if1 .left) (omega arith))
 
 returns-2 : tie.Need-returns-2
-unfolding refusalOf
-returns-2 c = rw (c .scheduler-refusal .ensures, le-ltb _ _ (c .before .before .before .if1 .left), le-ltb _ _ (c .before .before .if2 .left), lt-ltb _ _ (c .before .if3 .taken))
+unfolding refusalOf refusalBy
+returns-2 c = rw (c .scheduler-refusal .ensures, scheduler-codes _ (c .before .before .if2 .left) (omega arith))
 
 returns-3 : tie.Need-returns-3
-unfolding refusalOf
-returns-3 c = rw (lt-ltb _ _ (c .if1 .taken))
+unfolding refusalOf refusalBy
+returns-3 c = rw (low-codes _ (c .if1 .taken))
 
 returns-4 : tie.Need-returns-4
-unfolding refusalOf
-returns-4 c = rw (le-ltb _ _ (c .before .before .if1 .left), le-ltb _ _ (c .before .if2 .left), le-ltb _ _ (c .if3 .left))
+unfolding refusalOf refusalBy
+returns-4 c = rw (high-codes _ (c .if3 .left))
 
 pub refusal-spec : {M : Type 1} → statement M
 refusal-spec =

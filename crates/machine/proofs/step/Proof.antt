@@ -1,6 +1,6 @@
 -- `machine::step` meets its contract.
 -- Assumes nothing.
-use Rattle.rules.specs.Step.{stepOf}
+use Rattle.effects.specs.Step.{stepOf}
 use Rattle.machine.proofs.step.Statement.{statement}
 use Rattle.machine.proofs.step.Tie as tie
 

@@ -47,7 +47,7 @@ returns-4 c =
     let s = now (c .before .before .before .before .before .before .before .before .before .before .before .args .s) in
     let l = c .before .before .before .before .before .before .before .before .loop in
     let f = c .before .before .body-fault .ensures in
-    c .refused-at3 .ensures ∙ ap (λ (n : ℕ). refusedAt n (l .place)) f
+    c .refused-at3 .ensures ∙ ap (λ (n : ℕ). refusedAt (l .place) n) f
     ∙ turn-fault s (l .cfg) (l .at) (l .last) (l .place) (l .inv) _ (rest-is s (l .at)) (sym (c .before .before .before .before .before .before .head-of .ensures) ∙ c .before .before .before .before .tag .given .1) (λ z. c .before .if2 .taken (f ∙ z))
 
 room : (c : tie.After-placed Inv-loop μ-loop) → c .before .before .before .before .before .before .before .before .before .loop .at + 3 + c .before .before .before .before .before .tag .given .0 .1 .0 ≤ length (now (c .before .before .before .before .before .before .before .before .before .before .before .before .args .s))

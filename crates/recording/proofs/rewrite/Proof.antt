@@ -19,42 +19,78 @@ abbrev μ-loop : tie.MeasureT-loop
 μ-loop s buf₀ at₀ buf at = length s - at
 
 returns : tie.Need-returns Inv-loop μ-loop
-returns c = again-short (now (c .before .before .before .before .before .args .s)) (now (c .before .before .before .before .before .args .buf)) (sym (c .before .before .is-sound .ensures) ∙ c .before .if1 .taken) (c .if2 .taken)
+returns c =
+    let start = c .before .before .before .before .before in
+    again-short (now (start .args .s)) (now (start .args .buf)) (sym (c .before .before .is-sound .ensures) ∙ c .before .if1 .taken) (c .if2 .taken)
 
 returns-2 : tie.Need-returns-2 Inv-loop μ-loop
 returns-2 c =
-    let g : isSound (now (c .before .before .before .before .args .s)) ≡ false = sym (c .before .is-sound .ensures) ∙ c .if1 .left in
+    let start = c .before .before .before .before in
+    let g : isSound (now (start .args .s)) ≡ false = sym (c .before .is-sound .ensures) ∙ c .if1 .left in
     (rw g, rw g)
 
 loop-holds : tie.Need-loop-holds Inv-loop μ-loop
-loop-holds c = copying-starts (now (c .before .before .before .before .before .args .s)) (now (c .before .before .before .before .before .args .buf)) (sym (c .before .before .is-sound .ensures) ∙ c .before .if1 .taken)
+loop-holds c =
+    let start = c .before .before .before .before .before in
+    copying-starts (now (start .args .s)) (now (start .args .buf)) (sym (c .before .before .is-sound .ensures) ∙ c .before .if1 .taken)
 
 add-at : tie.Need-add-at Inv-loop μ-loop
-add-at c = let r = step-room (now (c .before .before .before .before .before .before .before .before .before .before .before .before .before .before .args .s)) (c .before .before .before .before .before .before .before .before .loop .at) (c .before .before .before .before .before .step .given .0 .1 .0) (c .before .before .before .before .before .step .given .0 .0) (c .before .before .before .before .before .before .before .before .loop .inv .inside) (sym (c .before .before .before .before .before .before .before .read-field .ensures) ∙ c .before .before .before .before .before .step .given .1) in omega (arith, r .0)
+add-at c =
+    let start = c .before .before .before .before .before .before .before .before .before .before .before .before .before .before in
+    let loop = c .before .before .before .before .before .before .before .before .loop in
+    let step = c .before .before .before .before .before .step in
+    let read-field = c .before .before .before .before .before .before .before .read-field in
+    let r = step-room (now (start .args .s)) (loop .at) (step .given .0 .1 .0) (step .given .0 .0) (loop .inv .inside) (sym (read-field .ensures) ∙ step .given .1) in omega (arith, r .0)
 
 loop-less : tie.Need-loop-less Inv-loop μ-loop
-loop-less c = let r = step-room (now (c .before .before .before .before .before .before .before .before .before .before .before .before .before .before .args .s)) (c .before .before .before .before .before .before .before .before .loop .at) (c .before .before .before .before .before .step .given .0 .1 .0) (c .before .before .before .before .before .step .given .0 .0) (c .before .before .before .before .before .before .before .before .loop .inv .inside) (sym (c .before .before .before .before .before .before .before .read-field .ensures) ∙ c .before .before .before .before .before .step .given .1) in omega (arith, r .0, r .1)
+loop-less c =
+    let start = c .before .before .before .before .before .before .before .before .before .before .before .before .before .before in
+    let loop = c .before .before .before .before .before .before .before .before .loop in
+    let step = c .before .before .before .before .before .step in
+    let read-field = c .before .before .before .before .before .before .before .read-field in
+    let r = step-room (now (start .args .s)) (loop .at) (step .given .0 .1 .0) (step .given .0 .0) (loop .inv .inside) (sym (read-field .ensures) ∙ step .given .1) in omega (arith, r .0, r .1)
 
 loop-again : tie.Need-loop-again Inv-loop μ-loop
 loop-again c =
-    copying-step (now (c .before .before .before .before .before .before .before .before .before .before .before .before .before .before .args .s)) (now (c .before .before .before .before .before .before .before .before .before .before .before .before .before .before .args .buf)) (c .before .before .before .before .before .before .before .before .loop .buf) (c .before .before .write-step .last .0) (c .before .before .before .before .before .before .before .before .loop .at) (c .before .before .before .before .before .before .before .before .loop .inv) (c .before .before .before .before .before .before .before .before .before .if2 .left)
-    (c .before .before .before .before .before .step .given .0 .1 .0) (c .before .before .before .before .before .step .given .0 .0) (λ i. omega (arith, c .before .before .before .before .before .before .before .before .before .before .before .before .before .shared-slice-known .given i)) (sym (c .before .before .before .before .before .before .before .read-field .ensures) ∙ c .before .before .before .before .before .step .given .1) (c .before .before .write-step .ensures .1)
+    let start = c .before .before .before .before .before .before .before .before .before .before .before .before .before .before in
+    let loop = c .before .before .before .before .before .before .before .before .loop in
+    let if2 = c .before .before .before .before .before .before .before .before .before .if2 in
+    let step = c .before .before .before .before .before .step in
+    let shared-slice-known = c .before .before .before .before .before .before .before .before .before .before .before .before .before .shared-slice-known in
+    let read-field = c .before .before .before .before .before .before .before .read-field in
+    copying-step (now (start .args .s)) (now (start .args .buf)) (loop .buf) (c .before .before .write-step .last .0) (loop .at) (loop .inv) (if2 .left)
+    (step .given .0 .1 .0) (step .given .0 .0) (λ i. omega (arith, shared-slice-known .given i)) (sym (read-field .ensures) ∙ step .given .1) (c .before .before .write-step .ensures .1)
 
 same-length : tie.Need-same-length Inv-loop μ-loop
-same-length c = c .before .before .write-end .kept .0 ∙ c .before .before .before .before .before .before .before .loop .inv .same
+same-length c =
+    let loop = c .before .before .before .before .before .before .before .loop in
+    c .before .before .write-end .kept .0 ∙ loop .inv .same
 
 returns-3 : tie.Need-returns-3 Inv-loop μ-loop
 returns-3 c =
-    let p = copying-end (now (c .before .before .before .before .before .before .before .before .before .before .before .before .before .args .s)) (now (c .before .before .before .before .before .before .before .before .before .before .before .before .before .args .buf)) (c .before .before .before .before .before .before .before .loop .buf) (c .before .before .write-end .last .0) (c .before .before .before .before .before .before .before .loop .at) (c .before .before .before .before .before .before .before .loop .inv) (c .before .before .before .before .before .before .before .before .if2 .left) (c .before .before .write-end .result) (sym (c .before .before .before .before .before .before .read-field .ensures) ∙ c .before .before .before .before .enum-told .given .1) (c .before .before .write-end .ensures) in
-    let q = again-whole (now (c .before .before .before .before .before .before .before .before .before .before .before .before .before .args .s)) (now (c .before .before .before .before .before .before .before .before .before .before .before .before .before .args .buf)) (sym (c .before .before .before .before .before .before .before .before .before .before .is-sound .ensures) ∙ c .before .before .before .before .before .before .before .before .before .if1 .taken) (c .before .before .before .before .before .before .before .before .if2 .left) in
+    let start = c .before .before .before .before .before .before .before .before .before .before .before .before .before in
+    let loop = c .before .before .before .before .before .before .before .loop in
+    let if2 = c .before .before .before .before .before .before .before .before .if2 in
+    let read-field = c .before .before .before .before .before .before .read-field in
+    let enum-told = c .before .before .before .before .enum-told in
+    let is-sound = c .before .before .before .before .before .before .before .before .before .before .is-sound in
+    let if1 = c .before .before .before .before .before .before .before .before .before .if1 in
+    let p = copying-end (now (start .args .s)) (now (start .args .buf)) (loop .buf) (c .before .before .write-end .last .0) (loop .at) (loop .inv) (if2 .left) (c .before .before .write-end .result) (sym (read-field .ensures) ∙ enum-told .given .1) (c .before .before .write-end .ensures) in
+    let q = again-whole (now (start .args .s)) (now (start .args .buf)) (sym (is-sound .ensures) ∙ if1 .taken) (if2 .left) in
     (p .0 ∙ q .0, p .1 ∙ q .1)
 
 same-length-2 : tie.Need-same-length-2 Inv-loop μ-loop
-same-length-2 c = c .before .before .before .before .loop .inv .same
+same-length-2 c =
+    let loop = c .before .before .before .before .loop in
+    loop .inv .same
 
 returns-4 : tie.Need-returns-4 Inv-loop μ-loop
 returns-4 c =
-    copying-on (now (c .before .before .before .before .before .before .before .before .before .before .args .s)) (now (c .before .before .before .before .before .before .before .before .before .before .args .buf)) (c .before .before .before .before .loop .buf) (c .before .before .before .before .loop .buf) (c .before .before .before .before .loop .at) (c .before .before .before .before .loop .inv) (c .before .before .before .before .before .if2 .left) _ _ (sym (c .before .before .before .read-field .ensures) ∙ c .before .r .given .1)
+    let start = c .before .before .before .before .before .before .before .before .before .before in
+    let loop = c .before .before .before .before .loop in
+    let if2 = c .before .before .before .before .before .if2 in
+    let read-field = c .before .before .before .read-field in
+    copying-on (now (start .args .s)) (now (start .args .buf)) (loop .buf) (loop .buf) (loop .at) (loop .inv) (if2 .left) _ _ (sym (read-field .ensures) ∙ c .before .r .given .1)
 
 pub rewrite-spec : {M : Type 1} → statement M
 rewrite-spec =

@@ -16,20 +16,31 @@ use Rattle.trip.proofs.write_and_read.Statement.{statement}
 use Rattle.trip.proofs.write_and_read.Tie as tie
 
 slice-reshare-prefix-read-config : tie.Need-slice-reshare-prefix-read-config
-slice-reshare-prefix-read-config c = back-size (now (c .before .before .before .before .before .before .before .before .args .buf)) (c .before .before .before .before .before .write-config .last .0) (c .before .before .before .before .before .before .before .before .args .cfg) (c .before .before .before .before .before .write-config .result) (c .before .before .before .before .before .write-config .ensures .0) (c .before .before .before .before .before .write-config .ensures .1) (c .before .size .given .0 .0) (c .before .size .given .1)
+slice-reshare-prefix-read-config c =
+    let start = c .before .before .before .before .before .before .before .before in
+    let write-config = c .before .before .before .before .before .write-config in
+    back-size (now (start .args .buf)) (write-config .last .0) (start .args .cfg) (write-config .result) (write-config .ensures .0) (write-config .ensures .1) (c .before .size .given .0 .0) (c .before .size .given .1)
 
 slice-aggregate-read-config : tie.Need-slice-aggregate-read-config
-slice-aggregate-read-config c = sym (length-take-le (c .before .before .size .given .0 .0) (c .before .before .before .before .before .before .write-config .last .0) (back-size (now (c .before .before .before .before .before .before .before .before .before .args .buf)) (c .before .before .before .before .before .before .write-config .last .0) (c .before .before .before .before .before .before .before .before .before .args .cfg) (c .before .before .before .before .before .before .write-config .result) (c .before .before .before .before .before .before .write-config .ensures .0) (c .before .before .before .before .before .before .write-config .ensures .1) (c .before .before .size .given .0 .0) (c .before .before .size .given .1)))
+slice-aggregate-read-config c =
+    let write-config = c .before .before .before .before .before .before .write-config in
+    let start = c .before .before .before .before .before .before .before .before .before in
+    sym (length-take-le (c .before .before .size .given .0 .0) (write-config .last .0) (back-size (now (start .args .buf)) (write-config .last .0) (start .args .cfg) (write-config .result) (write-config .ensures .0) (write-config .ensures .1) (c .before .before .size .given .0 .0) (c .before .before .size .given .1)))
 
 returns : tie.Need-returns
 returns c =
-    let v : (i : ℕ) → getD (c .before .before .before .before .before .before .before .before .before .before .args .cfg .variables .at) i noVariableConf .initial < 2 ^ 32 = initials-fit (c .before .before .before .before .before .before .before .before .before .before .args .cfg .variables .at) _ (c .before .before .before .before .before .before .before .before .before .before .good .1 .0 .1 .1 .1 .0 .1 .1 .1 .0 .1 .1) in
-    (c .read-config .ensures ∙ back-whole (now (c .before .before .before .before .before .before .before .before .before .before .args .buf)) (c .before .before .before .before .before .before .before .write-config .last .0) (c .before .before .before .before .before .before .before .before .before .before .args .cfg) (c .before .before .before .before .before .before .before .write-config .result) (c .before .before .before .before .before .before .before .write-config .ensures .0) (c .before .before .before .before .before .before .before .write-config .ensures .1) (c .before .before .before .size .given .0 .0) v (c .before .before .before .size .given .1), c .before .before .before .before .before .before .before .write-config .ensures .1)
+    let start = c .before .before .before .before .before .before .before .before .before .before in
+    let write-config = c .before .before .before .before .before .before .before .write-config in
+    let size = c .before .before .before .size in
+    let v : (i : ℕ) → getD (start .args .cfg .variables .at) i noVariableConf .initial < 2 ^ 32 = initials-fit (start .args .cfg .variables .at) _ (start .good .1 .0 .1 .1 .1 .0 .1 .1 .1 .0 .1 .1) in
+    (c .read-config .ensures ∙ back-whole (now (start .args .buf)) (write-config .last .0) (start .args .cfg) (write-config .result) (write-config .ensures .0) (write-config .ensures .1) (size .given .0 .0) v (size .given .1), write-config .ensures .1)
 
 returns-2 : tie.Need-returns-2
 unfolding refusedAt
 returns-2 c =
-    (ap (λ (x : Config). record { outcome = Refused (c .before .before .number .given .0 .0) 0; config = x }) (c .none .ensures) ∙ back-refused (now (c .before .before .before .before .before .before .before .before .before .args .buf)) (c .before .before .before .before .before .before .write-config .last .0) (c .before .before .before .before .before .before .before .before .before .args .cfg) (c .before .before .before .before .before .before .write-config .result) (c .before .before .before .before .before .before .write-config .ensures .0) (c .before .before .before .before .before .before .write-config .ensures .1) (c .before .before .number .given .0 .0) (c .before .before .number .given .1), c .before .before .before .before .before .before .write-config .ensures .1)
+    let start = c .before .before .before .before .before .before .before .before .before in
+    let write-config = c .before .before .before .before .before .before .write-config in
+    (ap (λ (x : Config). record { outcome = Refused 0 (c .before .before .number .given .0 .0); config = x }) (c .none .ensures) ∙ back-refused (now (start .args .buf)) (write-config .last .0) (start .args .cfg) (write-config .result) (write-config .ensures .0) (write-config .ensures .1) (c .before .before .number .given .0 .0) (c .before .before .number .given .1), write-config .ensures .1)
 
 pub write-and-read-spec : {M : Type 1} → statement M
 write-and-read-spec =

@@ -22,37 +22,60 @@ abbrev μ-loop : tie.MeasureT-loop
 loop-holds : tie.Need-loop-holds Inv-loop μ-loop
 unfolding kindBytes
 loop-holds c =
-    putting-start (now (c .before .before .before .before .before .before .args .buf)) (c .before .before .before .before .before .before .args .at) (partBytes (c .before .before .before .before .before .before .args .cfg) (c .before .before .before .before .before .before .args .tag)) (countOf (c .before .before .before .before .before .before .args .cfg) (c .before .before .before .before .before .before .args .tag))
-    (run-room (now (c .before .before .before .before .before .before .args .buf)) (kindBytes (c .before .before .before .before .before .before .args .cfg) (c .before .before .before .before .before .before .args .tag)) (c .before .before .before .before .before .before .args .at) (c .before .before .before .before .kind-size .result) (kind-size (c .before .before .before .before .before .before .args .cfg) (c .before .before .before .before .before .before .args .tag) ∙ sym (c .before .before .before .before .kind-size .ensures)) (sym (c .before .before .before .has-room .ensures) ∙ c .before .before .if1 .taken))
+    let start = c .before .before .before .before .before .before in
+    let kind-size-2 = c .before .before .before .before .kind-size in
+    let has-room = c .before .before .before .has-room in
+    putting-start (now (start .args .buf)) (start .args .at) (partBytes (start .args .cfg) (start .args .tag)) (countOf (start .args .cfg) (start .args .tag))
+    (run-room (now (start .args .buf)) (kindBytes (start .args .cfg) (start .args .tag)) (start .args .at) (kind-size-2 .result) (kind-size (start .args .cfg) (start .args .tag) ∙ sym (kind-size-2 .ensures)) (sym (has-room .ensures) ∙ c .before .before .if1 .taken))
 
 add-next : tie.Need-add-next Inv-loop μ-loop
 add-next c =
-    let l : c .before .before .before .before .before .before .loop .i < countOf (c .before .before .before .before .before .before .before .before .before .before .before .before .before .args .cfg) (c .before .before .before .before .before .before .before .before .before .before .before .before .before .args .tag) = omega (arith, c .before .before .before .before .before .before .before .before .count-of .ensures, c .before .before .before .before .before .loop-test .taken) in
-    let z : c .before .before .before .before .before .before .before .field-size .result ≡ length (partBytes (c .before .before .before .before .before .before .before .before .before .before .before .before .before .args .cfg) (c .before .before .before .before .before .before .before .before .before .before .before .before .before .args .tag) (c .before .before .before .before .before .before .loop .i)) = c .before .before .before .before .before .before .before .field-size .ensures ∙ sym (part-size (c .before .before .before .before .before .before .before .before .before .before .before .before .before .args .cfg) (c .before .before .before .before .before .before .before .before .before .before .before .before .before .args .tag) (c .before .before .before .before .before .before .loop .i)) in
-    omega (arith, putting-room (c .before .before .before .before .before .before .loop .inv) l)
+    let loop = c .before .before .before .before .before .before .loop in
+    let start = c .before .before .before .before .before .before .before .before .before .before .before .before .before in
+    let count-of = c .before .before .before .before .before .before .before .before .count-of in
+    let loop-test = c .before .before .before .before .before .loop-test in
+    let field-size = c .before .before .before .before .before .before .before .field-size in
+    let l : loop .i < countOf (start .args .cfg) (start .args .tag) = omega (arith, count-of .ensures, loop-test .taken) in
+    let z : field-size .result ≡ length (partBytes (start .args .cfg) (start .args .tag) (loop .i)) = field-size .ensures ∙ sym (part-size (start .args .cfg) (start .args .tag) (loop .i)) in
+    omega (arith, putting-room (loop .inv) l)
 
 add-i : tie.Need-add-i Inv-loop μ-loop
-add-i c = omega (arith, c .before .before .before .before .before .before .before .before .count-of, c .before .before .before .before .before .loop-test .taken)
+add-i c =
+    let count-of = c .before .before .before .before .before .before .before .before .count-of in
+    let loop-test = c .before .before .before .before .before .loop-test in
+    omega (arith, count-of, loop-test .taken)
 
 loop-less : tie.Need-loop-less Inv-loop μ-loop
-loop-less c = omega (arith, c .before .before .before .before .before .loop-test .taken)
+loop-less c =
+    let loop-test = c .before .before .before .before .before .loop-test in
+    omega (arith, loop-test .taken)
 
 loop-again : tie.Need-loop-again Inv-loop μ-loop
 loop-again c =
-    let l : c .before .before .before .before .before .before .loop .i < countOf (c .before .before .before .before .before .before .before .before .before .before .before .before .before .args .cfg) (c .before .before .before .before .before .before .before .before .before .before .before .before .before .args .tag) = omega (arith, c .before .before .before .before .before .before .before .before .count-of .ensures, c .before .before .before .before .before .loop-test .taken) in
-    let z : c .before .before .before .before .before .before .before .field-size .result ≡ length (partBytes (c .before .before .before .before .before .before .before .before .before .before .before .before .before .args .cfg) (c .before .before .before .before .before .before .before .before .before .before .before .before .before .args .tag) (c .before .before .before .before .before .before .loop .i)) = c .before .before .before .before .before .before .before .field-size .ensures ∙ sym (part-size (c .before .before .before .before .before .before .before .before .before .before .before .before .before .args .cfg) (c .before .before .before .before .before .before .before .before .before .before .before .before .before .args .tag) (c .before .before .before .before .before .before .loop .i)) in
-    let w = part-written (c .before .before .before .before .before .before .before .before .before .before .before .before .before .args .cfg) (c .before .before .before .before .before .before .before .before .before .before .before .before .before .args .tag) (c .before .before .before .before .before .before .loop .i) (c .before .before .before .entry-of .result) (c .before .before .before .entry-of .ensures) (c .before .before .before .before .before .before .loop .buf) (c .before .before .before .before .before .before .loop .next) (c .before .before .write-entry .result) (c .before .before .write-entry .last .0) (c .before .before .write-entry .ensures) in
-    putting-step (c .before .before .before .before .before .before .loop .inv) l w z
+    let loop = c .before .before .before .before .before .before .loop in
+    let start = c .before .before .before .before .before .before .before .before .before .before .before .before .before in
+    let count-of = c .before .before .before .before .before .before .before .before .count-of in
+    let loop-test = c .before .before .before .before .before .loop-test in
+    let field-size = c .before .before .before .before .before .before .before .field-size in
+    let entry-of = c .before .before .before .entry-of in
+    let l : loop .i < countOf (start .args .cfg) (start .args .tag) = omega (arith, count-of .ensures, loop-test .taken) in
+    let z : field-size .result ≡ length (partBytes (start .args .cfg) (start .args .tag) (loop .i)) = field-size .ensures ∙ sym (part-size (start .args .cfg) (start .args .tag) (loop .i)) in
+    let w = part-written (start .args .cfg) (start .args .tag) (loop .i) (entry-of .result) (entry-of .ensures) (loop .buf) (loop .next) (c .before .before .write-entry .result) (c .before .before .write-entry .last .0) (c .before .before .write-entry .ensures) in
+    putting-step (loop .inv) l w z
 
 same-length : tie.Need-same-length Inv-loop μ-loop
 same-length c = putting-same (c .before .loop .inv)
 
 returns : tie.Need-returns Inv-loop μ-loop
 unfolding kindBytes
-returns c = putting-done (c .before .loop .inv) (omega (arith, c .before .before .before .count-of .ensures, c .loop-test .left))
+returns c =
+    let count-of = c .before .before .before .count-of in
+    putting-done (c .before .loop .inv) (omega (arith, count-of .ensures, c .loop-test .left))
 
 returns-2 : tie.Need-returns-2 Inv-loop μ-loop
-returns-2 c = run-short (now (c .before .before .before .before .args .buf)) (kindBytes (c .before .before .before .before .args .cfg) (c .before .before .before .before .args .tag)) (c .before .before .before .before .args .at) (c .before .before .kind-size .result) (kind-size (c .before .before .before .before .args .cfg) (c .before .before .before .before .args .tag) ∙ sym (c .before .before .kind-size .ensures)) (sym (c .before .has-room .ensures) ∙ c .if1 .left)
+returns-2 c =
+    let start = c .before .before .before .before in
+    run-short (now (start .args .buf)) (kindBytes (start .args .cfg) (start .args .tag)) (start .args .at) (c .before .before .kind-size .result) (kind-size (start .args .cfg) (start .args .tag) ∙ sym (c .before .before .kind-size .ensures)) (sym (c .before .has-room .ensures) ∙ c .if1 .left)
 
 pub write-kind-spec : {M : Type 1} → statement M
 write-kind-spec =

@@ -1,0 +1,17 @@
+-- `call_steps::answers` meets its contract.
+-- Assumes nothing.
+use Rattle.effects.specs.Steps.{answers}
+use Rattle.call_steps.proofs.answers.Statement.{statement}
+use Rattle.call_steps.proofs.answers.Tie as tie
+
+returns : tie.Need-returns
+unfolding answers
+returns c = rw (← c .before .before .before .get .ensures, c .before .before .if1 .taken)
+
+returns-2 : tie.Need-returns-2
+unfolding answers
+returns-2 c = rw (← c .before .get .ensures, c .if1 .left)
+
+pub answers-spec : {M : Type 1} → statement M
+answers-spec =
+    tie.close (tie.spec (λ c κs. tt) returns returns-2)

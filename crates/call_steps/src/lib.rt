@@ -1,0 +1,313 @@
+// Steps 11 to 14 and 16 as code, once refusals 2 to 5 have let them through: a call and its result, the two ways in which a call ends with the return events, and the end of an instance. Each does what its definition in crate effects says, test for test.
+ghost use mathlib.Core.Path.{_≡_};
+ghost use Prim.Native.Nat.{ℕ};
+ghost use lib.Dec.{eqb, leb};
+ghost use Rattle.laws.specs.Choice.{pick, both};
+ghost use Rattle.laws.specs.Loop.{anyBelow};
+ghost use Rattle.config.specs.Tables.{returnEventIn};
+ghost use Rattle.effects.specs.Steps.{opening, asking, waitingOn, callOf, runningOn, pollOf, collectOf, resultOf, closing, returnedRunnables, answers, finishing, handBackOf, timeoutOf, leaving, endOf};
+use config::Config;
+use config::OperationConf;
+use config::ReturnEvent;
+use config::ReturnEvents;
+use config::RunnableConf;
+use config::RunnableConfs;
+use state::Client;
+use state::Operation;
+use state::Operations;
+use state::Owed;
+use state::Runnable;
+use state::Runnables;
+use state::Slot;
+use state::State;
+use state::Stepped;
+use values::Value;
+
+// ---- 11: call
+
+fn opening(timeout: u32, x: Operation) -> Operation
+    ensures { λ r. ⌜ r ≡ opening timeout x ⌝ }
+{
+    Operation {
+        number: x.number,
+        calling: true,
+        count: timeout,
+        done: Value::VOID,
+    }
+}
+
+// The server's queue has no room.
+fn requests_full(c: RunnableConf, x: Runnable) -> bool
+    ensures { λ r. ⌜ r ≡ leb (c .capacity) (x .requests .queued) ⌝ }
+{
+    let q = x.requests;
+    c.capacity <= q.queued
+}
+
+fn asking(x: Runnable, c: Client) -> Runnable
+    ensures { λ r. ⌜ r ≡ asking x c ⌝ }
+{
+    let q = x.requests;
+    let mut y = x;
+    y.requests = q.push(c);
+    y
+}
+
+fn waiting_on(x: Slot, o: u8) -> Slot
+    ensures { λ r. ⌜ r ≡ waitingOn x o ⌝ }
+{
+    let mut life = x.life;
+    life.waiting = true;
+    life.on = o;
+    let mut y = x;
+    y.life = life;
+    y
+}
+
+// The caller of a synchronous operation waits on it.
+fn caller_after(c: OperationConf, o: u8, x: Slot) -> Slot
+    ensures { λ r. ⌜ r ≡ pick (c .asynchronous) x (waitingOn x o) ⌝ }
+{
+    if c.asynchronous {
+        return x;
+    }
+    waiting_on(x, o)
+}
+
+// On an open call Limit, and nothing changes.
+pub fn call(cfg: Config, st: State, i: u8, o: u8, v: Value) -> Stepped
+    ensures { λ r. ⌜ r ≡ callOf cfg st i o v ⌝ }
+{
+    let operations = st.operations;
+    let x = operations.get(o);
+    if x.calling {
+        return shared_steps::take(Value::LIMIT, st);
+    }
+    if x.number == Operation::LAST_NUMBER {
+        return shared_steps::refuse(numbers::NUMBERS_SPENT, st);
+    }
+    let confs = cfg.operations;
+    let c = confs.get(o);
+    let s = c.server;
+    let servers = cfg.runnables;
+    let runnables = st.runnables;
+    let r = runnables.get(s);
+    if requests_full(servers.get(s), r) {
+        return shared_steps::refuse(numbers::QUEUE_FULL, st);
+    }
+    let client = Client {
+        operation: o,
+        number: x.number,
+        argument: v,
+    };
+    let slots = st.slots;
+    let mut next = st;
+    next.operations = operations.with(o, opening(c.timeout, x));
+    next.runnables = runnables.with(s, asking(r, client));
+    next.slots = slots.with(i, caller_after(c, o, slots.get(i)));
+    shared_steps::take(Value::OK, next)
+}
+
+// ---- 12: result
+
+fn running_on(x: Slot) -> Slot
+    ensures { λ r. ⌜ r ≡ runningOn x ⌝ }
+{
+    let mut life = x.life;
+    life.waiting = false;
+    life.on = 0;
+    let mut y = x;
+    y.life = life;
+    y
+}
+
+// Asynchronous: NoData as long as the call has not ended, then what the operation is Done with, which it keeps.
+fn poll(st: State, o: u8) -> Stepped
+    ensures { λ r. ⌜ r ≡ pollOf st o ⌝ }
+{
+    let t = st.operations;
+    let x = t.get(o);
+    if x.calling {
+        return shared_steps::take(Value::NO_DATA, st);
+    }
+    shared_steps::take(x.done, st)
+}
+
+// Synchronous: once the operation is Done the stored value, which stays, and the instance runs on.
+fn collect(st: State, i: u8, o: u8) -> Stepped
+    ensures { λ r. ⌜ r ≡ collectOf st i o ⌝ }
+{
+    let t = st.operations;
+    let x = t.get(o);
+    if x.calling {
+        return shared_steps::refuse(numbers::STILL_OPEN, st);
+    }
+    let slots = st.slots;
+    let mut next = st;
+    next.slots = slots.with(i, running_on(slots.get(i)));
+    shared_steps::take(x.done, next)
+}
+
+pub fn result(cfg: Config, st: State, i: u8, o: u8) -> Stepped
+    ensures { λ r. ⌜ r ≡ resultOf cfg st i o ⌝ }
+{
+    let t = cfg.operations;
+    let c = t.get(o);
+    if c.asynchronous {
+        return poll(st, o);
+    }
+    collect(st, i, o)
+}
+
+// ---- 13, 16: a call ends
+
+// Done with a value, and the number up by one.
+fn closing(v: Value, x: Operation) -> Operation
+    ensures { λ r. ⌜ r ≡ closing v x ⌝ }
+{
+    Operation {
+        number: std::num::wrapping_add_u16(x.number, 1),
+        calling: false,
+        count: 0,
+        done: v,
+    }
+}
+
+// The return event is one of r on the operation o.
+fn is_return(d: ReturnEvent, o: u8, r: u8) -> bool
+    ensures { λ b. ⌜ b ≡ both (eqb (d .runnable) r) (eqb (d .operation) o) ⌝ }
+{
+    d.runnable == r && d.operation == o
+}
+
+fn is_returned(t: ReturnEvents, o: u8, r: u8) -> bool
+    ensures { λ b. ⌜ b ≡ anyBelow (λ (e : ℕ). both (eqb (returnEventIn t e .runnable) r) (eqb (returnEventIn t e .operation) o)) (t .n) ⌝ }
+{
+    let n = t.n;
+    let mut e: u8 = 0;
+    while e < n {
+        if is_return(t.get(e), o, r) {
+            return true;
+        }
+        e = e + 1;
+    }
+    false
+}
+
+// Each runnable that return events make pending.
+fn returned_runnables(cfg: Config, o: u8, rs: Runnables) -> Runnables
+    ensures { λ r. ⌜ r ≡ returnedRunnables cfg o rs ⌝ }
+{
+    let confs = cfg.runnables;
+    let n = shared_steps::within(confs.n, RunnableConfs::MAX as u8);
+    let revents = cfg.revents;
+    let mut u = rs;
+    let mut r: u8 = 0;
+    while r < n {
+        let k = r as usize;
+        let x = u.at[k];
+        let y = shared_steps::woken_if(is_returned(revents, o, r), x);
+        u.at[k] = y;
+        r = r + 1;
+    }
+    u
+}
+
+// The operation is Calling with the client's number.
+fn answers(t: Operations, c: Client) -> bool
+    ensures { λ r. ⌜ r ≡ answers t c ⌝ }
+{
+    let x = t.get(c.operation);
+    x.calling && x.number == c.number
+}
+
+// The slot owes nobody any longer, and its instance counts as finished.
+fn finishing(x: Slot) -> Slot
+    ensures { λ r. ⌜ r ≡ finishing x ⌝ }
+{
+    let mut life = x.life;
+    life.finished = true;
+    let w = Owed::BLANK;
+    let mut y = x;
+    y.life = life;
+    y.owed = w;
+    y
+}
+
+// Number 1 if that ends the client's call, else Number 0, and the operation is untouched.
+pub fn hand_back(cfg: Config, st: State, i: u8, v: Value) -> Stepped
+    ensures { λ r. ⌜ r ≡ handBackOf cfg st i v ⌝ }
+{
+    let slots = st.slots;
+    let x = slots.get(i);
+    let w = x.owed;
+    if w.serving {
+        let c = w.client;
+        let operations = st.operations;
+        if answers(operations, c) {
+            let o = c.operation;
+            let runnables = st.runnables;
+            let mut next = st;
+            next.operations = operations.with(o, closing(v, operations.get(o)));
+            next.runnables = returned_runnables(cfg, o, runnables);
+            next.slots = slots.with(i, finishing(x));
+            return shared_steps::take(Value::of(1), next);
+        }
+        let mut next = st;
+        next.slots = slots.with(i, finishing(x));
+        return shared_steps::take(Value::of(0), next);
+    }
+    shared_steps::refuse(numbers::WRONG_CLIENT, st)
+}
+
+// A call that is open, and whose count has run out, ends with Timeout.
+pub fn timeout(cfg: Config, st: State, o: u8) -> Stepped
+    ensures { λ r. ⌜ r ≡ timeoutOf cfg st o ⌝ }
+{
+    let t = st.operations;
+    let x = t.get(o);
+    if x.calling {
+        if x.count == 0 {
+            let runnables = st.runnables;
+            let mut next = st;
+            next.operations = t.with(o, closing(Value::TIMEOUT, x));
+            next.runnables = returned_runnables(cfg, o, runnables);
+            return shared_steps::take(Value::VOID, next);
+        }
+        return shared_steps::refuse(numbers::NOT_OVER, st);
+    }
+    shared_steps::refuse(numbers::NOT_OVER, st)
+}
+
+// ---- 14: end
+
+fn leaving(x: Runnable) -> Runnable
+    ensures { λ r. ⌜ r ≡ leaving x ⌝ }
+{
+    let mut y = x;
+    y.instances = state::down_one(x.instances);
+    y
+}
+
+// The slot is emptied, and the runnable's count goes down by one.
+pub fn end(st: State, i: u8) -> Stepped
+    ensures { λ r. ⌜ r ≡ endOf st i ⌝ }
+{
+    let slots = st.slots;
+    let x = slots.get(i);
+    let w = x.owed;
+    if w.serving {
+        return shared_steps::refuse(numbers::WRONG_CLIENT, st);
+    }
+    let t = x.stack;
+    if 0 < t.held {
+        return shared_steps::refuse(numbers::AREAS_HELD, st);
+    }
+    let life = x.life;
+    let r = life.runnable;
+    let runnables = st.runnables;
+    let mut next = st;
+    next.runnables = runnables.with(r, leaving(runnables.get(r)));
+    next.slots = slots.with(i, Slot::BLANK);
+    shared_steps::take(Value::VOID, next)
+}

@@ -1,0 +1,15 @@
+-- `data_steps::accepts` meets its contract.
+-- Assumes nothing.
+use borrow.Author.Tests.{le-ltb, lt-ltb}
+use Rattle.data_steps.proofs.accepts.Statement.{statement}
+use Rattle.data_steps.proofs.accepts.Tie as tie
+
+returns : tie.Need-returns
+returns c = rw (lt-ltb _ _ (c .if1 .taken))
+
+returns-2 : tie.Need-returns-2
+returns-2 c = rw (le-ltb _ _ (c .if1 .left))
+
+pub accepts-spec : {M : Type 1} → statement M
+accepts-spec =
+    tie.close (tie.spec returns returns-2)

@@ -1,0 +1,400 @@
+// Steps 1 to 10 as code, once refusals 2 to 5 have let them through: variables, areas, and elements with the data events. Each does what its definition in crate effects says, test for test.
+ghost use mathlib.Core.Path.{_≡_};
+ghost use mathlib.Core.Bool.{not};
+ghost use Prim.Native.Nat.{ℕ};
+ghost use lib.Dec.{ltb};
+ghost use Rattle.laws.specs.Choice.{either};
+ghost use Rattle.laws.specs.Loop.{anyBelow};
+ghost use Rattle.config.specs.Tables.{linkIn};
+ghost use Rattle.data_steps.specs.Rooms.{roomIn, roomsOf, feedsBy, isFedBy, fedRunnablesBy, isFullBy, anyFullBy};
+ghost use Rattle.effects.specs.Steps.{readVariableOf, writeVariableOf, entering, exiting, enterOf, onTop, exitOf, seen, readOf, updatedOf, joins, storing, queueing, fedElement, fedElements, writeOf, invalidateOf, sendOf, receiving, receiveOf};
+use config::Config;
+use config::Link;
+use config::Links;
+use config::RequiredConfs;
+use config::RunnableConfs;
+use state::Area;
+use state::Element;
+use state::Elements;
+use state::Runnables;
+use state::Slot;
+use state::State;
+use state::Stepped;
+use state::Variable;
+use values::Value;
+
+// ---- 1, 2: variables
+
+pub fn read_variable(st: State, v: u8) -> Stepped
+    ensures { λ r. ⌜ r ≡ readVariableOf st v ⌝ }
+{
+    let t = st.variables;
+    let x = t.get(v);
+    shared_steps::take(x.value, st)
+}
+
+pub fn write_variable(st: State, v: u8, x: Value) -> Stepped
+    ensures { λ r. ⌜ r ≡ writeVariableOf st v x ⌝ }
+{
+    let t = st.variables;
+    let mut next = st;
+    next.variables = t.with(v, Variable { value: x });
+    shared_steps::take(Value::VOID, next)
+}
+
+// ---- 3, 4: areas
+
+fn entering(x: Slot, a: u8) -> Slot
+    ensures { λ r. ⌜ r ≡ entering x a ⌝ }
+{
+    let t = x.stack;
+    let mut y = x;
+    y.stack = t.push(a);
+    y
+}
+
+fn exiting(x: Slot) -> Slot
+    ensures { λ r. ⌜ r ≡ exiting x ⌝ }
+{
+    let t = x.stack;
+    let mut y = x;
+    y.stack = t.pop();
+    y
+}
+
+pub fn enter(st: State, i: u8, a: u8) -> Stepped
+    ensures { λ r. ⌜ r ≡ enterOf st i a ⌝ }
+{
+    let areas = st.areas;
+    let x = areas.get(a);
+    if x.taken {
+        return shared_steps::refuse(numbers::AREA_TAKEN, st);
+    }
+    let slots = st.slots;
+    let s = slots.get(i);
+    let mut next = st;
+    next.areas = areas.with(a, Area { taken: true });
+    next.slots = slots.with(i, entering(s, a));
+    shared_steps::take(Value::VOID, next)
+}
+
+fn on_top(x: Slot, a: u8) -> bool
+    ensures { λ r. ⌜ r ≡ onTop x a ⌝ }
+{
+    let t = x.stack;
+    0 < t.held && t.top() == a
+}
+
+pub fn exit(st: State, i: u8, a: u8) -> Stepped
+    ensures { λ r. ⌜ r ≡ exitOf st i a ⌝ }
+{
+    let slots = st.slots;
+    let s = slots.get(i);
+    if on_top(s, a) {
+        let areas = st.areas;
+        let mut next = st;
+        next.areas = areas.with(a, Area { taken: false });
+        next.slots = slots.with(i, exiting(s));
+        return shared_steps::take(Value::VOID, next);
+    }
+    shared_steps::refuse(numbers::NOT_ON_TOP, st)
+}
+
+// ---- 5, 7: an unqueued element read, and its flag asked
+
+fn seen(x: Element) -> Element
+    ensures { λ r. ⌜ r ≡ seen x ⌝ }
+{
+    let mut y = x;
+    y.updated = false;
+    y
+}
+
+pub fn read(st: State, q: u8) -> Stepped
+    ensures { λ r. ⌜ r ≡ readOf st q ⌝ }
+{
+    let t = st.elements;
+    let x = t.get(q);
+    let mut next = st;
+    next.elements = t.with(q, seen(x));
+    shared_steps::take(x.value, next)
+}
+
+pub fn updated(st: State, q: u8) -> Stepped
+    ensures { λ r. ⌜ r ≡ updatedOf st q ⌝ }
+{
+    let t = st.elements;
+    let x = t.get(q);
+    if x.updated {
+        return shared_steps::take(Value::of(1), st);
+    }
+    shared_steps::take(Value::of(0), st)
+}
+
+// ---- 6, 8, 10: a value goes to every linked element
+
+fn joins(k: Link, p: u8, q: u8) -> bool
+    ensures { λ r. ⌜ r ≡ joins k p q ⌝ }
+{
+    k.provided == p && k.required == q
+}
+
+// The provided element p is linked to the required element q.
+fn linked(t: Links, p: u8, q: u8) -> bool
+    ensures { λ r. ⌜ r ≡ anyBelow (λ (l : ℕ). joins (linkIn t l) p q) (t .n) ⌝ }
+{
+    let n = t.n;
+    let mut l: u8 = 0;
+    while l < n {
+        if joins(t.get(l), p, q) {
+            return true;
+        }
+        l = l + 1;
+    }
+    false
+}
+
+// An unqueued element takes any value, a queued one while it has room.
+fn accepts(capacity: u8, queued: u8) -> bool
+    ensures { λ r. ⌜ r ≡ either (not (ltb 0 capacity)) (ltb queued capacity) ⌝ }
+{
+    if 0 < capacity {
+        return queued < capacity;
+    }
+    true
+}
+
+fn storing(v: Value, x: Element) -> Element
+    ensures { λ r. ⌜ r ≡ storing v x ⌝ }
+{
+    let mut y = x;
+    y.value = v;
+    y.updated = true;
+    y
+}
+
+fn queueing(v: Value, x: Element) -> Element
+    ensures { λ r. ⌜ r ≡ queueing v x ⌝ }
+{
+    let q = x.queue;
+    let mut y = x;
+    y.queue = q.push(v);
+    y
+}
+
+// The element q after p has handed over v: a full queue drops it, and stops no other.
+fn fed_element(cfg: Config, p: u8, v: Value, q: u8, x: Element) -> Element
+    ensures { λ r. ⌜ r ≡ fedElement cfg p v q x ⌝ }
+{
+    let links = cfg.links;
+    if linked(links, p, q) {
+        let required = cfg.required;
+        let c = required.get(q);
+        let queue = x.queue;
+        if accepts(c.capacity, queue.queued) {
+            if 0 < c.capacity {
+                return queueing(v, x);
+            }
+            return storing(v, x);
+        }
+        return x;
+    }
+    x
+}
+
+fn fed_elements(cfg: Config, p: u8, v: Value, t: Elements) -> Elements
+    ensures { λ r. ⌜ r ≡ fedElements cfg p v t ⌝ }
+{
+    let required = cfg.required;
+    let n = shared_steps::within(required.n, RequiredConfs::MAX as u8);
+    let mut u = t;
+    let mut q: u8 = 0;
+    while q < n {
+        let k = q as usize;
+        let x = u.at[k];
+        let y = fed_element(cfg, p, v, q, x);
+        u.at[k] = y;
+        q = q + 1;
+    }
+    u
+}
+
+// Which required elements take one more value. Past the last place there is none, and nothing holds a value back.
+struct Rooms {
+    at: [bool; RequiredConfs::MAX],
+}
+
+impl Rooms {
+    fn of(cfg: Config, t: Elements) -> Rooms
+        ensures { λ r. ⌜ r ≡ roomsOf cfg t ⌝ }
+    {
+        let required = cfg.required;
+        let mut u = Rooms {
+            at: [true; RequiredConfs::MAX],
+        };
+        let mut q: u8 = 0;
+        let mut k: usize = 0;
+        while k < RequiredConfs::MAX {
+            let c = required.get(q);
+            let x = t.at[k];
+            let queue = x.queue;
+            let b = accepts(c.capacity, queue.queued);
+            u.at[k] = b;
+            q = q + 1;
+            k = k + 1;
+        }
+        u
+    }
+
+    fn get(self, q: u8) -> bool
+        ensures { λ r. ⌜ r ≡ roomIn self q ⌝ }
+    {
+        let k = q as usize;
+        if k < RequiredConfs::MAX {
+            return self.at[k];
+        }
+        true
+    }
+}
+
+// The data event e is one of r, and its element stores what p hands over.
+fn feeds(cfg: Config, rooms: Rooms, p: u8, r: u8, e: u8) -> bool
+    ensures { λ b. ⌜ b ≡ feedsBy cfg rooms p r e ⌝ }
+{
+    let devents = cfg.devents;
+    let d = devents.get(e);
+    if d.runnable == r {
+        let links = cfg.links;
+        if linked(links, p, d.required) {
+            return rooms.get(d.required);
+        }
+        return false;
+    }
+    false
+}
+
+fn is_fed(cfg: Config, rooms: Rooms, p: u8, r: u8) -> bool
+    ensures { λ b. ⌜ b ≡ isFedBy cfg rooms p r ⌝ }
+{
+    let devents = cfg.devents;
+    let n = devents.n;
+    let mut e: u8 = 0;
+    while e < n {
+        if feeds(cfg, rooms, p, r, e) {
+            return true;
+        }
+        e = e + 1;
+    }
+    false
+}
+
+// Each runnable that data events make pending.
+fn fed_runnables(cfg: Config, rooms: Rooms, p: u8, rs: Runnables) -> Runnables
+    ensures { λ r. ⌜ r ≡ fedRunnablesBy cfg rooms p rs ⌝ }
+{
+    let confs = cfg.runnables;
+    let n = shared_steps::within(confs.n, RunnableConfs::MAX as u8);
+    let mut u = rs;
+    let mut r: u8 = 0;
+    while r < n {
+        let k = r as usize;
+        let x = u.at[k];
+        let y = shared_steps::woken_if(is_fed(cfg, rooms, p, r), x);
+        u.at[k] = y;
+        r = r + 1;
+    }
+    u
+}
+
+pub fn write(cfg: Config, st: State, p: u8, v: Value) -> Stepped
+    ensures { λ r. ⌜ r ≡ writeOf cfg st p v ⌝ }
+{
+    let t = st.elements;
+    let rs = st.runnables;
+    let rooms = Rooms::of(cfg, t);
+    let mut next = st;
+    next.elements = fed_elements(cfg, p, v, t);
+    next.runnables = fed_runnables(cfg, rooms, p, rs);
+    shared_steps::take(Value::VOID, next)
+}
+
+// No data events (ours).
+pub fn invalidate(cfg: Config, st: State, p: u8) -> Stepped
+    ensures { λ r. ⌜ r ≡ invalidateOf cfg st p ⌝ }
+{
+    let t = st.elements;
+    let mut next = st;
+    next.elements = fed_elements(cfg, p, Value::INVALID, t);
+    shared_steps::take(Value::VOID, next)
+}
+
+// The linked queue q is full.
+fn is_full(cfg: Config, rooms: Rooms, p: u8, q: u8) -> bool
+    ensures { λ r. ⌜ r ≡ isFullBy cfg rooms p q ⌝ }
+{
+    let links = cfg.links;
+    if linked(links, p, q) {
+        if rooms.get(q) {
+            return false;
+        }
+        return true;
+    }
+    false
+}
+
+fn any_full(cfg: Config, rooms: Rooms, p: u8) -> bool
+    ensures { λ r. ⌜ r ≡ anyFullBy cfg rooms p ⌝ }
+{
+    let required = cfg.required;
+    let n = required.n;
+    let mut q: u8 = 0;
+    while q < n {
+        if is_full(cfg, rooms, p, q) {
+            return true;
+        }
+        q = q + 1;
+    }
+    false
+}
+
+// Limit if any linked queue was full, else Ok.
+pub fn send(cfg: Config, st: State, p: u8, v: Value) -> Stepped
+    ensures { λ r. ⌜ r ≡ sendOf cfg st p v ⌝ }
+{
+    let t = st.elements;
+    let rs = st.runnables;
+    let rooms = Rooms::of(cfg, t);
+    let mut next = st;
+    next.elements = fed_elements(cfg, p, v, t);
+    next.runnables = fed_runnables(cfg, rooms, p, rs);
+    if any_full(cfg, rooms, p) {
+        return shared_steps::take(Value::LIMIT, next);
+    }
+    shared_steps::take(Value::OK, next)
+}
+
+// ---- 9: receive
+
+fn receiving(x: Element) -> Element
+    ensures { λ r. ⌜ r ≡ receiving x ⌝ }
+{
+    let q = x.queue;
+    let mut y = x;
+    y.queue = q.rest();
+    y
+}
+
+// The oldest value, removed; NoData if there is none.
+pub fn receive(st: State, q: u8) -> Stepped
+    ensures { λ r. ⌜ r ≡ receiveOf st q ⌝ }
+{
+    let t = st.elements;
+    let x = t.get(q);
+    let queue = x.queue;
+    if queue.queued == 0 {
+        return shared_steps::take(Value::NO_DATA, st);
+    }
+    let mut next = st;
+    next.elements = t.with(q, receiving(x));
+    shared_steps::take(queue.first(), next)
+}

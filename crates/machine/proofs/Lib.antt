@@ -1,2 +1,0 @@
--- Laws that the proofs of the machine cite.
-pub mod Going

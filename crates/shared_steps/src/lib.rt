@@ -1,0 +1,59 @@
+// What the code of all steps shares: a step refused or taken, a runnable woken, and how far a loop over a table goes.
+ghost use mathlib.Core.Path.{_≡_};
+ghost use Prim.Native.Nat.{_≤_};
+ghost use lib.Dec.{ltb};
+ghost use Rattle.laws.specs.Choice.{pick};
+ghost use Rattle.effects.specs.Steps.{refused, took, woken};
+use state::Runnable;
+use state::State;
+use state::Stepped;
+use values::Answer;
+use values::Value;
+
+// A refusal leaves the state as it was.
+pub fn refuse(n: u8, st: State) -> Stepped
+    ensures { λ r. ⌜ r ≡ refused n st ⌝ }
+{
+    Stepped {
+        answer: Answer::Refused(n),
+        state: st,
+    }
+}
+
+// A step taken: its answer, and the state after it.
+pub fn take(v: Value, st: State) -> Stepped
+    ensures { λ r. ⌜ r ≡ took v st ⌝ }
+{
+    Stepped {
+        answer: Answer::Taken(v),
+        state: st,
+    }
+}
+
+// How many places of a table a loop goes over: those in use, which are no more than there are.
+pub fn within(n: u8, top: u8) -> u8
+    ensures { λ r. ⌜ (r ≤ top) × (r ≡ pick (ltb n top) n top) ⌝ }
+{
+    if n < top {
+        return n;
+    }
+    top
+}
+
+// A runnable becomes pending; pending is not counted.
+pub fn woken(x: Runnable) -> Runnable
+    ensures { λ r. ⌜ r ≡ woken x ⌝ }
+{
+    let mut y = x;
+    y.pending = true;
+    y
+}
+
+pub fn woken_if(b: bool, x: Runnable) -> Runnable
+    ensures { λ r. ⌜ r ≡ pick b (woken x) x ⌝ }
+{
+    if b {
+        return woken(x);
+    }
+    x
+}

@@ -1,3 +1,0 @@
--- Laws that the proofs of the steps cite.
-pub mod Stopping
-pub mod Noted

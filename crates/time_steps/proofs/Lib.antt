@@ -1,0 +1,2 @@
+-- Laws that the proofs of spawn and wait cite.
+pub mod Places
