@@ -1,13 +1,13 @@
 // The outside cases, packed on standard input: for each a configuration and a recording, each behind its length in four bytes. Prints the line of each.
 ghost use lib.ListN.{length};
-ghost use Rattle.desk.specs.Got.{Fits};
-use desk::Got;
+ghost use Rattle.program_io.specs.Got.{Fits};
 use libc::STDIN_FILENO;
+use program_io::Got;
 
 // The length that stands next, or none at the end of the input.
 fn next_length() -> Got {
     let mut head = [0u8; 4];
-    let got = desk::read_whole(STDIN_FILENO, &mut head);
+    let got = program_io::read_whole(STDIN_FILENO, &mut head);
     let Got::Bytes(n) = got else {
         return Got::Failed;
     };
@@ -28,7 +28,7 @@ fn next_text(buf: &mut [u8]) -> Got
     if buf.len() < n {
         return Got::Failed;
     }
-    let got = desk::read_whole(STDIN_FILENO, &mut buf[..n]);
+    let got = program_io::read_whole(STDIN_FILENO, &mut buf[..n]);
     let Got::Bytes(k) = got else {
         return Got::Failed;
     };
@@ -48,7 +48,7 @@ fn one_case(config: &mut [u8], recording: &mut [u8]) -> bool {
     let Got::Bytes(m) = r else {
         return false;
     };
-    desk::print(judging::line_of(&config[..n], &recording[..m]));
+    program_io::print(judging::line_of(&config[..n], &recording[..m]));
     true
 }
 

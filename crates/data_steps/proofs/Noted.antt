@@ -11,12 +11,9 @@ use Rattle.laws.specs.Choice.{pick}
 use Rattle.laws.specs.Row.{eachBelow}
 use Rattle.laws.proofs.Looping.{any-same}
 use Rattle.laws.proofs.Places.{past, each-at, each-length}
-use Rattle.config.specs.declared.Config.{Config}
+use Rattle.types.specs.Types.{Config, Elements, Runnable, Runnables}
 use Rattle.config.specs.Tables.{requiredConfIn, dataEventIn, noRequiredConf}
 use Rattle.entries.specs.Faults.{isQueued}
-use Rattle.state.specs.declared.Elements.{Elements}
-use Rattle.state.specs.declared.Runnable.{Runnable}
-use Rattle.state.specs.declared.Runnables.{Runnables}
 use Rattle.state.specs.Parts.{noRunnable}
 use Rattle.state.specs.Tables.{elementIn}
 use Rattle.effects.specs.Steps.{accepts, woken, feeds, isFed, fedRunnables, isFull, anyFull}

@@ -7,11 +7,8 @@ use lib.ListN.{replicate, getD}
 use Rattle.laws.specs.Choice.{pick, both}
 use Rattle.laws.specs.Loop.{anyBelow}
 use Rattle.laws.specs.Row.{eachBelow}
-use Rattle.config.specs.declared.Config.{Config}
+use Rattle.types.specs.Types.{Config, Runnable, Runnables, Elements}
 use Rattle.config.specs.Tables.{maxRequiredConfs, dataEventIn}
-use Rattle.state.specs.declared.Runnable.{Runnable}
-use Rattle.state.specs.declared.Runnables.{Runnables}
-use Rattle.state.specs.declared.Elements.{Elements}
 use Rattle.state.specs.Parts.{noRunnable}
 use Rattle.state.specs.Tables.{elementIn}
 use Rattle.effects.specs.Steps.{linked, accepts, woken}

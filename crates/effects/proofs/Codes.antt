@@ -9,13 +9,7 @@ use native.Mathlib.Omega.{arith}
 use lib.ListN.{getD}
 use borrow.Author.Tests.{ne-eqb}
 use Rattle.numbers.specs.Codes.{readVariableCode, writeVariableCode, enterCode, exitCode, readCode, writeCode, updatedCode, invalidateCode, receiveCode, sendCode, callCode, resultCode, handBackCode, endCode, spawnCode, timeoutCode, tickCode, waitCode}
-use Rattle.values.specs.declared.Value.{Value}
-use Rattle.values.specs.declared.Step.{Step}
-use Rattle.values.specs.declared.Answer.the-variants.{Taken, Refused}
-use Rattle.config.specs.declared.Config.{Config}
-use Rattle.state.specs.declared.Slots.{Slots}
-use Rattle.state.specs.declared.State.{State}
-use Rattle.state.specs.declared.Stepped.{Stepped}
+use Rattle.types.specs.Types.{Value, Step, Taken, Refused, Config, Slots, State, Stepped}
 use Rattle.rules.specs.declared.Row.{Row}
 use Rattle.rules.specs.Rows.{nobody, noRow, rows, rowOf}
 use Rattle.rules.specs.Refusals.{refusalBy, refusalOf}

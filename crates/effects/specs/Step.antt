@@ -6,13 +6,7 @@ use Rattle.numbers.specs.Refusals.{notSound, otherAnswer}
 use Rattle.numbers.specs.Codes.{readVariableCode, writeVariableCode, enterCode, exitCode, readCode, writeCode, updatedCode, invalidateCode, receiveCode, sendCode, callCode, resultCode, handBackCode, endCode, spawnCode, timeoutCode, tickCode}
 use Rattle.laws.specs.Choice.{pick}
 use Rattle.values.specs.Values.{sameValue}
-use Rattle.values.specs.declared.Value.{Value}
-use Rattle.values.specs.declared.Step.{Step}
-use Rattle.values.specs.declared.Answer.{Answer}
-use Rattle.values.specs.declared.Answer.the-variants.{Taken, Refused}
-use Rattle.config.specs.declared.Config.{Config}
-use Rattle.state.specs.declared.State.{State}
-use Rattle.state.specs.declared.Stepped.{Stepped}
+use Rattle.types.specs.Types.{Value, Step, Answer, Taken, Refused, Config, State, Stepped}
 use Rattle.rules.specs.Sound.{soundOf}
 use Rattle.rules.specs.Refusals.{refusalOf}
 use Rattle.effects.specs.Steps.{refused, readVariableOf, writeVariableOf, enterOf, exitOf, readOf, writeOf, updatedOf, invalidateOf, receiveOf, sendOf, callOf, resultOf, handBackOf, endOf, spawnOf, timeoutOf, tickOf, waitOf}

@@ -8,27 +8,9 @@ use Rattle.laws.specs.Choice.{pick, both, either, bit}
 use Rattle.laws.specs.Loop.{allBelow, anyBelow, firstBelow}
 use Rattle.laws.specs.Row.{eachBelow}
 use Rattle.values.specs.Values.{voidV, numberV, okV, limitV, noDataV, timeoutV, invalidV}
-use Rattle.values.specs.declared.Value.{Value}
-use Rattle.values.specs.declared.Answer.the-variants.{Taken, Refused}
-use Rattle.config.specs.declared.Config.{Config}
-use Rattle.config.specs.declared.RunnableConf.{RunnableConf}
-use Rattle.config.specs.declared.Link.{Link}
+use Rattle.types.specs.Types.{Value, Taken, Refused, Config, RunnableConf, Link, Client, Runnable, Runnables, Element, Elements, Operation, Operations, Timer, Timers, Owed, Slot, Slots, State, Stepped}
 use Rattle.config.specs.Tables.{runnableConfIn, requiredConfIn, linkIn, operationConfIn, timerConfIn, dataEventIn, returnEventIn}
 use Rattle.entries.specs.Faults.{isQueued}
-use Rattle.state.specs.declared.Client.{Client}
-use Rattle.state.specs.declared.Runnable.{Runnable}
-use Rattle.state.specs.declared.Runnables.{Runnables}
-use Rattle.state.specs.declared.Element.{Element}
-use Rattle.state.specs.declared.Elements.{Elements}
-use Rattle.state.specs.declared.Operation.{Operation}
-use Rattle.state.specs.declared.Operations.{Operations}
-use Rattle.state.specs.declared.Timer.{Timer}
-use Rattle.state.specs.declared.Timers.{Timers}
-use Rattle.state.specs.declared.Owed.{Owed}
-use Rattle.state.specs.declared.Slot.{Slot}
-use Rattle.state.specs.declared.Slots.{Slots}
-use Rattle.state.specs.declared.State.{State}
-use Rattle.state.specs.declared.Stepped.{Stepped}
 use Rattle.state.specs.Parts.{lastNumber, noOwed, noStack, noSlot, noRunnable, noElement, noOperation, noTimer}
 use Rattle.state.specs.Fields.{withInterval, withPending, withInstances, withRequests, withValue, withUpdated, withQueue, withCount, lifeWaiting, lifeRunning, lifeFinished, lifeOf, withLife, withOwed, withStack}
 use Rattle.state.specs.Tables.{maxSlots, runnableIn, variableIn, areaIn, elementIn, operationIn, timerIn, slotIn, withRunnable, withVariable, withArea, withElement, withOperation, withTimer, withSlot, withRunnables, withVariables, withAreas, withElements, withOperations, withTimers, withSlots}

@@ -17,18 +17,7 @@ use Rattle.state.specs.Start.{startVariable, startElement, startRunnables, star
 use Rattle.entries.specs.Entries.{maxOf, countOf, placesOf, entryOf, placed}
 use Rattle.entries.specs.Faults.{inRange, namesThere, isServer, isQueued, rises, risesAt, pairsWell, entryFault, isNoEntry, placeSound, kindSound, configSound}
 use Rattle.rules.specs.Sound.{isNoClient, clientFits, requestsSound, valuesSound, runnableSound, variableSound, isStored, elementSound, isOutcome, callingSound, doneSound, operationSound, timerSound, waitsWell, lifeSound, owedSound, areaFits, stackSound, isNoSlot, slotSound, ofRunnable, slotsOf, countSound, timesIn, holders, areaSound, isClient, queuedAs, servedAs, clientsAs, numbered, clientSound, queuedSound, servedSound, calledSound, runnablesSound, variablesSound, elementsSound, operationsSound, timersSound, slotsSound, countsSound, areasSound, clientsSound, shaped, soundOf}
-use Rattle.values.specs.declared.Value.{Value}
-use Rattle.config.specs.declared.Config.{Config}
-use Rattle.state.specs.declared.Client.{Client}
-use Rattle.state.specs.declared.Requests.{Requests}
-use Rattle.state.specs.declared.Runnables.{Runnables}
-use Rattle.state.specs.declared.Elements.{Elements}
-use Rattle.state.specs.declared.Operations.{Operations}
-use Rattle.state.specs.declared.Life.{Life}
-use Rattle.state.specs.declared.Stack.{Stack}
-use Rattle.state.specs.declared.Slot.{Slot}
-use Rattle.state.specs.declared.Slots.{Slots}
-use Rattle.state.specs.declared.State.{State}
+use Rattle.types.specs.Types.{Value, Config, Client, Requests, Runnables, Elements, Operations, Life, Stack, Slot, Slots, State}
 
 -- ---- the configuration: a client and a server component with two runnables each, a synchronous and two asynchronous operations of the one on the other, two areas, a queued element
 

@@ -5,16 +5,12 @@ use mathlib.Core.Bool.{true}
 use mathlib.Core.Path.{_≡_, refl}
 use native.Mathlib.Omega.{arith}
 use Rattle.numbers.specs.Codes.{spawnCode, timeoutCode, tickCode}
-use Rattle.values.specs.declared.Value.{Value}
-use Rattle.values.specs.declared.Step.{Step}
-use Rattle.values.specs.Values.{valueIn, isGood}
-use Rattle.config.specs.declared.Config.{Config}
-use Rattle.state.specs.declared.State.{State}
-use Rattle.state.specs.declared.Stepped.{Stepped}
+use Rattle.types.specs.Types.{Value, Step, Config, State, Stepped}
+use Rattle.values.specs.Values.{answerValue, isGood}
 use Rattle.state.specs.Tables.{maxSlots}
 use Rattle.effects.specs.Steps.{lowestEmpty}
-use Rattle.keep.proofs.Ways.{Way, Went, bars, goes, went}
-use Rattle.keep.proofs.Ways as go
+use Rattle.stays_sound.proofs.Ways.{Way, Went, bars, goes, went}
+use Rattle.stays_sound.proofs.Ways as go
 use Rattle.recording.specs.Recording.{valuesGood, Recorded}
 use Rattle.gaps.specs.Gaps.{choice, answered}
 
@@ -44,7 +40,7 @@ module _ (cfg : Config) (st : State) where
   way-fits tick (go.tick z) = void-fits
 
   -- beside a refusal stands Void
-  went-fits : {n : ℕ} {x : Step} {r : Stepped} → Chosen n → Went cfg st x n r → Fit (valueIn (r .answer))
+  went-fits : {n : ℕ} {x : Step} {r : Stepped} → Chosen n → Went cfg st x n r → Fit (answerValue (r .answer))
   went-fits c (bars b) = void-fits
   went-fits c (goes w) = way-fits c w
 

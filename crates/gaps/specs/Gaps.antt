@@ -8,13 +8,8 @@ use lib.Dec.{ltb}
 use lib.ListN.{length, getD}
 use Rattle.numbers.specs.Codes.{spawnCode, timeoutCode, tickCode}
 use Rattle.laws.specs.Choice.{pick, both}
-use Rattle.values.specs.declared.Step.{Step}
-use Rattle.values.specs.declared.Answer.{Answer}
-use Rattle.values.specs.declared.Answer.the-variants.{Taken, Refused as Barred}
-use Rattle.values.specs.Values.{voidV, valueIn}
-use Rattle.config.specs.declared.Config.{Config}
-use Rattle.state.specs.declared.State.{State}
-use Rattle.state.specs.declared.Stepped.{Stepped}
+use Rattle.types.specs.Types.{Step, Answer, Taken, Refused as Barred, Config, State, Stepped}
+use Rattle.values.specs.Values.{voidV, answerValue}
 use Rattle.effects.specs.Step.{possibleOf}
 use Rattle.gaps.specs.declared.Choices.{Choices}
 use Rattle.gaps.specs.Orders.{each, passedOver, upToThree}
@@ -46,7 +41,7 @@ isTaken (Barred n) = false
 
 -- a choice with the answer it would get as its claim (W-209, the computed answer)
 abbrev pub answered : Config → State → Step → Step
-answered cfg st x = record { code = x .code; who = x .who; what = x .what; argument = x .argument; claim = valueIn (possibleOf cfg st x .answer) }
+answered cfg st x = record { code = x .code; who = x .who; what = x .what; argument = x .argument; claim = answerValue (possibleOf cfg st x .answer) }
 
 -- a sequence fills the gap before s: each of it is accepted in turn, and then s with its own claim (W-209, where a step is refused)
 unfoldable pub fills : (State → Step → Stepped) → Config → State → Step → List Step → Bool

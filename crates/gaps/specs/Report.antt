@@ -7,10 +7,7 @@ use lib.ListN.{length}
 use Rattle.numbers.specs.Refusals.{badField, noRoom, notSound, noFill}
 use Rattle.numbers.specs.Tags.{stepSize, endSize}
 use Rattle.laws.specs.Choice.{pick, both}
-use Rattle.values.specs.declared.Step.{Step}
-use Rattle.config.specs.declared.Config.{Config}
-use Rattle.state.specs.declared.State.{State}
-use Rattle.state.specs.declared.Stepped.{Stepped}
+use Rattle.types.specs.Types.{Step, Config, State, Stepped}
 use Rattle.rules.specs.Sound.{soundOf}
 use Rattle.effects.specs.Step.{stepOf}
 use Rattle.wire.specs.Bytes.{bytes32, putAt}

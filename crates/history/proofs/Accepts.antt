@@ -1,4 +1,4 @@
--- From an accepted step to its deed: it went a way of its code (`way` in crate keep), and every way is a deed (`deed-way`). Most ways are calm: they touch no call, no area and no timer (`calm`).
+-- From an accepted step to its deed: it went a way of its code (`way` in crate stays_sound), and every way is a deed (`deed-way`). Most ways are calm: they touch no call, no area and no timer (`calm`).
 -- Assumes nothing.
 use Prim.Native.Nat.{ℕ}
 use mathlib.Core.Bool.{Bool, true, false}
@@ -8,20 +8,16 @@ use lib.Dec.{eqb}
 use Rattle.numbers.specs.Codes.{enterCode, exitCode, callCode, handBackCode, endCode, spawnCode, timeoutCode, tickCode, waitCode}
 use Rattle.laws.specs.Choice.{either}
 use Rattle.laws.proofs.Choosing.{clash}
-use Rattle.values.specs.declared.Value.{Value}
-use Rattle.values.specs.declared.Step.{Step}
-use Rattle.values.specs.declared.Answer.the-variants.{Taken}
+use Rattle.types.specs.Types.{Value, Step, Taken, Config, State}
 use Rattle.values.specs.Values.{numberV, limitV}
-use Rattle.config.specs.declared.Config.{Config}
 use Rattle.entries.specs.Faults.{isServer}
-use Rattle.state.specs.declared.State.{State}
 use Rattle.effects.specs.Steps.{lowestEmpty, spawned}
 use Rattle.effects.specs.Step.{stepOf}
-use Rattle.keep.specs.Facts.{Sound, CanSpawn}
-use Rattle.keep.proofs.Told.{told}
-use Rattle.keep.proofs.Ways.{Way}
-use Rattle.keep.proofs.Ways as go
-use Rattle.keep.proofs.Accepted.{accepted, way}
+use Rattle.stays_sound.specs.Facts.{Sound, CanSpawn}
+use Rattle.stays_sound.proofs.Told.{told}
+use Rattle.stays_sound.proofs.Ways.{Way}
+use Rattle.stays_sound.proofs.Ways as go
+use Rattle.stays_sound.proofs.Accepted.{accepted, way}
 use Rattle.history.specs.History.{timeOf}
 use Rattle.history.proofs.Timed.{still}
 use Rattle.history.proofs.Passes.{Calm, calm-same, write-variable-calm, elements-calm, fed-calm, enter-alike, exit-alike, collect-calm, tick-alike, tick-unmoved, wait-alike, wait-unmoved}

@@ -15,11 +15,10 @@ use lib.ListN.{length, getD, set, length-set}
 use borrow.Author.Tests.{eq-eqb, ne-eqb}
 use Rattle.laws.specs.Choice.{bit}
 use Rattle.laws.proofs.Choosing.{clash, bit-most}
-use Rattle.state.specs.declared.Operation.{Operation}
-use Rattle.state.specs.declared.Operations.{Operations}
+use Rattle.types.specs.Types.{Operation, Operations}
 use Rattle.state.specs.Parts.{noOperation}
 use Rattle.state.specs.Tables.{operationIn, withOperation}
-use Rattle.keep.proofs.Clients.{calling-inside}
+use Rattle.stays_sound.proofs.Clients.{calling-inside}
 use Rattle.history.specs.History.{How, Ending, endsOf, lastOn}
 use Rattle.history.proofs.Beside.{set-each, set-both}
 use Rattle.history.proofs.Tied.{given, delivered, endedCall, AllProper, Calls, Proper}

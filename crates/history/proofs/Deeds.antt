@@ -10,16 +10,13 @@ use lib.Dec.{eqb}
 use borrow.Author.Tests.{ltb-true, ltb-false, eqb-true, eq-eqb, ne-eqb}
 use Rattle.numbers.specs.Codes.{enterCode, exitCode, callCode, handBackCode, endCode, spawnCode, timeoutCode, tickCode, waitCode}
 use Rattle.laws.proofs.Choosing.{clash, both-left, both-right, pick-has}
-use Rattle.values.specs.declared.Value.{Value}
-use Rattle.values.specs.declared.Step.{Step}
+use Rattle.types.specs.Types.{Value, Step, Config, State}
 use Rattle.values.specs.Values.{numberV, okV, timeoutV, sameValue}
-use Rattle.config.specs.declared.Config.{Config}
 use Rattle.config.specs.Tables.{runnableConfIn}
 use Rattle.entries.specs.Faults.{isServer}
-use Rattle.state.specs.declared.State.{State}
 use Rattle.state.specs.Tables.{runnableIn}
 use Rattle.effects.specs.Steps.{entered, exited, called, closed, answers, clientOf, finished, answered, emptied, isDue, lowestEmpty, spawned, ticked, waited}
-use Rattle.keep.specs.Facts.{Sound, CanEnter, CanExit, CanCall, CanHandBack, CanEnd, CanSpawn, CanTimeout, CanTick, CanWait}
+use Rattle.stays_sound.specs.Facts.{Sound, CanEnter, CanExit, CanCall, CanHandBack, CanEnd, CanSpawn, CanTimeout, CanTick, CanWait}
 use Rattle.history.specs.History.{noRequest, byTimeout, byInstance, History, passed, begins, closes, takes, takesOldest, takenBy, observe, timeOf}
 use Rattle.history.proofs.Tied.{Alike, Tied, tied-alike}
 use Rattle.history.proofs.Passes.{Unmoved}

@@ -10,10 +10,7 @@ use mathlib.Core.Path.{_≡_, refl, sym, _∙_, ap}
 use native.Mathlib.Omega.{arith}
 use borrow.Author.Tests.{eqb-true}
 use Rattle.laws.proofs.Choosing.{both-left, both-right}
-use Rattle.values.specs.declared.Step.{Step}
-use Rattle.config.specs.declared.Config.{Config}
-use Rattle.state.specs.declared.Client.{Client}
-use Rattle.state.specs.declared.State.{State}
+use Rattle.types.specs.Types.{Step, Config, Client, State}
 use Rattle.state.specs.Tables.{operationIn}
 use Rattle.effects.specs.Steps.{answers, serves, clientOf}
 use Rattle.history.specs.History.{Ending, History, nothing, historyOf, takenBy, latestOn, observe}

@@ -16,12 +16,10 @@ use borrow.Author.Tests.{eq-eqb, ne-eqb, eqb-true}
 use Rattle.numbers.specs.Codes.{callCode, spawnCode}
 use Rattle.laws.specs.Choice.{pick, both, bit}
 use Rattle.laws.proofs.Choosing.{clash, both-left, both-right, pick-has}
-use Rattle.values.specs.declared.Step.{Step}
+use Rattle.types.specs.Types.{Step, Config, State}
 use Rattle.values.specs.Values.{okV, sameValue}
-use Rattle.config.specs.declared.Config.{Config}
 use Rattle.config.specs.Tables.{operationConfIn}
 use Rattle.entries.specs.Faults.{isServer}
-use Rattle.state.specs.declared.State.{State}
 use Rattle.history.specs.History.{Request, noRequest, History, nothing, passed, begins, takes, takesOldest, queuedAt, observe, allQueued, allSpawns}
 use Rattle.history.proofs.Beside.{all-alike}
 use Rattle.history.proofs.Tied.{Tied}

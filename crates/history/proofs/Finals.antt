@@ -18,17 +18,14 @@ use Rattle.laws.specs.Choice.{pick, both, bit}
 use Rattle.laws.specs.Loop.{sumBelow}
 use Rattle.laws.proofs.Choosing.{both-left, both-right, all-told}
 use Rattle.laws.proofs.Looping.{all-at, sum-term, sum-two, sum-find, count-most}
-use Rattle.values.specs.declared.Value.{Value}
-use Rattle.values.specs.declared.Step.{Step}
+use Rattle.types.specs.Types.{Value, Step, Config, State}
 use Rattle.values.specs.Values.{numberV, isVoid}
-use Rattle.config.specs.declared.Config.{Config}
 use Rattle.config.specs.Tables.{requiredConfIn}
 use Rattle.entries.specs.Faults.{isServer}
-use Rattle.state.specs.declared.State.{State}
 use Rattle.state.specs.Tables.{areaIn, elementIn, operationIn, slotIn}
 use Rattle.rules.specs.Sound.{isStored, valuesSound, elementSound, elementsSound, timesIn, holders, isNoSlot, slotSound, slotsSound}
 use Rattle.effects.specs.Steps.{isOpen, lowestEmpty}
-use Rattle.keep.specs.Facts.{Sound, CanSpawn}
+use Rattle.stays_sound.specs.Facts.{Sound, CanSpawn}
 use Rattle.history.specs.History.{noRequest, How, byTimeout, byInstance, Ending, History, takenBy, queuedAt, observe, endsOf, lastOn}
 use Rattle.history.proofs.Tied.{given, delivered, AllProper, Tied, Proper}
 use Rattle.history.proofs.Deeds.{server-adds}

@@ -15,23 +15,17 @@ use lib.Seq.{getD-set-same, getD-set-other}
 use borrow.Author.Tests.{eq-eqb, ne-eqb}
 use Rattle.numbers.specs.Codes.{enterCode, exitCode}
 use Rattle.laws.specs.Choice.{pick, bit}
-use Rattle.values.specs.declared.Step.{Step}
-use Rattle.config.specs.declared.Config.{Config}
-use Rattle.state.specs.declared.State.{State}
-use Rattle.state.specs.declared.Slot.{Slot}
-use Rattle.state.specs.declared.Slots.{Slots}
-use Rattle.state.specs.declared.Area.{Area}
-use Rattle.state.specs.declared.Areas.{Areas}
+use Rattle.types.specs.Types.{Step, Config, State, Slot, Slots, Area, Areas}
 use Rattle.state.specs.Parts.{noArea, noSlot}
 use Rattle.state.specs.Start.{startOf}
 use Rattle.state.specs.Tables.{noAreas, areaIn, slotIn, withArea, withSlot, withAreas, withSlots}
 use Rattle.rules.specs.Sound.{timesIn}
 use Rattle.effects.specs.Steps.{entering, entered, exiting, exited, called, closed, finishing, spawned}
-use Rattle.keep.specs.Facts.{Sound, CanEnter, CanExit}
+use Rattle.stays_sound.specs.Facts.{Sound, CanEnter, CanExit}
 use Rattle.rules.proofs.Configured.{areas-most}
-use Rattle.keep.proofs.Told.{areas-length}
-use Rattle.keep.proofs.Kept.{slot-kept, slot-inside, here}
-use Rattle.keep.proofs.Areas.{enter-stack, exit-stack, call-stack, end-stack, spawn-stack}
+use Rattle.stays_sound.proofs.Told.{areas-length}
+use Rattle.stays_sound.proofs.Kept.{slot-kept, slot-inside, here}
+use Rattle.stays_sound.proofs.Areas.{enter-stack, exit-stack, call-stack, end-stack, spawn-stack}
 use Rattle.history.specs.History.{holderAfter, holderFrom, holderOf}
 use Rattle.history.specs.Promises.{HeldBy}
 use Rattle.history.proofs.Beside.{all-alike}

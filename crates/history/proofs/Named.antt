@@ -9,10 +9,8 @@ use native.Mathlib.Omega.{arith}
 use lib.ListN.{length, length-append}
 use Rattle.numbers.specs.Codes.{callCode}
 use Rattle.laws.proofs.Places.{put-each}
-use Rattle.values.specs.declared.Step.{Step}
+use Rattle.types.specs.Types.{Step, Config, State}
 use Rattle.values.specs.Values.{okV}
-use Rattle.config.specs.declared.Config.{Config}
-use Rattle.state.specs.declared.State.{State}
 use Rattle.history.specs.History.{noRequest, How, byTimeout, History, nothing, passed, begins, closes, takes, takesOldest, takenBy, latestOn, observe, Started}
 use Rattle.history.proofs.Beside.{all-alike}
 use Rattle.history.proofs.Deeds.{Deed, pass, call, answer, late, end, server, plain, timeout, pass-adds, call-adds, answer-adds, late-adds, end-adds, server-adds, plain-adds, timeout-adds}

@@ -11,23 +11,17 @@ use native.Mathlib.Omega.{arith}
 use borrow.Author.Tests.{leb-true}
 use Rattle.laws.proofs.Looping.{all-at}
 use Rattle.laws.proofs.Places.{each-at}
-use Rattle.values.specs.declared.Value.{Value}
-use Rattle.config.specs.declared.Config.{Config}
+use Rattle.types.specs.Types.{Value, Config, Elements, Operation, Operations, Slot, State}
 use Rattle.config.specs.Tables.{timerConfIn}
-use Rattle.state.specs.declared.Elements.{Elements}
-use Rattle.state.specs.declared.Operation.{Operation}
-use Rattle.state.specs.declared.Operations.{Operations}
-use Rattle.state.specs.declared.Slot.{Slot}
-use Rattle.state.specs.declared.State.{State}
 use Rattle.state.specs.Parts.{noOperation}
 use Rattle.state.specs.Tables.{runnableIn, areaIn, operationIn, slotIn, withSlot, withAreas, withElements, withSlots}
 use Rattle.rules.specs.Sound.{timesIn, operationSound, operationsSound}
 use Rattle.effects.specs.Steps.{stored, entered, exited, fed, isOpen, runningOn, collected, woken, ticked, operationLets, operationsLet, operationAfter, operationsAfter, waited}
-use Rattle.keep.specs.Facts.{Sound, CanWait}
-use Rattle.keep.proofs.Told.{operations-length}
-use Rattle.keep.proofs.Kept.{runnable-kept, slot-kept, fed-kept, after-kept, waited-kept}
-use Rattle.keep.proofs.Operations.{calls-told}
-use Rattle.keep.proofs.Clients.{calling-inside}
+use Rattle.stays_sound.specs.Facts.{Sound, CanWait}
+use Rattle.stays_sound.proofs.Told.{operations-length}
+use Rattle.stays_sound.proofs.Kept.{runnable-kept, slot-kept, fed-kept, after-kept, waited-kept}
+use Rattle.stays_sound.proofs.Operations.{calls-told}
+use Rattle.stays_sound.proofs.Clients.{calling-inside}
 use Rattle.history.proofs.Tied.{SameCalls, Alike}
 
 pub same-calls : (os : Operations) → SameCalls 0 os os

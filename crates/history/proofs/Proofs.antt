@@ -13,20 +13,18 @@ use lib.ListN.{length, getD, length-drop}
 use lib.Seq.{getD-drop}
 use borrow.Author.Tests.{lt-ltb, eq-eqb}
 use Rattle.laws.specs.Choice.{bit}
-use Rattle.values.specs.declared.Step.{Step}
-use Rattle.config.specs.declared.Config.{Config}
+use Rattle.types.specs.Types.{Step, Config, State}
 use Rattle.entries.specs.Faults.{isServer, configSound}
-use Rattle.state.specs.declared.State.{State}
 use Rattle.state.specs.Start.{startOf}
 use Rattle.state.specs.Tables.{operationIn, slotIn}
 use Rattle.effects.specs.Step.{stepOf}
-use Rattle.keep.specs.Facts.{Sound}
+use Rattle.stays_sound.specs.Facts.{Sound}
 use Rattle.rules.proofs.Configured.{runnables-most, areas-most, server-there}
-use Rattle.keep.proofs.Kept.{here}
-use Rattle.keep.proofs.Areas.{times-none, exit-stack}
-use Rattle.keep.proofs.Clients.{requests-told}
-use Rattle.keep.proofs.Ways.{Way}
-use Rattle.keep.proofs.Accepted.{way, enter-told, exit-told, result-told, answer-told, end-told, spawn-told, timeout-told, tick-told}
+use Rattle.stays_sound.proofs.Kept.{here}
+use Rattle.stays_sound.proofs.Areas.{times-none, exit-stack}
+use Rattle.stays_sound.proofs.Clients.{requests-told}
+use Rattle.stays_sound.proofs.Ways.{Way}
+use Rattle.stays_sound.proofs.Accepted.{way, enter-told, exit-told, result-told, answer-told, end-told, spawn-told, timeout-told, tick-told}
 use Rattle.history.specs.History.{noRequest, History, historyOf, takenBy, holderOf, allQueued, allSpawns}
 use Rattle.history.specs.Promises.{Run, OfRuns, OfSteps, StaysSound, AreasHeld, EntersFree, ExitsHeld, EndsEmpty, RequestsFit, ValuesFit, EndsOnce, EndsProperly, TimeoutAtZero, TimeoutInTime, BackInTime, TicksInTime, OpenInTime, CountIsRest, NumberIsFinal, DoneIsFinal, OpenIsUnended, LatestStarted, QueuesFollowed, ServedFollowed, FirstInFirstOut, SpawnTakesNext}
 use Rattle.history.proofs.Tied.{Tied}

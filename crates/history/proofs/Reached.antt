@@ -11,18 +11,16 @@ use native.Mathlib.Omega.{arith}
 use lib.Dec.{eqb}
 use Rattle.numbers.specs.Codes.{callCode, handBackCode, endCode, spawnCode, timeoutCode}
 use Rattle.laws.proofs.Choosing.{pick-has}
-use Rattle.values.specs.declared.Step.{Step}
+use Rattle.types.specs.Types.{Step, Config, State}
 use Rattle.values.specs.Values.{okV, sameValue}
-use Rattle.config.specs.declared.Config.{Config}
 use Rattle.entries.specs.Faults.{isServer, configSound}
-use Rattle.state.specs.declared.State.{State}
 use Rattle.rules.specs.Sound.{soundOf}
 use Rattle.effects.specs.Step.{stepOf}
-use Rattle.keep.specs.Facts.{Sound}
-use Rattle.keep.proofs.Told.{told}
-use Rattle.keep.proofs.Start.{start-sound}
-use Rattle.keep.proofs.Keeps.{kept-step}
-use Rattle.keep.proofs.Accepted.{accepted}
+use Rattle.stays_sound.specs.Facts.{Sound}
+use Rattle.stays_sound.proofs.Told.{told}
+use Rattle.stays_sound.proofs.Start.{start-sound}
+use Rattle.stays_sound.proofs.Keeps.{kept-step}
+use Rattle.stays_sound.proofs.Accepted.{accepted}
 use Rattle.history.specs.History.{History, nothing, observe, historyFrom, historyOf, endsOf, holderOf}
 use Rattle.history.specs.Promises.{Run}
 use Rattle.history.proofs.Tied.{Tied}

@@ -6,16 +6,11 @@
 use mathlib.Core.List.{List, [], _∷_, _++_, append-nil, append-assoc}
 use mathlib.Core.Path.{_≡_, refl, sym, ap, _∙_, subst}
 use native.Mathlib.Omega.{arith}
-use Rattle.values.specs.declared.Step.{Step}
-use Rattle.values.specs.declared.Value.{Value}
-use Rattle.values.specs.declared.Answer.{Answer}
-use Rattle.values.specs.declared.Answer.the-variants.{Taken, Refused}
-use Rattle.values.specs.Values.{refusalIn, valueIn}
-use Rattle.config.specs.declared.Config.{Config}
-use Rattle.state.specs.declared.State.{State}
+use Rattle.types.specs.Types.{Step, Value, Answer, Taken, Refused, Config, State}
+use Rattle.values.specs.Values.{answerRefusal, answerValue}
 use Rattle.state.specs.Start.{startOf}
 use Rattle.effects.specs.Step.{stepOf}
-use Rattle.keep.proofs.Refusals.{never-zero}
+use Rattle.stays_sound.proofs.Refusals.{never-zero}
 use Rattle.history.specs.History.{History, nothing, observe, historyFrom, historyOf}
 use Rattle.history.specs.Promises.{Answers, Accepted, Run}
 
@@ -25,11 +20,11 @@ pub taken-of : (cfg : Config) (st : State) (s : Step) (v : Value) → Answers (s
 taken-of cfg st s v h = go (stepOf cfg st s .answer) refl
   where
     go : (a : Answer) → stepOf cfg st s .answer ≡ a → stepOf cfg st s .answer ≡ Taken v
-    go (Taken w) e = e ∙ ap Taken (sym (ap valueIn e) ∙ h .1)
-    go (Refused n) e = absurd (omega (arith, never-zero cfg st s n e, sym (ap refusalIn e) ∙ h .0))
+    go (Taken w) e = e ∙ ap Taken (sym (ap answerValue e) ∙ h .1)
+    go (Refused n) e = absurd (omega (arith, never-zero cfg st s n e, sym (ap answerRefusal e) ∙ h .0))
 
 pub of-taken : (a : Answer) (v : Value) → a ≡ Taken v → Answers a v
-of-taken a v e = (ap refusalIn e, ap valueIn e)
+of-taken a v e = (ap answerRefusal e, ap answerValue e)
 
 -- ---- recordings of two parts
 

@@ -10,9 +10,8 @@ use Rattle.laws.specs.Choice.{bit}
 use Rattle.laws.proofs.Choosing.{clash}
 use Rattle.laws.proofs.Places.{each-has}
 use Rattle.values.specs.Values.{voidV}
-use Rattle.config.specs.declared.Config.{Config}
+use Rattle.types.specs.Types.{Config, Runnable}
 use Rattle.config.specs.Tables.{runnableConfIn}
-use Rattle.state.specs.declared.Runnable.{Runnable}
 use Rattle.state.specs.Parts.{noClient, noRequests, noRunnable, noOperation, noSlot}
 use Rattle.state.specs.Tables.{noRunnables, noOperations, noSlots, runnableIn, operationIn, slotIn}
 use Rattle.state.specs.Start.{startRunnable, startRunnables, startOf}

@@ -16,18 +16,12 @@ use borrow.Author.Tests.{ltb-true}
 use Rattle.laws.specs.Choice.{either}
 use Rattle.laws.proofs.Choosing.{clash}
 use Rattle.laws.proofs.Places.{inside-of}
-use Rattle.state.specs.declared.Client.{Client}
-use Rattle.state.specs.declared.Operation.{Operation}
-use Rattle.state.specs.declared.Operations.{Operations}
-use Rattle.state.specs.declared.Runnable.{Runnable}
-use Rattle.state.specs.declared.Runnables.{Runnables}
-use Rattle.state.specs.declared.Slot.{Slot}
-use Rattle.state.specs.declared.Slots.{Slots}
+use Rattle.types.specs.Types.{Client, Operation, Operations, Runnable, Runnables, Slot, Slots}
 use Rattle.state.specs.Parts.{noClient, noRequests, noRunnable, noSlot}
 use Rattle.state.specs.Queues.{upOne, pushRequest, firstRequest, restRequests}
 use Rattle.state.specs.Tables.{runnableIn, operationIn, slotIn, withRunnable, withOperation, withSlot}
 use Rattle.rules.specs.Sound.{numbered}
-use Rattle.keep.specs.Facts.{Clients}
+use Rattle.stays_sound.specs.Facts.{Clients}
 use Rattle.history.specs.History.{Request, noRequest}
 use Rattle.history.proofs.Beside.{set-each, set-both, Beside, beside-push, beside-pop}
 use Rattle.history.proofs.Tied.{Tag, Queues, Served, queues-map, served-map}

@@ -18,19 +18,15 @@ use Rattle.laws.specs.Choice.{pick, both}
 use Rattle.laws.proofs.Choosing.{pick-has}
 use Rattle.laws.proofs.Looping.{all-at}
 use Rattle.laws.proofs.Places.{each-at}
-use Rattle.values.specs.declared.Step.{Step}
-use Rattle.config.specs.declared.Config.{Config}
+use Rattle.types.specs.Types.{Step, Config, Timer, Timers, State}
 use Rattle.config.specs.Tables.{timerConfIn}
-use Rattle.state.specs.declared.Timer.{Timer}
-use Rattle.state.specs.declared.Timers.{Timers}
-use Rattle.state.specs.declared.State.{State}
 use Rattle.state.specs.Parts.{noTimer}
 use Rattle.state.specs.Start.{startOf}
 use Rattle.state.specs.Tables.{noTimers, timerIn, withTimer}
 use Rattle.effects.specs.Steps.{called, closed, spawned, timerLets, timersLet, timerAfter, timersAfter, waited}
-use Rattle.keep.specs.Facts.{Sound}
+use Rattle.stays_sound.specs.Facts.{Sound}
 use Rattle.rules.proofs.Configured.{timers-most}
-use Rattle.keep.proofs.Told.{timers-length}
+use Rattle.stays_sound.proofs.Told.{timers-length}
 use Rattle.history.specs.History.{timeOf, timeIn, timeSince, tickFrom, lastTick}
 use Rattle.history.proofs.Beside.{all-alike}
 use Rattle.history.proofs.Timed.{since-more, since-now, still}

@@ -13,13 +13,8 @@ use mathlib.Core.Path.{_≡_}
 use native.Mathlib.Omega.{arith}
 use lib.ListN.{length, getD}
 use Rattle.laws.specs.Choice.{bit}
-use Rattle.values.specs.declared.Value.{Value}
+use Rattle.types.specs.Types.{Value, Client, Operations, Runnables, Slots, State}
 use Rattle.values.specs.Values.{voidV, timeoutV}
-use Rattle.state.specs.declared.Client.{Client}
-use Rattle.state.specs.declared.Operations.{Operations}
-use Rattle.state.specs.declared.Runnables.{Runnables}
-use Rattle.state.specs.declared.Slots.{Slots}
-use Rattle.state.specs.declared.State.{State}
 use Rattle.state.specs.Parts.{noClient}
 use Rattle.state.specs.Tables.{runnableIn, operationIn, slotIn}
 use Rattle.history.specs.History.{Request, noRequest, How, byTimeout, byInstance, Ending, History, passed, endsOf, lastOn}

@@ -12,24 +12,17 @@ use lib.Dec.{eqb}
 use lib.ListN.{length, getD, set}
 use borrow.Author.Tests.{eqb-true}
 use Rattle.laws.proofs.Choosing.{clash, both-left, both-right}
-use Rattle.values.specs.declared.Value.{Value}
+use Rattle.types.specs.Types.{Value, Config, Client, Operation, Operations, Runnable, Slot, State}
 use Rattle.values.specs.Values.{timeoutV}
-use Rattle.config.specs.declared.Config.{Config}
 use Rattle.config.specs.Tables.{runnableConfIn, operationConfIn}
-use Rattle.state.specs.declared.Client.{Client}
-use Rattle.state.specs.declared.Operation.{Operation}
-use Rattle.state.specs.declared.Operations.{Operations}
-use Rattle.state.specs.declared.Runnable.{Runnable}
-use Rattle.state.specs.declared.Slot.{Slot}
-use Rattle.state.specs.declared.State.{State}
 use Rattle.state.specs.Parts.{noOwed, noSlot}
 use Rattle.state.specs.Tables.{runnableIn, operationIn, slotIn, withOperation, withSlot, withSlots}
 use Rattle.effects.specs.Steps.{isOpen, opening, asking, called, closing, closed, answers, finishing, clientOf, finished, answered, emptied, starting, fresh, instanceOf, spawned}
-use Rattle.keep.specs.Facts.{Sound, CanCall, CanHandBack, CanEnd, CanTimeout}
+use Rattle.stays_sound.specs.Facts.{Sound, CanCall, CanHandBack, CanEnd, CanTimeout}
 use Rattle.rules.proofs.Configured.{runnables-most, operations-most, capacity-most, operation-there}
-use Rattle.keep.proofs.Told.{runnables-length, operations-length, slots-length}
-use Rattle.keep.proofs.Kept.{runnable-kept, slot-kept, returned-kept, caller-kept, slot-inside}
-use Rattle.keep.proofs.Clients.{requests-told, calling-inside}
+use Rattle.stays_sound.proofs.Told.{runnables-length, operations-length, slots-length}
+use Rattle.stays_sound.proofs.Kept.{runnable-kept, slot-kept, returned-kept, caller-kept, slot-inside}
+use Rattle.stays_sound.proofs.Clients.{requests-told, calling-inside}
 use Rattle.history.specs.History.{Request, noRequest, How, byTimeout, byInstance, History, passed, begins, closes, takes, takesOldest, takenBy, latestOn, queuedAt}
 use Rattle.history.proofs.Tied.{given, Tag, Tied, queues-alike, served-alike, calls-alike, tied-alike, Proper}
 use Rattle.history.proofs.Calls.{calls-close, calls-start}

@@ -15,20 +15,16 @@ use borrow.Author.Tests.{ne-eqb}
 use Rattle.numbers.specs.Codes.{waitCode}
 use Rattle.laws.specs.Choice.{pick}
 use Rattle.laws.proofs.Choosing.{clash, both-left}
-use Rattle.values.specs.declared.Step.{Step}
-use Rattle.config.specs.declared.Config.{Config}
+use Rattle.types.specs.Types.{Step, Config, Operation, Operations, State}
 use Rattle.config.specs.Tables.{operationConfIn}
-use Rattle.state.specs.declared.Operation.{Operation}
-use Rattle.state.specs.declared.Operations.{Operations}
-use Rattle.state.specs.declared.State.{State}
 use Rattle.state.specs.Parts.{noOperation}
 use Rattle.state.specs.Start.{startOf}
 use Rattle.state.specs.Tables.{noOperations, operationIn, withOperation}
 use Rattle.effects.specs.Steps.{opening, called, closing, closed, answers, clientOf, spawned}
-use Rattle.keep.specs.Facts.{Sound}
+use Rattle.stays_sound.specs.Facts.{Sound}
 use Rattle.rules.proofs.Configured.{operations-most}
-use Rattle.keep.proofs.Told.{operations-length}
-use Rattle.keep.proofs.Clients.{calling-inside}
+use Rattle.stays_sound.proofs.Told.{operations-length}
+use Rattle.stays_sound.proofs.Clients.{calling-inside}
 use Rattle.history.specs.History.{History, nothing, latestOn, observe, timeOf, timeIn, timeSince}
 use Rattle.history.proofs.Beside.{all-alike}
 use Rattle.history.proofs.Tied.{SameCalls, Tied}

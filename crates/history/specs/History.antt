@@ -9,10 +9,8 @@ use lib.Dec.{eqb}
 use lib.ListN.{getD, set, drop, replicate}
 use Rattle.numbers.specs.Codes.{enterCode, exitCode, callCode, handBackCode, endCode, spawnCode, timeoutCode, tickCode, waitCode}
 use Rattle.laws.specs.Choice.{pick, both, bit}
-use Rattle.values.specs.declared.Value.{Value}
-use Rattle.values.specs.declared.Step.{Step}
+use Rattle.types.specs.Types.{Value, Step, Config}
 use Rattle.values.specs.Values.{voidV, numberV, okV, sameValue}
-use Rattle.config.specs.declared.Config.{Config}
 use Rattle.config.specs.Tables.{maxRunnableConfs, maxOperationConfs, operationConfIn}
 use Rattle.entries.specs.Faults.{isServer}
 use Rattle.state.specs.Tables.{maxSlots}

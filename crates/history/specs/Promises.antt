@@ -12,15 +12,10 @@ use lib.Dec.{eqb}
 use lib.ListN.{length, getD, drop}
 use Rattle.numbers.specs.Codes.{enterCode, exitCode, resultCode, handBackCode, endCode, spawnCode, timeoutCode, tickCode}
 use Rattle.laws.specs.Choice.{pick}
-use Rattle.values.specs.declared.Value.{Value}
-use Rattle.values.specs.declared.Step.{Step}
-use Rattle.values.specs.declared.Answer.{Answer}
-use Rattle.values.specs.Values.{numberV, refusalIn, valueIn}
-use Rattle.config.specs.declared.Config.{Config}
+use Rattle.types.specs.Types.{Value, Step, Answer, Config, Client, State}
+use Rattle.values.specs.Values.{numberV, answerRefusal, answerValue}
 use Rattle.config.specs.Tables.{maxRunnableConfs, maxAreaConfs, maxRequiredConfs, maxOperationConfs, runnableConfIn, requiredConfIn, operationConfIn, timerConfIn}
 use Rattle.entries.specs.Faults.{configSound}
-use Rattle.state.specs.declared.Client.{Client}
-use Rattle.state.specs.declared.State.{State}
 use Rattle.state.specs.Parts.{noClient}
 use Rattle.state.specs.Tables.{maxSlots, runnableIn, areaIn, elementIn, operationIn, slotIn}
 use Rattle.state.specs.Start.{startOf}
@@ -28,9 +23,9 @@ use Rattle.rules.specs.Sound.{timesIn, soundOf}
 use Rattle.effects.specs.Step.{stepOf}
 use Rattle.history.specs.History.{Request, noRequest, byInstance, Ending, historyOf, queuedAt, takenBy, latestOn, endsOf, lastOn, Started, EndedBy, timeSince, lastTick, InTime, holderOf, allQueued, allSpawns}
 
--- an answer says that the step was taken, with this value: by the number and the value that stand for it; no refusal has the number 0 (`never-zero` in crate keep) ("Numbers of refusal")
+-- an answer says that the step was taken, with this value: by the number and the value that stand for it; no refusal has the number 0 (`never-zero` in crate stays_sound) ("Numbers of refusal")
 abbrev pub Answers : Answer → Value → Type 0
-Answers a v = (refusalIn a ≡ 0) × (valueIn a ≡ v)
+Answers a v = (answerRefusal a ≡ 0) × (answerValue a ≡ v)
 
 -- every step of rs is accepted, from st to st′ ("Judging")
 unfoldable pub Accepted : Config → State → List Step → State → Type 0

@@ -1,8 +1,8 @@
 // The judge for many recordings: `judges HOW CONFIG RECORDING..` prints a line for each recording, in their order. Where HOW is `named`, each stands
 // behind its recording's name. A recording `-` is standard input. One that can't be read has no line: standard error says why.
 ghost use lib.ListN.{length};
-ghost use Rattle.desk.specs.Got.{Fits};
-use desk::Got;
+ghost use Rattle.program_io.specs.Got.{Fits};
+use program_io::Got;
 
 // The file that an argument names, read into buf.
 fn read_arg(i: usize, buf: &mut [u8]) -> Got
@@ -10,7 +10,7 @@ fn read_arg(i: usize, buf: &mut [u8]) -> Got
 {
     let mut name = io::buffer();
     let n = os::arg(i, &mut name);
-    let got = desk::read_named(&name[..n], buf);
+    let got = program_io::read_named(&name[..n], buf);
     let Got::Bytes(k) = got else {
         os::fail(&name[..n]);
         return Got::Failed;
@@ -23,10 +23,10 @@ fn print_arg(i: usize, named: bool, line: judging::Line) {
     if named {
         let mut name = io::buffer();
         let n = os::arg(i, &mut name);
-        desk::print_named(&name[..n], line);
+        program_io::print_named(&name[..n], line);
         return;
     }
-    desk::print(line);
+    program_io::print(line);
 }
 
 // The recording that argument i names, judged.

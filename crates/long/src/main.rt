@@ -9,11 +9,11 @@ ghost use Rattle.judging.specs.Line.{verdictLine};
 ghost use Rattle.parts.specs.Parts.{later, laterVerdict, sure, wholeOf};
 ghost use Rattle.long.specs.Near.{Near};
 use config::Config;
-use desk::Got;
 use judging::Judged;
 use judging::Line;
 use judging::Verdict;
 use libc::STDIN_FILENO;
+use program_io::Got;
 use reading::Outcome;
 use state::State;
 
@@ -112,7 +112,7 @@ fn judge_parts(cfg: Config, part: &mut [u8]) -> Came
     let mut held: usize = 0;
     let mut left: u32 = PARTS;
     while left > 0 {
-        let got = desk::read_whole(STDIN_FILENO, &mut part[held..]);
+        let got = program_io::read_whole(STDIN_FILENO, &mut part[held..]);
         let Got::Bytes(more) = got else {
             return Came::Nothing;
         };
@@ -160,7 +160,7 @@ fn run(config: &mut [u8], part: &mut [u8])
 {
     let mut name = io::buffer();
     let n = os::arg(1, &mut name);
-    let c = desk::read_named(&name[..n], config);
+    let c = program_io::read_named(&name[..n], config);
     let Got::Bytes(k) = c else {
         os::fail(&name[..n]);
         return;
@@ -170,7 +170,7 @@ fn run(config: &mut [u8], part: &mut [u8])
         os::fail(b"the recording");
         return;
     };
-    desk::print(line);
+    program_io::print(line);
 }
 
 fn main() {

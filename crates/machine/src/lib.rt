@@ -15,8 +15,12 @@ fn refusal(cfg: Config, slots: Slots, s: Step) -> u8
 {
     let code = s.code;
     match code {
-        numbers::CODE_READ_VARIABLE..=numbers::CODE_END => gate::instance_refusal(cfg, slots, s),
-        numbers::CODE_SPAWN..=numbers::CODE_WAIT => gate::scheduler_refusal(cfg, s),
+        numbers::CODE_READ_VARIABLE..=numbers::CODE_END => refusals::instance_refusal(
+            cfg,
+            slots,
+            s,
+        ),
+        numbers::CODE_SPAWN..=numbers::CODE_WAIT => refusals::scheduler_refusal(cfg, s),
         _ => numbers::MALFORMED,
     }
 }

@@ -1,7 +1,7 @@
 // The mender: reads rte.cfg, and from standard input a recording; prints the report and a last line, and leaves a mended text in the file mended.rec.
-use desk::Got;
 use libc::STDIN_FILENO;
 use mender::Told;
+use program_io::Got;
 
 // Writes the mended text, whole.
 fn keep(text: &[u8]) -> bool {
@@ -33,12 +33,12 @@ fn tell(config: &[u8], recording: &[u8]) {
 }
 
 fn run(config: &mut [u8], recording: &mut [u8]) {
-    let c = desk::read_file(b"rte.cfg", config);
+    let c = program_io::read_file(b"rte.cfg", config);
     let Got::Bytes(n) = c else {
         os::fail(b"rte.cfg");
         return;
     };
-    let r = desk::read_whole(STDIN_FILENO, recording);
+    let r = program_io::read_whole(STDIN_FILENO, recording);
     let Got::Bytes(m) = r else {
         os::fail(b"standard input");
         return;

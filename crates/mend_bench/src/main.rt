@@ -1,7 +1,7 @@
 // The benchmark of mending: takes rte.cfg and the recording from where the mender takes them, mends it as often as it is given words, its own name among them, and prints the last line.
-use desk::Got;
 use libc::STDIN_FILENO;
 use mender::Told;
+use program_io::Got;
 
 // The answer for two texts.
 fn once(config: &[u8], recording: &[u8]) -> Told {
@@ -21,12 +21,12 @@ fn repeat(config: &[u8], recording: &[u8], times: usize) -> Told {
 }
 
 fn run(config: &mut [u8], recording: &mut [u8], times: usize) {
-    let c = desk::read_file(b"rte.cfg", config);
+    let c = program_io::read_file(b"rte.cfg", config);
     let Got::Bytes(n) = c else {
         os::fail(b"rte.cfg");
         return;
     };
-    let r = desk::read_whole(STDIN_FILENO, recording);
+    let r = program_io::read_whole(STDIN_FILENO, recording);
     let Got::Bytes(m) = r else {
         os::fail(b"standard input");
         return;

@@ -1,15 +1,15 @@
 // The outside cases of mending, packed on standard input as the judge's are. Prints the report of each with its last line, and behind it, where there is one, a sum over the bytes of the mended text.
 ghost use lib.ListN.{length};
-ghost use Rattle.desk.specs.Got.{Fits};
-use desk::Got;
+ghost use Rattle.program_io.specs.Got.{Fits};
 use libc::STDIN_FILENO;
 use libc::STDOUT_FILENO;
 use mender::Told;
+use program_io::Got;
 
 // The length that stands next, or none at the end of the input.
 fn next_length() -> Got {
     let mut head = [0u8; 4];
-    let got = desk::read_whole(STDIN_FILENO, &mut head);
+    let got = program_io::read_whole(STDIN_FILENO, &mut head);
     let Got::Bytes(n) = got else {
         return Got::Failed;
     };
@@ -30,7 +30,7 @@ fn next_text(buf: &mut [u8]) -> Got
     if buf.len() < n {
         return Got::Failed;
     }
-    let got = desk::read_whole(STDIN_FILENO, &mut buf[..n]);
+    let got = program_io::read_whole(STDIN_FILENO, &mut buf[..n]);
     let Got::Bytes(k) = got else {
         return Got::Failed;
     };

@@ -10,15 +10,12 @@ use lib.Dec.{leb}
 use lib.ListN.{length, drop, length-append, length-map}
 use borrow.Author.Tests.{eq-eqb, ne-eqb, le-leb, leb-true, leb-false, ltb-false}
 use Rattle.laws.proofs.Choosing.{clash}
-use Rattle.values.specs.declared.Step.{Step}
-use Rattle.config.specs.declared.Config.{Config}
-use Rattle.state.specs.declared.State.{State}
-use Rattle.state.specs.declared.Stepped.{Stepped}
+use Rattle.types.specs.Types.{Step, Config, State, Stepped}
 use Rattle.rules.specs.Sound.{soundOf}
 use Rattle.effects.specs.Step.{stepOf}
 use Rattle.recording.specs.declared.Field.{Field}
 use Rattle.recording.specs.declared.Field.the-variants.{End, Refused as NoField}
-use Rattle.recording.specs.Recording.{pastIn}
+use Rattle.recording.specs.Recording.{fieldPast}
 use Rattle.recording.specs.Whole.{Whole as Texted, wholeOf, stepsIn, isEnd, isSound}
 use Rattle.recording.proofs.OneField.{refused-18}
 use Rattle.recording.proofs.Texts.{by-fields, whole-step, whole-end, whole-refused}
@@ -106,15 +103,15 @@ stop-unfilled cfg st rs x =
 
 -- ---- the field behind the steps
 
-pub last-is : (t : List ℕ) → ((isSound t ≡ true) × (wholeOf t .last ≡ End)) ⊎ ((isSound t ≡ false) × (wholeOf t .last ≡ NoField (pastIn (wholeOf t .last)) 18))
+pub last-is : (t : List ℕ) → ((isSound t ≡ true) × (wholeOf t .last ≡ End)) ⊎ ((isSound t ≡ false) × (wholeOf t .last ≡ NoField (fieldPast (wholeOf t .last)) 18))
 last-is =
-    by-fields (λ t. ((isSound t ≡ true) × (wholeOf t .last ≡ End)) ⊎ ((isSound t ≡ false) × (wholeOf t .last ≡ NoField (pastIn (wholeOf t .last)) 18)))
+    by-fields (λ t. ((isSound t ≡ true) × (wholeOf t .last ≡ End)) ⊎ ((isSound t ≡ false) × (wholeOf t .last ≡ NoField (fieldPast (wholeOf t .last)) 18)))
     (λ t s n e rest. let w : wholeOf t .last ≡ wholeOf (drop n t) .last = ap (λ (x : Texted). x .last) (whole-step t s n e) in
-    subst (λ (l : Field). ((isEnd l ≡ true) × (l ≡ End)) ⊎ ((isEnd l ≡ false) × (l ≡ NoField (pastIn l) 18))) (sym w) rest)
+    subst (λ (l : Field). ((isEnd l ≡ true) × (l ≡ End)) ⊎ ((isEnd l ≡ false) × (l ≡ NoField (fieldPast l) 18))) (sym w) rest)
     (λ t e. let w : wholeOf t .last ≡ End = ap (λ (x : Texted). x .last) (whole-end t e) in inl (ap isEnd w, w))
     (λ t r p e. let w : wholeOf t .last ≡ NoField p r = ap (λ (x : Texted). x .last) (whole-refused t r p e) in
     let k = refused-18 t r p e .0 in
-    inr (ap isEnd w, w ∙ ap (λ (n : ℕ). NoField p n) k ∙ ap (λ (n : ℕ). NoField n 18) (sym (ap pastIn w))))
+    inr (ap isEnd w, w ∙ ap (λ (n : ℕ). NoField p n) k ∙ ap (λ (n : ℕ). NoField n 18) (sym (ap fieldPast w))))
 
 -- ---- the answer by cases
 
@@ -148,7 +145,7 @@ module _ (cfg : Config) (st : State) (t b p : List ℕ) where
       (λ (x : (isSound t ≡ true) × (wholeOf t .last ≡ End)).
       mend-sound h _ (survey-whole e ∙ ap (λ (y : Field). onLast y (length (stepsIn t)) (Whole (length (mended cfg st t)) (noteCount (turnsIn cfg st t)))) (x .1))
       ∙ rw (le-leb (length (mended cfg st t) * 16 + 3) (length b) l, le-leb (noteCount (turnsIn cfg st t) * 16) (length p) m))
-      (λ (x : (isSound t ≡ false) × (wholeOf t .last ≡ NoField (pastIn (wholeOf t .last)) 18)). absurd (clash (isSound t) s (x .0)))
+      (λ (x : (isSound t ≡ false) × (wholeOf t .last ≡ NoField (fieldPast (wholeOf t .last)) 18)). absurd (clash (isSound t) s (x .0)))
       (last-is t)
 
   whole-fitted : (x y : Bool) → leb (length (mended cfg st t) * 16 + 3) (length b) ≡ x → leb (noteCount (turnsIn cfg st t) * 16) (length p) ≡ y
@@ -163,7 +160,7 @@ module _ (cfg : Config) (st : State) (t b p : List ℕ) where
       (λ (l : (isSound t ≡ true) × (wholeOf t .last ≡ End)).
       whole-fitted (leb (length (mended cfg st t) * 16 + 3) (length b)) (leb (noteCount (turnsIn cfg st t) * 16) (length p)) refl refl h e (l .0)
       (mend-sound h _ (survey-whole e ∙ ap (λ (x : Field). onLast x (length (stepsIn t)) (Whole (length (mended cfg st t)) (noteCount (turnsIn cfg st t)))) (l .1))))
-      (λ (l : (isSound t ≡ false) × (wholeOf t .last ≡ NoField (pastIn (wholeOf t .last)) 18)).
+      (λ (l : (isSound t ≡ false) × (wholeOf t .last ≡ NoField (fieldPast (wholeOf t .last)) 18)).
       unread h e (l .0) (mend-sound h _ (survey-whole e ∙ ap (λ (x : Field). onLast x (length (stepsIn t)) (Whole (length (mended cfg st t)) (noteCount (turnsIn cfg st t)))) (l .1))))
       (last-is t)
 

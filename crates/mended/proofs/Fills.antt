@@ -5,16 +5,11 @@ use mathlib.Core.List.{List, [], _∷_, _++_}
 use mathlib.Core.Path.{_≡_, refl, sym, ap, subst}
 use borrow.Author.Tests.{ltb-true}
 use Rattle.laws.proofs.Choosing.{clash, both-left, both-right, both-make}
-use Rattle.values.specs.declared.Value.{Value}
-use Rattle.values.specs.declared.Step.{Step}
-use Rattle.values.specs.declared.Answer.{Answer}
-use Rattle.values.specs.declared.Answer.the-variants.{Taken, Refused as Barred}
-use Rattle.config.specs.declared.Config.{Config}
-use Rattle.state.specs.declared.State.{State}
+use Rattle.types.specs.Types.{Value, Step, Answer, Taken, Refused as Barred, Config, State}
 use Rattle.effects.specs.Step.{stepOf}
 use Rattle.history.specs.Promises.{Answers, Accepted}
 use Rattle.history.proofs.Runs.{of-taken, taken-of, joined}
-use Rattle.promises.proofs.Counted.{taken-claims}
+use Rattle.claims.proofs.Counted.{taken-claims}
 use Rattle.gaps.specs.Gaps.{sequencesOf, isTaken, answered, fills, rankOf, canFill, fillOf, answeredAll, stateAfter, turnOf, turnSteps, turnsOf, mendedSteps}
 use Rattle.gaps.proofs.Ordered.{passed-is}
 use Rattle.gaps.proofs.Turns.{rank-taken}

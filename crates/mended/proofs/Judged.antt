@@ -9,14 +9,11 @@ use native.Mathlib.Omega.{arith}
 use lib.ListN.{length}
 use borrow.Author.Tests.{ltb-true}
 use Rattle.numbers.specs.Codes.{spawnCode, timeoutCode, tickCode}
-use Rattle.values.specs.declared.Step.{Step}
-use Rattle.config.specs.declared.Config.{Config}
-use Rattle.state.specs.declared.State.{State}
-use Rattle.state.specs.declared.Stepped.{Stepped}
+use Rattle.types.specs.Types.{Step, Config, State, Stepped}
 use Rattle.state.specs.Start.{startOf}
 use Rattle.rules.specs.Sound.{soundOf}
 use Rattle.effects.specs.Step.{stepOf}
-use Rattle.keep.proofs.Told.{told}
+use Rattle.stays_sound.proofs.Told.{told}
 use Rattle.wire.specs.Bytes.{endBytes}
 use Rattle.wire.proofs.Laws.{Bytes}
 use Rattle.recording.specs.Recording.{bytesOf, Recorded}

@@ -13,20 +13,15 @@ use lib.ListN.{length, getD, length-map}
 use borrow.Author.Tests.{ltb-true, eqb-true}
 use Rattle.numbers.specs.Codes.{spawnCode, timeoutCode, tickCode}
 use Rattle.laws.proofs.Choosing.{clash, both-left, both-right}
-use Rattle.values.specs.declared.Value.{Value}
-use Rattle.values.specs.declared.Step.{Step}
-use Rattle.values.specs.declared.Answer.the-variants.{Taken}
-use Rattle.values.specs.Values.{voidV, valueIn, isVoid}
-use Rattle.config.specs.declared.Config.{Config}
-use Rattle.state.specs.declared.State.{State}
-use Rattle.state.specs.declared.Stepped.{Stepped}
+use Rattle.types.specs.Types.{Value, Step, Taken, Config, State, Stepped}
+use Rattle.values.specs.Values.{voidV, answerValue, isVoid}
 use Rattle.entries.specs.Entries.{countOf}
 use Rattle.rules.specs.Rows.{scheduler, rows, rowOf}
 use Rattle.rules.specs.Refusals.{argues, formed, partThere}
 use Rattle.effects.specs.Step.{possibleOf, stepOf}
 use Rattle.effects.proofs.Codes.{possible-let}
-use Rattle.keep.proofs.Says.{LetRun, run-told}
-use Rattle.keep.proofs.Accepted.{accepted}
+use Rattle.stays_sound.proofs.Says.{LetRun, run-told}
+use Rattle.stays_sound.proofs.Accepted.{accepted}
 use Rattle.history.specs.Promises.{Accepted}
 use Rattle.history.proofs.Runs.{taken-of}
 use Rattle.gaps.specs.Gaps.{choice, sequencesOf, answered, fills, answeredAll, Turn, turnsOf, stateAfter}
@@ -100,7 +95,7 @@ module _ (cfg : Config) (st : State) (x : Step) (low : spawnCode ≤ x .code) (h
       let a = void-is (x .argument) (chosen-void (chosen (x .code) low high) (x .what) (x .argument) (let-through .form)) in
       let y : x ≡ record { code = x .code; who = 0; what = x .what; argument = voidV; claim = x .claim } = λ i. record { code = x .code; who = w i; what = x .what; argument = a i; claim = x .claim } in
       let p : possibleOf cfg st (choice (x .code) (x .what)) ≡ possibleOf cfg st x = sym (possible-claimed cfg st (choice (x .code) (x .what)) (x .claim)) ∙ ap (possibleOf cfg st) (sym y) in
-      let c : x .claim ≡ valueIn (possibleOf cfg st (choice (x .code) (x .what)) .answer) = sym (ap (λ (r : Stepped). valueIn (r .answer)) p ∙ ap valueIn possible) in
+      let c : x .claim ≡ answerValue (possibleOf cfg st (choice (x .code) (x .what)) .answer) = sym (ap (λ (r : Stepped). answerValue (r .answer)) p ∙ ap answerValue possible) in
       y ∙ ap (λ (v : Value). record { code = x .code; who = 0; what = x .what; argument = voidV; claim = v }) c
 
 -- ---- all of them

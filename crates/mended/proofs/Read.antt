@@ -5,11 +5,9 @@ use mathlib.Core.List.{List, [], _∷_, _++_, append-assoc, List·Memᴰ, List·
 use mathlib.Core.Path.{_≡_, refl, sym, ap, ap₂, subst, _∙_}
 use native.Mathlib.Omega.{arith}
 use lib.ListN.{length, drop, length-append}
-use Rattle.values.specs.declared.Step.{Step}
+use Rattle.types.specs.Types.{Step, Config, State}
 use Rattle.values.specs.Values.{voidV}
-use Rattle.config.specs.declared.Config.{Config}
-use Rattle.state.specs.declared.State.{State}
-use Rattle.keep.proofs.Told.{told}
+use Rattle.stays_sound.proofs.Told.{told}
 use Rattle.wire.specs.Bytes.{numberOf}
 use Rattle.wire.proofs.Laws.{Bytes, be32-bytes}
 use Rattle.recording.specs.Recording.{Recorded}

@@ -7,9 +7,7 @@ use mathlib.Core.Path.{_≡_, refl, sym, ap, subst, _∙_}
 use native.Mathlib.Omega.{arith}
 use lib.ListN.{length, drop}
 use Rattle.laws.specs.Choice.{pick}
-use Rattle.values.specs.declared.Step.{Step}
-use Rattle.config.specs.declared.Config.{Config}
-use Rattle.state.specs.declared.State.{State}
+use Rattle.types.specs.Types.{Step, Config, State}
 use Rattle.rules.specs.Sound.{soundOf}
 use Rattle.effects.specs.Step.{stepOf}
 use Rattle.wire.specs.Bytes.{putAt}
@@ -20,7 +18,7 @@ use Rattle.judging.specs.declared.Judged.{Judged}
 use Rattle.judging.specs.Judging.{judged, judgeFrom, judgeOf}
 use Rattle.judging.proofs.Laws.{accepted-refused}
 use Rattle.history.specs.Promises.{Accepted}
-use Rattle.promises.proofs.Counted.{accepted-whole}
+use Rattle.claims.proofs.Counted.{accepted-whole}
 use Rattle.gaps.specs.declared.Mended.{Mended}
 use Rattle.gaps.specs.declared.Mended.the-variants.{Whole, Refused}
 use Rattle.gaps.specs.Gaps.{Turn, turnSteps, turnsOf, stateAfter, mendedSteps}

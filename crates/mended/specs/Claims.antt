@@ -10,15 +10,13 @@ use lib.ListN.{length, getD, drop}
 use Rattle.numbers.specs.Refusals.{noFill, notSound, badField, noRoom}
 use Rattle.numbers.specs.Codes.{spawnCode, timeoutCode, tickCode}
 use Rattle.numbers.specs.Tags.{stepSize, endSize}
-use Rattle.values.specs.declared.Step.{Step}
-use Rattle.config.specs.declared.Config.{Config}
-use Rattle.state.specs.declared.State.{State}
+use Rattle.types.specs.Types.{Step, Config, State}
 use Rattle.state.specs.Start.{startOf}
 use Rattle.entries.specs.Faults.{configSound}
 use Rattle.rules.specs.Sound.{soundOf}
 use Rattle.effects.specs.Step.{stepOf}
 use Rattle.wire.proofs.Laws.{Bytes}
-use Rattle.recording.specs.Recording.{pastIn}
+use Rattle.recording.specs.Recording.{fieldPast}
 use Rattle.recording.specs.Whole.{wholeOf, stepsIn, isSound, textOf}
 use Rattle.judging.specs.declared.Verdict.the-variants.{Accepted as Verdict·Accepted}
 use Rattle.judging.specs.Judging.{judged, judgeOf}
@@ -121,7 +119,7 @@ AllMended cfg st t = map (λ (x : Turn). x .kept) (turnsIn cfg st t) ≡ stepsIn
 pub data Outcome (cfg : Config) (st : State) (t b p : List ℕ) (r : Mended) : Type 0 where
   unsound : soundOf cfg st ≡ false → r ≡ Refused 0 notSound → Outcome cfg st t b p r
   unfilled : (place : ℕ) → soundOf cfg st ≡ true → Unfilled cfg st (stepsIn t) place → r ≡ Refused place noFill → Outcome cfg st t b p r
-  unread : soundOf cfg st ≡ true → AllMended cfg st t → isSound t ≡ false → r ≡ Refused (length (stepsIn t) + 1 + pastIn (wholeOf t .last)) badField → Outcome cfg st t b p r
+  unread : soundOf cfg st ≡ true → AllMended cfg st t → isSound t ≡ false → r ≡ Refused (length (stepsIn t) + 1 + fieldPast (wholeOf t .last)) badField → Outcome cfg st t b p r
   short : soundOf cfg st ≡ true → AllMended cfg st t → isSound t ≡ true → ((length b < length (mended cfg st t) * stepSize + endSize) ⊎ (length p < noteCount (turnsIn cfg st t) * 16)) → r ≡ Refused 0 noRoom → Outcome cfg st t b p r
   whole : soundOf cfg st ≡ true → AllMended cfg st t → isSound t ≡ true → length (mended cfg st t) * 16 + 3 ≤ length b → noteCount (turnsIn cfg st t) * 16 ≤ length p
       → r ≡ Whole (length (mended cfg st t)) (noteCount (turnsIn cfg st t)) → Outcome cfg st t b p r

@@ -7,11 +7,8 @@ use mathlib.Core.Path.{_≡_}
 use lib.Dec.{eqb}
 use lib.ListN.{length, getD, drop}
 use Rattle.laws.specs.Choice.{pick, either}
-use Rattle.values.specs.declared.Step.{Step}
-use Rattle.values.specs.declared.Answer.the-variants.{Taken}
+use Rattle.types.specs.Types.{Step, Taken, Config, State}
 use Rattle.values.specs.Values.{voidV}
-use Rattle.config.specs.declared.Config.{Config}
-use Rattle.state.specs.declared.State.{State}
 use Rattle.effects.specs.Step.{stepOf}
 use Rattle.wire.specs.Bytes.{numberOf}
 use Rattle.wire.proofs.Laws.{Bytes}

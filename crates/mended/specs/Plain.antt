@@ -5,9 +5,7 @@ use mathlib.Core.List.{List, [], _∷_, _++_, List·Memᴰ}
 use mathlib.Core.Logic.{_⊎_}
 use mathlib.Core.Path.{_≡_}
 use lib.ListN.{length}
-use Rattle.values.specs.declared.Step.{Step}
-use Rattle.config.specs.declared.Config.{Config}
-use Rattle.state.specs.declared.State.{State}
+use Rattle.types.specs.Types.{Step, Config, State}
 use Rattle.effects.specs.Step.{stepOf}
 use Rattle.history.specs.Promises.{Accepted}
 use Rattle.gaps.specs.Gaps.{Turn, turnsOf, mendedSteps}

@@ -21,11 +21,11 @@ use Rattle.mender.specs.declared.Told.{Told}
 use Rattle.mender.specs.declared.Told.the-variants.{Mended as IsMended, Refused as IsRefused, Configuration, TooLong}
 
 -- the number of refusal that an answer stands for; 0 where it was mended or too long (W-209, refusals)
-abbrev pub refusalIn : Told → ℕ
-refusalIn (IsMended steps notes) = 0
-refusalIn (IsRefused place number) = number
-refusalIn (Configuration place number) = number
-refusalIn TooLong = 0
+abbrev pub toldRefusal : Told → ℕ
+toldRefusal (IsMended steps notes) = 0
+toldRefusal (IsRefused place number) = number
+toldRefusal (Configuration place number) = number
+toldRefusal TooLong = 0
 
 -- the answer of mending as the answer for two files (W-209)
 abbrev pub toldBy : Mended → Told

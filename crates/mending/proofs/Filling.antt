@@ -11,10 +11,7 @@ use borrow.Author.Tests.{ltb-true, ne-eqb}
 use Rattle.numbers.specs.Codes.{spawnCode, timeoutCode, tickCode}
 use Rattle.laws.specs.Choice.{pick}
 use Rattle.laws.proofs.Choosing.{pick-has}
-use Rattle.values.specs.declared.Step.{Step}
-use Rattle.config.specs.declared.Config.{Config}
-use Rattle.state.specs.declared.State.{State}
-use Rattle.state.specs.declared.Stepped.{Stepped}
+use Rattle.types.specs.Types.{Step, Config, State, Stepped}
 use Rattle.effects.specs.Step.{possibleOf, innerOf}
 use Rattle.wire.specs.Bytes.{putAt, Written}
 use Rattle.wire.specs.declared.Wrote.{Wrote}

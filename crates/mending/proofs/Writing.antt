@@ -9,12 +9,7 @@ use lib.Dec.{eqb}
 use lib.ListN.{length, drop, length-append}
 use borrow.Author.Tests.{ne-eqb}
 use Rattle.laws.specs.Choice.{pick}
-use Rattle.values.specs.declared.Value.{Value}
-use Rattle.values.specs.declared.Step.{Step}
-use Rattle.values.specs.declared.Answer.the-variants.{Taken, Refused as Barred}
-use Rattle.config.specs.declared.Config.{Config}
-use Rattle.state.specs.declared.State.{State}
-use Rattle.state.specs.declared.Stepped.{Stepped}
+use Rattle.types.specs.Types.{Value, Step, Taken, Refused as Barred, Config, State, Stepped}
 use Rattle.effects.specs.Step.{innerOf}
 use Rattle.wire.specs.Bytes.{endBytes, putAt, Written}
 use Rattle.wire.specs.declared.Wrote.{Wrote}

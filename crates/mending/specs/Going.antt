@@ -9,12 +9,8 @@ use lib.Dec.{ltb, eqb}
 use lib.ListN.{length}
 use Rattle.numbers.specs.Codes.{spawnCode, timeoutCode, tickCode}
 use Rattle.laws.specs.Choice.{pick}
-use Rattle.values.specs.declared.Value.{Value}
-use Rattle.values.specs.declared.Step.{Step}
-use Rattle.values.specs.declared.Answer.{Answer}
-use Rattle.values.specs.Values.{valueIn}
-use Rattle.config.specs.declared.Config.{Config}
-use Rattle.state.specs.declared.State.{State}
+use Rattle.types.specs.Types.{Value, Step, Answer, Config, State}
+use Rattle.values.specs.Values.{answerValue}
 use Rattle.effects.specs.Step.{possibleOf, innerOf}
 use Rattle.wire.specs.Bytes.{bytes32}
 use Rattle.recording.specs.Recording.{valuesGood, bytesOf}
@@ -93,7 +89,7 @@ claimedOf x v = record { code = x .code; who = x .who; what = x .what; argument 
 
 -- a step with an answer as its claim
 abbrev pub claimingOf : Step → Answer → Step
-claimingOf x a = claimedOf x (valueIn a)
+claimingOf x a = claimedOf x (answerValue a)
 
 -- the bytes of step fields, one behind the other
 unfoldable pub fieldsOf : List Step → List ℕ

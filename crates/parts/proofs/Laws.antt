@@ -8,14 +8,12 @@ use native.Mathlib.Omega.{arith}
 use lib.ListN.{length, drop, getD, length-append, List·getD-append}
 use lib.Seq.{drop-drop, drop-append-le}
 use borrow.Author.Tests.{le-ltb, ne-eqb}
-use Rattle.values.specs.declared.Step.{Step}
-use Rattle.state.specs.declared.State.{State}
-use Rattle.state.specs.declared.Stepped.{Stepped}
+use Rattle.types.specs.Types.{Step, State, Stepped}
 use Rattle.recording.specs.Recording.{fieldOf, stepIn, endIn}
 use Rattle.recording.proofs.OneField.{step-told, refused-18}
 use Rattle.recording.proofs.Texts.{step-shorter}
 use Rattle.judging.specs.declared.Verdict.the-variants.{Refused, Unfinished}
-use Rattle.judging.specs.Judging.{judged, judgeFrom, restOf, placeIn}
+use Rattle.judging.specs.Judging.{judged, judgeFrom, restOf, verdictPlace}
 use Rattle.judging.proofs.Laws.{ended, stopped, starved, barred, went, judged-each, unfinished-accepted, unfinished-refused}
 use Rattle.parts.specs.Parts.{later}
 
@@ -119,9 +117,9 @@ module _ (f : State → Step → Stepped) where
       })
 
   -- ---- no more steps are counted than allowed, and no place is more than two behind them
-  pub judged-within : (a : ℕ) (t : List ℕ) (n : ℕ) (st : State) → (judgeFrom f a t n st .count ≤ n + a) × (placeIn (judgeFrom f a t n st .verdict) ≤ n + a + 2)
+  pub judged-within : (a : ℕ) (t : List ℕ) (n : ℕ) (st : State) → (judgeFrom f a t n st .count ≤ n + a) × (verdictPlace (judgeFrom f a t n st .verdict) ≤ n + a + 2)
   judged-within =
-      judged-each f (λ a t n st j. (j .count ≤ n + a) × (placeIn (j .verdict) ≤ n + a + 2))
+      judged-each f (λ a t n st j. (j .count ≤ n + a) × (verdictPlace (j .verdict) ≤ n + a + 2))
       (record {
         starved = λ t n st s z e. omega arith;
         ended = λ a t n st e. omega arith;

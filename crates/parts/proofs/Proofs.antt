@@ -9,22 +9,21 @@ use lib.Dec.{ltb}
 use lib.ListN.{length, drop, length-append, length-drop}
 use lib.Seq.{drop-append-le}
 use Rattle.laws.specs.Choice.{pick, either}
-use Rattle.config.specs.declared.Config.{Config}
-use Rattle.state.specs.declared.State.{State}
+use Rattle.types.specs.Types.{Config, State}
 use Rattle.state.specs.Start.{startOf}
 use Rattle.rules.specs.Sound.{soundOf}
 use Rattle.effects.specs.Step.{stepOf}
 use Rattle.reading.specs.declared.Outcome.{Outcome}
 use Rattle.reading.specs.declared.Outcome.the-variants.{Whole, Refused as NotRead}
 use Rattle.reading.specs.Reading.{configOf}
-use Rattle.keep.proofs.Keeps.{kept-step}
+use Rattle.stays_sound.proofs.Keeps.{kept-step}
 use Rattle.judging.specs.declared.Verdict.{Verdict}
 use Rattle.judging.specs.declared.Verdict.the-variants.{Accepted, Refused, Unfinished}
 use Rattle.judging.specs.declared.Judged.{Judged}
 use Rattle.judging.specs.declared.Line.{Line}
 use Rattle.judging.specs.declared.Line.the-variants.{TooLong, Unfinished as UnfinishedLine}
 use Rattle.judging.specs.Line.{maxConfig, maxRecording, allowed, judgedLine, outcomeLine, readLine, lineOf}
-use Rattle.judging.specs.Judging.{judged, judgeFrom, judgeOf, restOf, placeIn}
+use Rattle.judging.specs.Judging.{judged, judgeFrom, judgeOf, restOf, verdictPlace}
 use Rattle.judging.proofs.Laws.{judged-stays, judged-goes-on, unfinished-accepted, unfinished-refused}
 use Rattle.parts.specs.Parts.{later, laterVerdict, wholeOf, sure, onUnfinished, inParts, joined, longLine, PartsAsOne, LongIsLine}
 use Rattle.parts.proofs.Laws.{judged-later, judged-finishes, judged-front, rest-drop, judged-keeps, judged-within}
@@ -135,11 +134,11 @@ parts-as-one cfg st n held (p ∷ ps) h l =
 -- ---- how far a part reaches
 
 -- no more steps are counted than allowed, and no place is more than two behind them
-pub judged-near : (cfg : Config) (st : State) (t : List ℕ) (a : ℕ) → (judgeOf cfg st t a .count ≤ a) × (placeIn (judgeOf cfg st t a .verdict) ≤ a + 2)
+pub judged-near : (cfg : Config) (st : State) (t : List ℕ) (a : ℕ) → (judgeOf cfg st t a .count ≤ a) × (verdictPlace (judgeOf cfg st t a .verdict) ≤ a + 2)
 unfolding judgeOf
 judged-near cfg st t a = go (soundOf cfg st) refl
   where
-    go : (b : Bool) → soundOf cfg st ≡ b → (pick b (judgeFrom (stepOf cfg) a t 0 st) (judged (Refused 0 1) 0 st) .count ≤ a) × (placeIn (pick b (judgeFrom (stepOf cfg) a t 0 st) (judged (Refused 0 1) 0 st) .verdict) ≤ a + 2)
+    go : (b : Bool) → soundOf cfg st ≡ b → (pick b (judgeFrom (stepOf cfg) a t 0 st) (judged (Refused 0 1) 0 st) .count ≤ a) × (verdictPlace (pick b (judgeFrom (stepOf cfg) a t 0 st) (judged (Refused 0 1) 0 st) .verdict) ≤ a + 2)
     go true e = let w = judged-within (stepOf cfg) a t 0 st in (omega (arith, w .0), omega (arith, w .1))
     go false e = (omega arith, omega arith)
 

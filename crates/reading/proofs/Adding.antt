@@ -18,7 +18,7 @@ use mathlib.Core.Bool.{true}
 use mathlib.Core.List.{List}
 use Rattle.laws.proofs.Choosing.{both-left, both-right}
 use Rattle.entries.specs.Faults.{inRange}
-use Rattle.reading.specs.Reading.{entryIn}
+use Rattle.reading.specs.Reading.{entryRead}
 
 -- what holds of each of the ten kinds holds of any tag between them
 pub each-kind : (P : ℕ → Type 0) → P 0x10 → P 0x11 → P 0x12 → P 0x13 → P 0x14 → P 0x15 → P 0x16 → P 0x17 → P 0x18 → P 0x19
@@ -102,10 +102,10 @@ mark-back zero h = refl
 mark-back (suc zero) h = refl
 mark-back (suc (suc s)) h = absurd (omega arith)
 
-pub back-read : (tag : ℕ) → 0x10 ≤ tag → tag ≤ 0x19 → (t : List ℕ) → inRange tag (entryIn tag t) ≡ true → backOf tag (entryIn tag t) ≡ entryIn tag t
-unfolding inRange backOf entryIn
+pub back-read : (tag : ℕ) → 0x10 ≤ tag → tag ≤ 0x19 → (t : List ℕ) → inRange tag (entryRead tag t) ≡ true → backOf tag (entryRead tag t) ≡ entryRead tag t
+unfolding inRange backOf entryRead
 back-read =
-    each-kind (λ tag. (t : List ℕ) → inRange tag (entryIn tag t) ≡ true → backOf tag (entryIn tag t) ≡ entryIn tag t)
+    each-kind (λ tag. (t : List ℕ) → inRange tag (entryRead tag t) ≡ true → backOf tag (entryRead tag t) ≡ entryRead tag t)
     (λ t h. rw (flags-back (getD t 4 0) (leb-true (getD t 4 0) 3 (both-left (leb (getD t 4 0) 3) _ (both-right (leb (getD t 3 0) 15) _ h)))))
     (λ t h. rw (mark-back (getD t 4 0) (leb-true (getD t 4 0) 1 (both-right (leb (getD t 3 0) 15) _ h))))
     (λ t h. refl)

@@ -14,7 +14,7 @@ use Rattle.config.specs.declared.Config.{Config}
 use Rattle.config.specs.Tables.{noConfig}
 use Rattle.entries.specs.Entries.{placed}
 use Rattle.wire.specs.Bytes.{lengthOf}
-use Rattle.reading.specs.Reading.{sizeOf, inOrder, headOf, entryIn, bodyFault, wholeOf, refusedAt, onHead, readFrom, configOf}
+use Rattle.reading.specs.Reading.{sizeOf, inOrder, headOf, entryRead, bodyFault, wholeOf, refusedAt, onHead, readFrom, configOf}
 use Rattle.reading.specs.declared.Reading.{Reading}
 use Rattle.reading.specs.declared.Head.{Head}
 use Rattle.reading.specs.declared.Head.the-variants.{Field, End, Bad}
@@ -76,7 +76,7 @@ ahead-starts s =
 
 module _ (s : List ℕ) (cfg : Config) (at last place : ℕ) (a : Ahead s cfg at last place) (t : List ℕ) (et : t ≡ drop at s) where
   next : ℕ → ℕ → Reading
-  next tag size = readFrom (length s + 2 - (place + 1)) (drop (3 + size) t) (placed cfg tag (entryIn tag t)) tag (place + 1)
+  next tag size = readFrom (length s + 2 - (place + 1)) (drop (3 + size) t) (placed cfg tag (entryRead tag t)) tag (place + 1)
 
   turn : (h : Head) → headOf t last ≡ h → configOf s ≡ onHead h t cfg place next
   unfolding readFrom next
@@ -102,7 +102,7 @@ module _ (s : List ℕ) (cfg : Config) (at last place : ℕ) (a : Ahead s cfg at
     pub turn-room : at + 3 + size ≤ length s
     turn-room = let f = field-frame t last e .room in let l = ap length et ∙ length-drop at s in omega arith
 
-    pub turn-on : bodyFault cfg tag t ≡ 0 → Ahead s (placed cfg tag (entryIn tag t)) (at + 3 + size) tag (place + 1)
+    pub turn-on : bodyFault cfg tag t ≡ 0 → Ahead s (placed cfg tag (entryRead tag t)) (at + 3 + size) tag (place + 1)
     unfolding next
     turn-on z =
         let i = a .count in
@@ -113,6 +113,6 @@ module _ (s : List ℕ) (cfg : Config) (at last place : ℕ) (a : Ahead s cfg at
           count = omega arith;
           read =
               (rw (eq-eqb (bodyFault cfg tag t) 0 z) at (turn (Field tag size) e))
-              ∙ ap (λ (l : List ℕ). readFrom (length s + 2 - (place + 1)) l (placed cfg tag (entryIn tag t)) tag (place + 1))
+              ∙ ap (λ (l : List ℕ). readFrom (length s + 2 - (place + 1)) l (placed cfg tag (entryRead tag t)) tag (place + 1))
               (ap (drop (3 + size)) et ∙ drop-drop (3 + size) at s ∙ ap (λ (k : ℕ). drop k s) q);
         }

@@ -20,7 +20,7 @@ use Rattle.entries.specs.Faults.{entryFault, configSound}
 use Rattle.entries.proofs.Kind.{fault-told, Kind, config-told, config-made}
 use Rattle.entries.proofs.Tags.{kind-tag, blank-none, blank-sound}
 use Rattle.wire.specs.Bytes.{lengthOf}
-use Rattle.reading.specs.Reading.{refusalIn, sizeOf, entryIn, inOrder, headOf, bodyFault, wholeOf, refusedAt, onHead, readFrom, configOf}
+use Rattle.reading.specs.Reading.{outcomeRefusal, sizeOf, entryRead, inOrder, headOf, bodyFault, wholeOf, refusedAt, onHead, readFrom, configOf}
 use Rattle.reading.specs.declared.Outcome.the-variants.{Whole}
 use Rattle.reading.specs.declared.Reading.{Reading}
 use Rattle.reading.specs.declared.Head.{Head}
@@ -107,19 +107,19 @@ order-up last tag h = go (ℕ-discrete last 0)
     go (no n) = leb-true last tag (both-left (leb last tag) (not (eqb tag 0x01)) (rw (ne-eqb last 0 n) at h))
 
 -- a part without fault
-sofar-part : (cfg : Config) (last tag : ℕ) (t : List ℕ) → Sofar cfg last → last ≤ tag → entryFault cfg tag (countOf cfg tag) (entryIn tag t) ≡ 0 → Sofar (placed cfg tag (entryIn tag t)) tag
+sofar-part : (cfg : Config) (last tag : ℕ) (t : List ℕ) → Sofar cfg last → last ≤ tag → entryFault cfg tag (countOf cfg tag) (entryRead tag t) ≡ 0 → Sofar (placed cfg tag (entryRead tag t)) tag
 sofar-part cfg last tag t f up h =
-    let r = fault-told cfg tag (countOf cfg tag) (entryIn tag t) h in
+    let r = fault-told cfg tag (countOf cfg tag) (entryRead tag t) h in
     let k = kind-tag tag (omega (arith, r .room)) in
-    let a = adds cfg (entryIn tag t) tag (k .0) (k .1) (r .room) (f .kinds tag (k .0) (k .1) .places) in
-    sofar-grows cfg (placed cfg tag (entryIn tag t)) last tag (entryIn tag t) f (rw (back-read tag (k .0) (k .1) t (r .range)) at a) up h (k .0) (k .1)
+    let a = adds cfg (entryRead tag t) tag (k .0) (k .1) (r .room) (f .kinds tag (k .0) (k .1) .places) in
+    sofar-grows cfg (placed cfg tag (entryRead tag t)) last tag (entryRead tag t) f (rw (back-read tag (k .0) (k .1) t (r .range)) at a) up h (k .0) (k .1)
 
 -- a field without fault, the edition or a part
-sofar-field : (cfg : Config) (last tag : ℕ) (t : List ℕ) → Sofar cfg last → last ≤ tag → bodyFault cfg tag t ≡ 0 → Sofar (placed cfg tag (entryIn tag t)) tag
+sofar-field : (cfg : Config) (last tag : ℕ) (t : List ℕ) → Sofar cfg last → last ≤ tag → bodyFault cfg tag t ≡ 0 → Sofar (placed cfg tag (entryRead tag t)) tag
 unfolding bodyFault placed
 sofar-field cfg last tag t f up h = go (ℕ-discrete tag 0x01)
   where
-    go : Dec (tag ≡ 0x01) → Sofar (placed cfg tag (entryIn tag t)) tag
+    go : Dec (tag ≡ 0x01) → Sofar (placed cfg tag (entryRead tag t)) tag
     go (yes q) = rw q (record { kinds = f .kinds; above = λ k l. f .above k (omega (arith, q, up, l)) })
     go (no n) = sofar-part cfg last tag t f up (rw (ne-eqb tag 0x01 n) at h)
 
@@ -129,7 +129,7 @@ sofar-field cfg last tag t f up h = go (ℕ-discrete tag 0x01)
 pub record Given (r : Reading) : Type 0 where
   pub sound : configSound (r .config) ≡ true
   pub blank : (r .outcome ≡ Whole → ⊥) → r .config ≡ noConfig
-  pub number : refusalIn (r .outcome) ≡ 0 → r .outcome ≡ Whole
+  pub number : outcomeRefusal (r .outcome) ≡ 0 → r .outcome ≡ Whole
 
 given-refused : (number place : ℕ) → (number ≡ 0 → ⊥) → Given (refusedAt place number)
 unfolding refusedAt
@@ -157,12 +157,12 @@ bad-number t last number =
 given-from : (fuel : ℕ) (t : List ℕ) (cfg : Config) (last place : ℕ) → Sofar cfg last → Given (readFrom fuel t cfg last place)
 unfolding readFrom
 given-from zero t cfg last place f = given-refused 21 place (λ z. omega (arith, z))
-given-from (suc fuel) t cfg last place f = go (λ tag size g. given-from fuel (drop (3 + size) t) (placed cfg tag (entryIn tag t)) tag (place + 1) g) (headOf t last) refl
+given-from (suc fuel) t cfg last place f = go (λ tag size g. given-from fuel (drop (3 + size) t) (placed cfg tag (entryRead tag t)) tag (place + 1) g) (headOf t last) refl
   where
     next : ℕ → ℕ → Reading
-    next tag size = readFrom fuel (drop (3 + size) t) (placed cfg tag (entryIn tag t)) tag (place + 1)
+    next tag size = readFrom fuel (drop (3 + size) t) (placed cfg tag (entryRead tag t)) tag (place + 1)
 
-    go : ((tag size : ℕ) → Sofar (placed cfg tag (entryIn tag t)) tag → Given (next tag size)) → (x : Head) → headOf t last ≡ x → Given (onHead x t cfg place next)
+    go : ((tag size : ℕ) → Sofar (placed cfg tag (entryRead tag t)) tag → Given (next tag size)) → (x : Head) → headOf t last ≡ x → Given (onHead x t cfg place next)
     go rest (Bad number) e = given-refused number place (bad-number t last number e)
     go rest End e =
         pick-has Given (eqb (length t) 3) (wholeOf cfg) (refusedAt (place + 1) 21)
@@ -187,5 +187,5 @@ pub read-blank : (s : List ℕ) → (configOf s .outcome ≡ Whole → ⊥) → 
 read-blank s = given s .blank
 
 -- a reading whose number is 0 is whole
-pub read-number : (s : List ℕ) → refusalIn (configOf s .outcome) ≡ 0 → configOf s .outcome ≡ Whole
+pub read-number : (s : List ℕ) → outcomeRefusal (configOf s .outcome) ≡ 0 → configOf s .outcome ≡ Whole
 read-number s = given s .number

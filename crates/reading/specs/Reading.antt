@@ -22,14 +22,14 @@ use Rattle.reading.specs.declared.Head.{Head}
 use Rattle.reading.specs.declared.Head.the-variants.{Field, End, Bad}
 
 -- the number of refusal that an outcome stands for; 0 for a whole configuration ("Numbers of refusal")
-abbrev pub refusalIn : Outcome → ℕ
-refusalIn Whole = 0
-refusalIn (Refused place number) = number
+abbrev pub outcomeRefusal : Outcome → ℕ
+outcomeRefusal Whole = 0
+outcomeRefusal (Refused place number) = number
 
 -- the place of the field that was refused, from 1; 0 for a whole configuration ("Numbers of refusal")
-abbrev pub placeIn : Outcome → ℕ
-placeIn Whole = 0
-placeIn (Refused place number) = place
+abbrev pub outcomePlace : Outcome → ℕ
+outcomePlace Whole = 0
+outcomePlace (Refused place number) = place
 
 -- how long the body of a field is, by its tag; for an unknown tag more than two bytes can say, so that no length fits it ("The files", the table)
 unfoldable pub sizeOf : ℕ → ℕ
@@ -53,38 +53,38 @@ abbrev pub numberAt : List ℕ → ℕ → ℕ
 numberAt t i = numberOf (getD t i 0) (getD t (i + 1) 0) (getD t (i + 2) 0) (getD t (i + 3) 0)
 
 -- component, flags, start interval, request capacity ("The files", tag 10)
-abbrev pub runnableIn : List ℕ → Entry
-runnableIn t = record { first = getD t 3 0; second = getD t 4 0; third = getD t 9 0; number = numberAt t 5 }
+abbrev pub runnableRead : List ℕ → Entry
+runnableRead t = record { first = getD t 3 0; second = getD t 4 0; third = getD t 9 0; number = numberAt t 5 }
 
 -- component, mark of an initial, initial ("The files", tag 11)
-abbrev pub variableIn : List ℕ → Entry
-variableIn t = record { first = getD t 3 0; second = getD t 4 0; third = 0; number = numberAt t 5 }
+abbrev pub variableRead : List ℕ → Entry
+variableRead t = record { first = getD t 3 0; second = getD t 4 0; third = 0; number = numberAt t 5 }
 
 -- component ("The files", tag 12)
-abbrev pub areaIn : List ℕ → Entry
-areaIn t = record { first = getD t 3 0; second = 0; third = 0; number = 0 }
+abbrev pub areaRead : List ℕ → Entry
+areaRead t = record { first = getD t 3 0; second = 0; third = 0; number = 0 }
 
 -- component, kind, server, timeout ("The files", tag 16)
-abbrev pub operationIn : List ℕ → Entry
-operationIn t = record { first = getD t 3 0; second = getD t 4 0; third = getD t 5 0; number = numberAt t 6 }
+abbrev pub operationRead : List ℕ → Entry
+operationRead t = record { first = getD t 3 0; second = getD t 4 0; third = getD t 5 0; number = numberAt t 6 }
 
 -- runnable, period ("The files", tag 17)
-abbrev pub timerIn : List ℕ → Entry
-timerIn t = record { first = getD t 3 0; second = 0; third = 0; number = numberAt t 4 }
+abbrev pub timerRead : List ℕ → Entry
+timerRead t = record { first = getD t 3 0; second = 0; third = 0; number = numberAt t 4 }
 
 -- two bytes: elements, links and events ("The files", tags 13, 14, 15, 18, 19)
-abbrev pub pairIn : List ℕ → Entry
-pairIn t = record { first = getD t 3 0; second = getD t 4 0; third = 0; number = 0 }
+abbrev pub pairRead : List ℕ → Entry
+pairRead t = record { first = getD t 3 0; second = getD t 4 0; third = 0; number = 0 }
 
 -- the entry that the body of a field says, three bytes into the text ("The files", the table)
-unfoldable pub entryIn : ℕ → List ℕ → Entry
-entryIn tag t =
-    pick (eqb tag runnableTag) (runnableIn t)
-    (pick (eqb tag variableTag) (variableIn t)
-    (pick (eqb tag areaTag) (areaIn t)
-    (pick (eqb tag operationTag) (operationIn t)
-    (pick (eqb tag timerTag) (timerIn t)
-    (pairIn t)))))
+unfoldable pub entryRead : ℕ → List ℕ → Entry
+entryRead tag t =
+    pick (eqb tag runnableTag) (runnableRead t)
+    (pick (eqb tag variableTag) (variableRead t)
+    (pick (eqb tag areaTag) (areaRead t)
+    (pick (eqb tag operationTag) (operationRead t)
+    (pick (eqb tag timerTag) (timerRead t)
+    (pairRead t)))))
 
 -- the edition stands first and nowhere else, and no tag is lower than the one before it; 0 stands for no field before ("Numbers of refusal", 22)
 unfoldable pub inOrder : ℕ → ℕ → Bool
@@ -110,7 +110,7 @@ headOf t last =
 -- the first fault of a field's body: an edition other than 1, or a fault of the part's entry; 0 for none ("Numbers of refusal", 23 to 26)
 unfoldable pub bodyFault : Config → ℕ → List ℕ → ℕ
 bodyFault cfg tag t =
-    pick (eqb tag editionTag) (pick (eqb (getD t 3 0) 1) 0 outOfRange) (entryFault cfg tag (countOf cfg tag) (entryIn tag t))
+    pick (eqb tag editionTag) (pick (eqb (getD t 3 0) 1) 0 outOfRange) (entryFault cfg tag (countOf cfg tag) (entryRead tag t))
 
 -- a whole configuration ("Numbers of refusal", reading a configuration)
 abbrev pub wholeOf : Config → Reading
@@ -130,7 +130,7 @@ onHead (Field tag size) t cfg place next = pick (eqb (bodyFault cfg tag t) 0) (n
 unfoldable pub readFrom : ℕ → List ℕ → Config → ℕ → ℕ → Reading
 readFrom zero t cfg last place = refusedAt place badFrame
 readFrom (suc k) t cfg last place =
-    onHead (headOf t last) t cfg place (λ (tag size : ℕ). readFrom k (drop (3 + size) t) (placed cfg tag (entryIn tag t)) tag (place + 1))
+    onHead (headOf t last) t cfg place (λ (tag size : ℕ). readFrom k (drop (3 + size) t) (placed cfg tag (entryRead tag t)) tag (place + 1))
 
 -- the reading of a whole text; a field takes three bytes or more, so there are never more fields than bytes ("Numbers of refusal", reading a configuration)
 unfoldable pub configOf : List ℕ → Reading

@@ -1,7 +1,7 @@
 // Reading a configuration's file: any bytes, to a whole configuration or the first refusal and its place.
 ghost use mathlib.Core.Path.{_≡_};
 ghost use lib.ListN.{getD};
-ghost use Rattle.reading.specs.Reading.{sizeOf, numberAt, runnableIn, variableIn, areaIn, operationIn, timerIn, pairIn, entryIn, inOrder, headWith, headOf, bodyFault, refusedAt, configOf};
+ghost use Rattle.reading.specs.Reading.{sizeOf, numberAt, runnableRead, variableRead, areaRead, operationRead, timerRead, pairRead, entryRead, inOrder, headWith, headOf, bodyFault, refusedAt, configOf};
 use config::Config;
 use entries::Entry;
 
@@ -69,8 +69,8 @@ fn size_of(tag: u8) -> usize
 }
 
 // The bodies of the kinds, as entries.
-fn runnable_in(t: &[u8]) -> Entry
-    ensures { λ r. ⌜ r ≡ runnableIn (now (t .entry)) ⌝ }
+fn runnable_read(t: &[u8]) -> Entry
+    ensures { λ r. ⌜ r ≡ runnableRead (now (t .entry)) ⌝ }
 {
     Entry {
         first: byte_at(t, 3),
@@ -80,8 +80,8 @@ fn runnable_in(t: &[u8]) -> Entry
     }
 }
 
-fn variable_in(t: &[u8]) -> Entry
-    ensures { λ r. ⌜ r ≡ variableIn (now (t .entry)) ⌝ }
+fn variable_read(t: &[u8]) -> Entry
+    ensures { λ r. ⌜ r ≡ variableRead (now (t .entry)) ⌝ }
 {
     Entry {
         first: byte_at(t, 3),
@@ -91,8 +91,8 @@ fn variable_in(t: &[u8]) -> Entry
     }
 }
 
-fn area_in(t: &[u8]) -> Entry
-    ensures { λ r. ⌜ r ≡ areaIn (now (t .entry)) ⌝ }
+fn area_read(t: &[u8]) -> Entry
+    ensures { λ r. ⌜ r ≡ areaRead (now (t .entry)) ⌝ }
 {
     Entry {
         first: byte_at(t, 3),
@@ -102,8 +102,8 @@ fn area_in(t: &[u8]) -> Entry
     }
 }
 
-fn operation_in(t: &[u8]) -> Entry
-    ensures { λ r. ⌜ r ≡ operationIn (now (t .entry)) ⌝ }
+fn operation_read(t: &[u8]) -> Entry
+    ensures { λ r. ⌜ r ≡ operationRead (now (t .entry)) ⌝ }
 {
     Entry {
         first: byte_at(t, 3),
@@ -113,8 +113,8 @@ fn operation_in(t: &[u8]) -> Entry
     }
 }
 
-fn timer_in(t: &[u8]) -> Entry
-    ensures { λ r. ⌜ r ≡ timerIn (now (t .entry)) ⌝ }
+fn timer_read(t: &[u8]) -> Entry
+    ensures { λ r. ⌜ r ≡ timerRead (now (t .entry)) ⌝ }
 {
     Entry {
         first: byte_at(t, 3),
@@ -124,8 +124,8 @@ fn timer_in(t: &[u8]) -> Entry
     }
 }
 
-fn pair_in(t: &[u8]) -> Entry
-    ensures { λ r. ⌜ r ≡ pairIn (now (t .entry)) ⌝ }
+fn pair_read(t: &[u8]) -> Entry
+    ensures { λ r. ⌜ r ≡ pairRead (now (t .entry)) ⌝ }
 {
     Entry {
         first: byte_at(t, 3),
@@ -135,16 +135,16 @@ fn pair_in(t: &[u8]) -> Entry
     }
 }
 
-fn entry_in(tag: u8, t: &[u8]) -> Entry
-    ensures { λ r. ⌜ r ≡ entryIn tag (now (t .entry)) ⌝ }
+fn entry_read(tag: u8, t: &[u8]) -> Entry
+    ensures { λ r. ⌜ r ≡ entryRead tag (now (t .entry)) ⌝ }
 {
     match tag {
-        numbers::TAG_RUNNABLE => runnable_in(t),
-        numbers::TAG_VARIABLE => variable_in(t),
-        numbers::TAG_AREA => area_in(t),
-        numbers::TAG_OPERATION => operation_in(t),
-        numbers::TAG_TIMER => timer_in(t),
-        _ => pair_in(t),
+        numbers::TAG_RUNNABLE => runnable_read(t),
+        numbers::TAG_VARIABLE => variable_read(t),
+        numbers::TAG_AREA => area_read(t),
+        numbers::TAG_OPERATION => operation_read(t),
+        numbers::TAG_TIMER => timer_read(t),
+        _ => pair_read(t),
     }
 }
 
@@ -206,7 +206,7 @@ fn body_fault(cfg: Config, tag: u8, t: &[u8]) -> u8
         }
         return numbers::OUT_OF_RANGE;
     }
-    entries::entry_fault(cfg, tag, entries::count_of(cfg, tag), entry_in(tag, t))
+    entries::entry_fault(cfg, tag, entries::count_of(cfg, tag), entry_read(tag, t))
 }
 
 fn refused_at(place: usize, number: u8) -> Reading
@@ -246,7 +246,7 @@ pub fn read_config(s: &[u8]) -> Reading
                 if fault != 0 {
                     return refused_at(place, fault);
                 }
-                cfg = entries::placed(cfg, tag, entry_in(tag, t));
+                cfg = entries::placed(cfg, tag, entry_read(tag, t));
                 last = tag;
                 at = at + 3 + size;
                 place = place + 1;

@@ -7,28 +7,28 @@ use mathlib.Core.Path.{_≡_, refl, ap, _∙_}
 use lib.ListN.{length}
 use borrow.Author.Tests.{le-leb, lt-leb}
 use Rattle.values.specs.declared.Step.{Step}
-use Rattle.wire.specs.Bytes.{refusalIn as writtenAs, lengthIn, putAt}
-use Rattle.recording.specs.Recording.{refusalIn, valuesGood, fieldOf, bytesOf, stepTo, stepWritten}
+use Rattle.wire.specs.Bytes.{wroteRefusal, wroteLength, putAt}
+use Rattle.recording.specs.Recording.{fieldRefusal, valuesGood, fieldOf, bytesOf, stepTo, stepWritten}
 use Rattle.recording.specs.declared.Field.{Field}
 use Rattle.recording.specs.declared.Field.the-variants.{Step as IsStep, End, Refused}
 use Rattle.recording.proofs.OneField.{refused-18}
 
 -- a field that is refused at all is refused with 18
-pub field-number : (t : List ℕ) → (refusalIn (fieldOf t) ≡ 0 → ⊥) → refusalIn (fieldOf t) ≡ 18
+pub field-number : (t : List ℕ) → (fieldRefusal (fieldOf t) ≡ 0 → ⊥) → fieldRefusal (fieldOf t) ≡ 18
 field-number t n = go (fieldOf t) refl
   where
-    go : (f : Field) → fieldOf t ≡ f → refusalIn (fieldOf t) ≡ 18
-    go (IsStep s k) e = absurd (n (ap refusalIn e))
-    go End e = absurd (n (ap refusalIn e))
-    go (Refused p r) e = ap refusalIn e ∙ refused-18 t r p e .0
+    go : (f : Field) → fieldOf t ≡ f → fieldRefusal (fieldOf t) ≡ 18
+    go (IsStep s k) e = absurd (n (ap fieldRefusal e))
+    go End e = absurd (n (ap fieldRefusal e))
+    go (Refused p r) e = ap fieldRefusal e ∙ refused-18 t r p e .0
 
 module _ (b : List ℕ) (at : ℕ) (s : Step) where
-  pub bad-refused : valuesGood s ≡ false → (writtenAs (stepTo b at s) ≡ 18) × (stepWritten b at s ≡ b)
+  pub bad-refused : valuesGood s ≡ false → (wroteRefusal (stepTo b at s) ≡ 18) × (stepWritten b at s ≡ b)
   bad-refused g = (rw g, rw g)
 
-  pub step-short : valuesGood s ≡ true → length b < at + 16 → (writtenAs (stepTo b at s) ≡ 27) × (stepWritten b at s ≡ b)
+  pub step-short : valuesGood s ≡ true → length b < at + 16 → (wroteRefusal (stepTo b at s) ≡ 27) × (stepWritten b at s ≡ b)
   step-short g h = let t = lt-leb (at + 16) (length b) h in (rw (g, t), rw (g, t))
 
   pub step-written : valuesGood s ≡ true → at + 16 ≤ length b
-      → (writtenAs (stepTo b at s) ≡ 0) × (lengthIn (stepTo b at s) ≡ at + 16) × (stepWritten b at s ≡ putAt b at (bytesOf s))
+      → (wroteRefusal (stepTo b at s) ≡ 0) × (wroteLength (stepTo b at s) ≡ at + 16) × (stepWritten b at s ≡ putAt b at (bytesOf s))
   step-written g h = let t = le-leb (at + 16) (length b) h in (rw (g, t), rw (g, t), rw (g, t))

@@ -19,22 +19,22 @@ use Rattle.recording.specs.declared.Field.{Field}
 use Rattle.recording.specs.declared.Field.the-variants.{Step as IsStep, End, Refused}
 
 -- the number of refusal that a field's reading stands for; 0 for a step and for the end ("Numbers of refusal", 18)
-abbrev pub refusalIn : Field → ℕ
-refusalIn (IsStep s n) = 0
-refusalIn End = 0
-refusalIn (Refused p r) = r
+abbrev pub fieldRefusal : Field → ℕ
+fieldRefusal (IsStep s n) = 0
+fieldRefusal End = 0
+fieldRefusal (Refused p r) = r
 
 -- how many places behind its field a refusal stands: 1 for bytes behind the end ("Judging")
-abbrev pub pastIn : Field → ℕ
-pastIn (IsStep s n) = 0
-pastIn End = 0
-pastIn (Refused p r) = p
+abbrev pub fieldPast : Field → ℕ
+fieldPast (IsStep s n) = 0
+fieldPast End = 0
+fieldPast (Refused p r) = p
 
 -- which field it is: 0 a step, 1 the end, 2 a refusal ("The files", recording)
-abbrev pub formIn : Field → ℕ
-formIn (IsStep s n) = 0
-formIn End = 1
-formIn (Refused p r) = 2
+abbrev pub fieldForm : Field → ℕ
+fieldForm (IsStep s n) = 0
+fieldForm End = 1
+fieldForm (Refused p r) = 2
 
 -- a step's two values are good ("The files", last sentence)
 unfoldable pub valuesGood : Step → Bool

@@ -13,7 +13,7 @@ use Rattle.wire.specs.declared.Wrote.{Wrote}
 use Rattle.wire.specs.declared.Wrote.the-variants.{Refused as NotWritten}
 use Rattle.recording.specs.declared.Field.{Field}
 use Rattle.recording.specs.declared.Field.the-variants.{Step as IsStep, End, Refused}
-use Rattle.recording.specs.Recording.{formIn, fieldOf, bytesOf, Recorded}
+use Rattle.recording.specs.Recording.{fieldForm, fieldOf, bytesOf, Recorded}
 
 -- a text read to its first field that is no step: the steps before it, and that field ("The files", recording)
 pub record Whole : Type 0 where
@@ -41,7 +41,7 @@ stepsIn t = wholeOf t .steps
 
 -- a field is the end of a recording ("The files")
 abbrev pub isEnd : Field → Bool
-isEnd f = eqb (formIn f) 1
+isEnd f = eqb (fieldForm f) 1
 
 -- a text is a recording: its steps are followed by the end, and that by nothing ("The files", recording)
 abbrev pub isSound : List ℕ → Bool

@@ -8,13 +8,9 @@ use Rattle.numbers.specs.Refusals.{malformed, notThere, notOwn, barred}
 use Rattle.numbers.specs.Codes.{resultCode, endCode}
 use Rattle.laws.specs.Choice.{pick, both, either, alike, allOf}
 use Rattle.values.specs.Values.{isVoid, isNumber, isPayload}
-use Rattle.values.specs.declared.Value.{Value}
-use Rattle.values.specs.declared.Step.{Step}
-use Rattle.config.specs.declared.Config.{Config}
+use Rattle.types.specs.Types.{Value, Step, Config, Life, Slots}
 use Rattle.config.specs.Tables.{operationConfIn}
 use Rattle.entries.specs.Entries.{countOf, entryOf}
-use Rattle.state.specs.declared.Life.{Life}
-use Rattle.state.specs.declared.Slots.{Slots}
 use Rattle.state.specs.Tables.{slotIn}
 use Rattle.rules.specs.declared.Row.{Row}
 use Rattle.rules.specs.Sound.{componentOf}

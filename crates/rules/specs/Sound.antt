@@ -10,29 +10,9 @@ use Rattle.laws.specs.Choice.{pick, both, either, alike, bit, allOf}
 use Rattle.laws.specs.Loop.{allBelow, sumBelow, countBelow}
 use Rattle.laws.specs.Row.{filled}
 use Rattle.values.specs.Values.{voidV, timeoutV, neverReceivedV, invalidV, isVoid, isPayload}
-use Rattle.values.specs.declared.Value.{Value}
-use Rattle.config.specs.declared.Config.{Config}
+use Rattle.types.specs.Types.{Value, Config, Client, Requests, Runnable, Runnables, Variable, Variables, Areas, Element, Elements, Operation, Operations, Timer, Timers, Life, Owed, Stack, Slot, Slots, State}
 use Rattle.config.specs.Tables.{maxRunnableConfs, maxVariableConfs, maxAreaConfs, maxRequiredConfs, maxOperationConfs, maxTimerConfs, runnableConfIn, areaConfIn, requiredConfIn, operationConfIn, timerConfIn}
 use Rattle.entries.specs.Faults.{isServer, configSound}
-use Rattle.state.specs.declared.Client.{Client}
-use Rattle.state.specs.declared.Requests.{Requests}
-use Rattle.state.specs.declared.Runnable.{Runnable}
-use Rattle.state.specs.declared.Runnables.{Runnables}
-use Rattle.state.specs.declared.Variable.{Variable}
-use Rattle.state.specs.declared.Variables.{Variables}
-use Rattle.state.specs.declared.Areas.{Areas}
-use Rattle.state.specs.declared.Element.{Element}
-use Rattle.state.specs.declared.Elements.{Elements}
-use Rattle.state.specs.declared.Operation.{Operation}
-use Rattle.state.specs.declared.Operations.{Operations}
-use Rattle.state.specs.declared.Timer.{Timer}
-use Rattle.state.specs.declared.Timers.{Timers}
-use Rattle.state.specs.declared.Life.{Life}
-use Rattle.state.specs.declared.Owed.{Owed}
-use Rattle.state.specs.declared.Stack.{Stack}
-use Rattle.state.specs.declared.Slot.{Slot}
-use Rattle.state.specs.declared.Slots.{Slots}
-use Rattle.state.specs.declared.State.{State}
 use Rattle.state.specs.Parts.{lastNumber, noClient, maxRequests, maxValues}
 use Rattle.state.specs.Tables.{maxSlots, runnableIn, variableIn, areaIn, elementIn, operationIn, timerIn, slotIn}
 

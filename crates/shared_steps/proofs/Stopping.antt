@@ -15,10 +15,7 @@ use Rattle.laws.specs.Loop.{allBelow}
 use Rattle.laws.specs.Row.{eachBelow}
 use Rattle.laws.proofs.Choosing.{both-true}
 use Rattle.laws.proofs.Places.{inside, each-length, each-more}
-use Rattle.state.specs.declared.Runnable.{Runnable}
-use Rattle.state.specs.declared.Runnables.{Runnables}
-use Rattle.state.specs.declared.Element.{Element}
-use Rattle.state.specs.declared.Elements.{Elements}
+use Rattle.types.specs.Types.{Runnable, Runnables, Element, Elements}
 use Rattle.state.specs.Parts.{noRunnable, noElement}
 use Rattle.state.specs.Tables.{runnableIn, elementIn}
 

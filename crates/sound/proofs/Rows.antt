@@ -13,7 +13,7 @@ use Rattle.laws.specs.Loop.{allBelow}
 use Rattle.laws.specs.Row.{placeFilled, filled}
 use Rattle.laws.proofs.Choosing.{both-make, both-no, bit-most}
 use Rattle.laws.proofs.Looping.{all-fails}
-use Rattle.state.specs.declared.Owed.{Owed}
+use Rattle.types.specs.Types.{Owed}
 use Rattle.rules.specs.Sound.{isZero, servedAs, isClient}
 
 module _ {A : Type 0} (good blank : A → Bool) (d : A) (m n : ℕ) (l : List A) where

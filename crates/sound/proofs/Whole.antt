@@ -4,15 +4,8 @@ use mathlib.Core.Bool.{Bool, true, false}
 use mathlib.Core.List.{List, [], _∷_, _++_}
 use mathlib.Core.Path.{_≡_, refl, ap}
 use Rattle.laws.specs.Choice.{both, allOf}
-use Rattle.config.specs.declared.Config.{Config}
+use Rattle.types.specs.Types.{Config, Variables, Elements, Operations, Timers, Areas, Slots, State}
 use Rattle.entries.specs.Faults.{configSound}
-use Rattle.state.specs.declared.Variables.{Variables}
-use Rattle.state.specs.declared.Elements.{Elements}
-use Rattle.state.specs.declared.Operations.{Operations}
-use Rattle.state.specs.declared.Timers.{Timers}
-use Rattle.state.specs.declared.Areas.{Areas}
-use Rattle.state.specs.declared.Slots.{Slots}
-use Rattle.state.specs.declared.State.{State}
 use Rattle.rules.specs.Sound.{variablesSound, variableSound, elementsSound, elementSound, operationsSound, operationSound, callingSound, doneSound, timersSound, timerSound, areasSound, areaSound, shaped, soundOf}
 use Rattle.sound.specs.Only.{onlyVariables, onlyAreas, onlyRequired, onlyOperations, onlyTimers}
 use Rattle.sound.specs.Clauses.{partTests, tieTests}

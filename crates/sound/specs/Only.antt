@@ -1,11 +1,6 @@
 -- A configuration of which one table is given and the rest is blank: in it a function says what it answers that is handed only the table that its test reads.
 -- Assumes nothing.
-use Rattle.config.specs.declared.Config.{Config}
-use Rattle.config.specs.declared.VariableConfs.{VariableConfs}
-use Rattle.config.specs.declared.AreaConfs.{AreaConfs}
-use Rattle.config.specs.declared.RequiredConfs.{RequiredConfs}
-use Rattle.config.specs.declared.OperationConfs.{OperationConfs}
-use Rattle.config.specs.declared.TimerConfs.{TimerConfs}
+use Rattle.types.specs.Types.{Config, VariableConfs, AreaConfs, RequiredConfs, OperationConfs, TimerConfs}
 use Rattle.config.specs.Tables.{noRunnableConfs, noVariableConfs, noAreaConfs, noRequiredConfs, noProvidedConfs, noLinks, noOperationConfs, noTimerConfs, noDataEvents, noReturnEvents}
 
 -- a configuration with these variables and nothing else

@@ -9,8 +9,7 @@ use lib.ListN.{length}
 use borrow.Author.Tests.{ltb-true}
 use Rattle.laws.specs.Choice.{pick}
 use Rattle.laws.proofs.Places.{past}
-use Rattle.state.specs.declared.Runnables.{Runnables}
-use Rattle.state.specs.declared.Slots.{Slots}
+use Rattle.types.specs.Types.{Runnables, Slots}
 use Rattle.state.specs.Parts.{noRunnable}
 use Rattle.state.specs.Tables.{maxSlots, runnableIn}
 use Rattle.effects.specs.declared.Found.the-variants.{At, Nothing}

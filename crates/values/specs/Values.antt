@@ -61,11 +61,11 @@ unfoldable pub sameValue : Value → Value → Bool
 sameValue v w = both (eqb (v .kind) (w .kind)) (eqb (v .number) (w .number))
 
 -- the number of refusal that an answer stands for; 0 for a step that was taken ("Numbers of refusal")
-abbrev pub refusalIn : Answer → ℕ
-refusalIn (Taken v) = 0
-refusalIn (Refused n) = n
+abbrev pub answerRefusal : Answer → ℕ
+answerRefusal (Taken v) = 0
+answerRefusal (Refused n) = n
 
 -- the value that an answer gives; Void beside a refusal ("The eighteen steps")
-abbrev pub valueIn : Answer → Value
-valueIn (Taken v) = v
-valueIn (Refused n) = voidV
+abbrev pub answerValue : Answer → Value
+answerValue (Taken v) = v
+answerValue (Refused n) = voidV

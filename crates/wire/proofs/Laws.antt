@@ -11,7 +11,7 @@ use borrow.Author.Tests.{le-leb, lt-leb, leb-true, leb-false}
 use lib.Dec.{leb}
 use Rattle.laws.specs.Choice.{pick}
 use Rattle.laws.proofs.Choosing.{pick-on, pick-off}
-use Rattle.wire.specs.Bytes.{refusalIn, lengthIn, numberOf, putAt, Written, build}
+use Rattle.wire.specs.Bytes.{wroteRefusal, wroteLength, numberOf, putAt, Written, build}
 use Rattle.wire.specs.declared.Wrote.{Wrote}
 use Rattle.wire.specs.declared.Wrote.the-variants.{To, Refused}
 
@@ -121,10 +121,10 @@ module _ (b b′ xs : List ℕ) (at : ℕ) (r : Wrote) (w : Written b at xs r b�
 
 -- where the bytes fit they are written, and where they do not it is 27 and each byte stays
 pub fits-written : (b b′ xs : List ℕ) (at : ℕ) (r : Wrote) → Written b at xs r b′ → at + length xs ≤ length b
-    → (refusalIn r ≡ 0) × (lengthIn r ≡ at + length xs) × (b′ ≡ putAt b at xs)
+    → (wroteRefusal r ≡ 0) × (wroteLength r ≡ at + length xs) × (b′ ≡ putAt b at xs)
 fits-written b b′ xs at r w h = let t = le-leb (at + length xs) (length b) h in (rw (w .answer, t), rw (w .answer, t), rw (w .bytes, t))
 
-pub short-refused : (b b′ xs : List ℕ) (at : ℕ) (r : Wrote) → Written b at xs r b′ → length b < at + length xs → (refusalIn r ≡ 27) × (b′ ≡ b)
+pub short-refused : (b b′ xs : List ℕ) (at : ℕ) (r : Wrote) → Written b at xs r b′ → length b < at + length xs → (wroteRefusal r ≡ 27) × (b′ ≡ b)
 short-refused b b′ xs at r w h = let t = lt-leb (at + length xs) (length b) h in (rw (w .answer, t), rw (w .bytes, t))
 
 -- writing has one answer, and leaves one buffer

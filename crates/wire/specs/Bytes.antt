@@ -12,14 +12,14 @@ use Rattle.wire.specs.declared.Wrote.{Wrote}
 use Rattle.wire.specs.declared.Wrote.the-variants.{To, Refused}
 
 -- the number of refusal that an answer to writing stands for; 0 where the text was written ("Numbers of refusal", writing)
-abbrev pub refusalIn : Wrote → ℕ
-refusalIn (To n) = 0
-refusalIn (Refused r) = r
+abbrev pub wroteRefusal : Wrote → ℕ
+wroteRefusal (To n) = 0
+wroteRefusal (Refused r) = r
 
 -- how far the text reaches; 0 beside a refusal ("Numbers of refusal", writing)
-abbrev pub lengthIn : Wrote → ℕ
-lengthIn (To n) = n
-lengthIn (Refused r) = 0
+abbrev pub wroteLength : Wrote → ℕ
+wroteLength (To n) = n
+wroteLength (Refused r) = 0
 
 -- the number of two bytes ("The files")
 abbrev pub lengthOf : ℕ → ℕ → ℕ

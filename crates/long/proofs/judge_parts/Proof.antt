@@ -22,13 +22,19 @@ loop-holds : tie.Need-loop-holds Inv-loop μ-loop
 loop-holds c = (omega arith, omega arith, omega arith)
 
 sub-read-whole : tie.Need-sub-read-whole Inv-loop μ-loop
-sub-read-whole c = omega (arith, c .before .loop .inv .0, c .before .loop .inv .1, c .before .loop .inv .2, c .before .before .before .before .pre)
+sub-read-whole c =
+    let start = c .before .before .before .before in
+    omega (arith, c .before .loop .inv .0, c .before .loop .inv .1, c .before .loop .inv .2, start .pre)
 
 part-read-whole-start : tie.Need-part-read-whole-start Inv-loop μ-loop
-part-read-whole-start c = omega (arith, c .before .loop .inv .0, c .before .loop .inv .1, c .before .loop .inv .2, c .before .before .before .before .pre)
+part-read-whole-start c =
+    let start = c .before .before .before .before in
+    omega (arith, c .before .loop .inv .0, c .before .loop .inv .1, c .before .loop .inv .2, start .pre)
 
 part-read-whole-end : tie.Need-part-read-whole-end Inv-loop μ-loop
-part-read-whole-end c = omega (arith, c .before .loop .inv .0, c .before .loop .inv .1, c .before .loop .inv .2, c .before .before .before .before .pre)
+part-read-whole-end c =
+    let start = c .before .before .before .before in
+    omega (arith, c .before .loop .inv .0, c .before .loop .inv .1, c .before .loop .inv .2, start .pre)
 
 read-whole-requires : tie.Need-read-whole-requires Inv-loop μ-loop
 read-whole-requires c κs = tt
@@ -40,34 +46,56 @@ enum-told : tie.Need-enum-told Inv-loop μ-loop
 enum-told c = search needs
 
 same-length : tie.Need-same-length Inv-loop μ-loop
-same-length c = c .before .before .before .part .given .1 ∙ c .before .before .before .before .before .before .before .loop .inv .0
+same-length c =
+    let part = c .before .before .before .part in
+    let loop = c .before .before .before .before .before .before .before .loop in
+    part .given .1 ∙ loop .inv .0
 
 returns : tie.Need-returns Inv-loop μ-loop
 returns c = tt
 
 add-end : tie.Need-add-end Inv-loop μ-loop
-add-end c = let l = c .before .before .before .before .part .given .1 in let m = c .before .before .before .before .part .given .0 in let h = rw (c .before .got .given .1) at (c .before .before .before .before .before .read-whole .ensures) in omega (arith, h, l, m, c .before .before .before .before .before .before .before .before .loop .inv .0, c .before .before .before .before .before .before .before .before .loop .inv .1, c .before .before .before .before .before .before .before .before .loop .inv .2, c .before .before .before .before .before .before .before .before .before .before .before .pre)
+add-end c =
+    let part = c .before .before .before .before .part in
+    let read-whole = c .before .before .before .before .before .read-whole in
+    let loop = c .before .before .before .before .before .before .before .before .loop in
+    let start = c .before .before .before .before .before .before .before .before .before .before .before in
+    let l = part .given .1 in let m = part .given .0 in let h = rw (c .before .got .given .1) at (read-whole .ensures) in omega (arith, h, l, m, loop .inv .0, loop .inv .1, loop .inv .2, start .pre)
 
 slice-reshare-prefix-judge-last : tie.Need-slice-reshare-prefix-judge-last Inv-loop μ-loop
-slice-reshare-prefix-judge-last c = let l = c .before .before .before .before .before .part .given .1 in let m = c .before .before .before .before .before .part .given .0 in let h = rw (c .before .before .got .given .1) at (c .before .before .before .before .before .before .read-whole .ensures) in omega (arith, h, l, m, c .before .before .before .before .before .before .before .before .before .loop .inv .0, c .before .before .before .before .before .before .before .before .before .loop .inv .1, c .before .before .before .before .before .before .before .before .before .loop .inv .2, c .before .before .before .before .before .before .before .before .before .before .before .before .pre)
+slice-reshare-prefix-judge-last c =
+    let part = c .before .before .before .before .before .part in
+    let read-whole = c .before .before .before .before .before .before .read-whole in
+    let loop = c .before .before .before .before .before .before .before .before .before .loop in
+    let start = c .before .before .before .before .before .before .before .before .before .before .before .before in
+    let l = part .given .1 in let m = part .given .0 in let h = rw (c .before .before .got .given .1) at (read-whole .ensures) in omega (arith, h, l, m, loop .inv .0, loop .inv .1, loop .inv .2, start .pre)
 
 slice-aggregate-judge-last : tie.Need-slice-aggregate-judge-last Inv-loop μ-loop
 slice-aggregate-judge-last c = sym (length-take-le _ _ (slice-reshare-prefix-judge-last (c .before)))
 
 judge-last-requires : tie.Need-judge-last-requires Inv-loop μ-loop
-judge-last-requires c κs = (omega (arith, c .before .before .before .before .before .before .before .before .before .before .loop .inv .2), omega (arith, slice-aggregate-judge-last c, c .before .if1 .taken))
+judge-last-requires c κs =
+    let loop = c .before .before .before .before .before .before .before .before .before .before .loop in
+    (omega (arith, loop .inv .2), omega (arith, slice-aggregate-judge-last c, c .before .if1 .taken))
 
 verdict-line-requires : tie.Need-verdict-line-requires Inv-loop μ-loop
 verdict-line-requires c κs = tt
 
 same-length-2 : tie.Need-same-length-2 Inv-loop μ-loop
-same-length-2 c = c .before .before .before .before .before .before .before .before .part .given .1 ∙ c .before .before .before .before .before .before .before .before .before .before .before .before .loop .inv .0
+same-length-2 c =
+    let part = c .before .before .before .before .before .before .before .before .part in
+    let loop = c .before .before .before .before .before .before .before .before .before .before .before .before .loop in
+    part .given .1 ∙ loop .inv .0
 
 returns-2 : tie.Need-returns-2 Inv-loop μ-loop
 returns-2 c = tt
 
 judge-part-requires : tie.Need-judge-part-requires Inv-loop μ-loop
-judge-part-requires c κs = (omega (arith, c .before .before .before .before .before .before .before .before .before .before .loop .inv .2), c .before .before .before .before .before .before .part .given .1 ∙ c .before .before .before .before .before .before .before .before .before .before .loop .inv .0 ∙ c .before .before .before .before .before .before .before .before .before .before .before .before .before .pre)
+judge-part-requires c κs =
+    let loop = c .before .before .before .before .before .before .before .before .before .before .loop in
+    let part = c .before .before .before .before .before .before .part in
+    let start = c .before .before .before .before .before .before .before .before .before .before .before .before .before in
+    (omega (arith, loop .inv .2), part .given .1 ∙ loop .inv .0 ∙ start .pre)
 
 enum-told-2 : tie.Need-enum-told-2 Inv-loop μ-loop
 enum-told-2 c = search needs
@@ -76,10 +104,17 @@ cast-n : tie.Need-cast-n Inv-loop μ-loop
 cast-n c = omega arith
 
 add-n : tie.Need-add-n Inv-loop μ-loop
-add-n c = omega (arith, c .before .before .before .before .before .before .before .before .before .before .before .before .before .before .loop .inv .0, c .before .before .before .before .before .before .before .before .before .before .before .before .before .before .loop .inv .1, c .before .before .before .before .before .before .before .before .before .before .before .before .before .before .loop .inv .2, c .before .before .before .before .before .before .before .before .before .before .before .before .before .before .before .before .before .pre)
+add-n c =
+    let loop = c .before .before .before .before .before .before .before .before .before .before .before .before .before .before .loop in
+    let start = c .before .before .before .before .before .before .before .before .before .before .before .before .before .before .before .before .before in
+    omega (arith, loop .inv .0, loop .inv .1, loop .inv .2, start .pre)
 
 hold-requires : tie.Need-hold-requires Inv-loop μ-loop
-hold-requires c κs = c .before .before .before .before .before .before .before .before .before .before .before .part .given .1 ∙ c .before .before .before .before .before .before .before .before .before .before .before .before .before .before .before .loop .inv .0 ∙ c .before .before .before .before .before .before .before .before .before .before .before .before .before .before .before .before .before .before .pre
+hold-requires c κs =
+    let part = c .before .before .before .before .before .before .before .before .before .before .before .part in
+    let loop = c .before .before .before .before .before .before .before .before .before .before .before .before .before .before .before .loop in
+    let start = c .before .before .before .before .before .before .before .before .before .before .before .before .before .before .before .before .before .before in
+    part .given .1 ∙ loop .inv .0 ∙ start .pre
 
 sub-left : tie.Need-sub-left Inv-loop μ-loop
 sub-left c = omega arith
@@ -88,13 +123,20 @@ loop-less : tie.Need-loop-less Inv-loop μ-loop
 loop-less c = omega arith
 
 loop-again : tie.Need-loop-again Inv-loop μ-loop
-loop-again c = (c .before .part2 .given ∙ c .before .before .before .before .before .before .before .before .before .before .before .before .before .before .part .given .1 ∙ c .before .before .before .before .before .before .before .before .before .before .before .before .before .before .before .before .before .before .loop .inv .0, omega arith, omega (arith, c .before .before .before .before .before .before .before .before .before .before .before .before .before .before .before .before .before .before .loop .inv .2, c .before .before .before .before .before .before .before .before .before .before .before .before .before .before .before .before .before .loop-test .taken))
+loop-again c =
+    let part = c .before .before .before .before .before .before .before .before .before .before .before .before .before .before .part in
+    let loop = c .before .before .before .before .before .before .before .before .before .before .before .before .before .before .before .before .before .before .loop in
+    let loop-test = c .before .before .before .before .before .before .before .before .before .before .before .before .before .before .before .before .before .loop-test in
+    (c .before .part2 .given ∙ part .given .1 ∙ loop .inv .0, omega arith, omega (arith, loop .inv .2, loop-test .taken))
 
 verdict-line-requires-2 : tie.Need-verdict-line-requires-2 Inv-loop μ-loop
 verdict-line-requires-2 c κs = tt
 
 same-length-3 : tie.Need-same-length-3 Inv-loop μ-loop
-same-length-3 c = c .before .before .before .before .before .before .before .before .before .part .given .1 ∙ c .before .before .before .before .before .before .before .before .before .before .before .before .before .loop .inv .0
+same-length-3 c =
+    let part = c .before .before .before .before .before .before .before .before .before .part in
+    let loop = c .before .before .before .before .before .before .before .before .before .before .before .before .before .loop in
+    part .given .1 ∙ loop .inv .0
 
 returns-3 : tie.Need-returns-3 Inv-loop μ-loop
 returns-3 c = tt

@@ -7,16 +7,33 @@ use Rattle.mender.proofs.mend_files.Statement.{statement}
 use Rattle.mender.proofs.mend_files.Tie as tie
 
 returns : tie.Need-returns
-returns c = long-config (now (c .before .before .before .before .before .args .config)) (now (c .before .before .before .before .before .args .recording)) (now (c .before .before .before .before .before .args .out)) (now (c .before .before .before .before .before .args .report)) (c .if1 .taken)
+returns c =
+    let start = c .before .before .before .before .before in
+    long-config (now (start .args .config)) (now (start .args .recording)) (now (start .args .out)) (now (start .args .report)) (c .if1 .taken)
 
 returns-2 : tie.Need-returns-2
-returns-2 c = long-recording (now (c .before .before .before .before .before .before .args .config)) (now (c .before .before .before .before .before .before .args .recording)) (now (c .before .before .before .before .before .before .args .out)) (now (c .before .before .before .before .before .before .args .report)) (c .before .if1 .left) (c .if2 .taken)
+returns-2 c =
+    let start = c .before .before .before .before .before .before in
+    long-recording (now (start .args .config)) (now (start .args .recording)) (now (start .args .out)) (now (start .args .report)) (c .before .if1 .left) (c .if2 .taken)
 
 returns-3 : tie.Need-returns-3
-returns-3 c = unread (now (c .before .before .before .before .before .before .before .before .before .before .args .config)) (now (c .before .before .before .before .before .before .before .before .before .before .args .recording)) (now (c .before .before .before .before .before .before .before .before .before .before .args .out)) (now (c .before .before .before .before .before .before .before .before .before .before .args .report)) (c .before .before .before .before .before .if1 .left) (c .before .before .before .before .if2 .left) (c .before .before .before .read-config .ensures) _ _ (c .before .o .given .1)
+returns-3 c =
+    let start = c .before .before .before .before .before .before .before .before .before .before in
+    let if1 = c .before .before .before .before .before .if1 in
+    let if2 = c .before .before .before .before .if2 in
+    let read-config = c .before .before .before .read-config in
+    unread (now (start .args .config)) (now (start .args .recording)) (now (start .args .out)) (now (start .args .report)) (if1 .left) (if2 .left) (read-config .ensures) _ _ (c .before .o .given .1)
 
 returns-4 : tie.Need-returns-4
-returns-4 c = read (now (c .before .before .before .before .before .before .before .before .before .before .before .before .before .before .before .before .before .before .before .args .config)) (now (c .before .before .before .before .before .before .before .before .before .before .before .before .before .before .before .before .before .before .before .args .recording)) (now (c .before .before .before .before .before .before .before .before .before .before .before .before .before .before .before .before .before .before .before .args .out)) (now (c .before .before .before .before .before .before .before .before .before .before .before .before .before .before .before .before .before .before .before .args .report)) (c .before .before .before .before .before .before .before .before .before .before .before .before .before .before .if1 .left) (c .before .before .before .before .before .before .before .before .before .before .before .before .before .if2 .left) (c .before .before .before .before .before .before .before .before .before .before .before .before .read-config .ensures) (c .before .before .before .before .before .before .before .before .before .before .enum-told .given .1) (c .before .before .before .before .before .before .before .before .start .ensures) (c .before .before .before .before .before .mend .ensures .0) (c .told-by .ensures) (c .before .before .before .before .before .mend .ensures .1 .0) (c .before .before .before .before .before .mend .ensures .1 .1)
+returns-4 c =
+    let start = c .before .before .before .before .before .before .before .before .before .before .before .before .before .before .before .before .before .before .before in
+    let if1 = c .before .before .before .before .before .before .before .before .before .before .before .before .before .before .if1 in
+    let if2 = c .before .before .before .before .before .before .before .before .before .before .before .before .before .if2 in
+    let read-config = c .before .before .before .before .before .before .before .before .before .before .before .before .read-config in
+    let enum-told = c .before .before .before .before .before .before .before .before .before .before .enum-told in
+    let start-2 = c .before .before .before .before .before .before .before .before .start in
+    let mend = c .before .before .before .before .before .mend in
+    read (now (start .args .config)) (now (start .args .recording)) (now (start .args .out)) (now (start .args .report)) (if1 .left) (if2 .left) (read-config .ensures) (enum-told .given .1) (start-2 .ensures) (mend .ensures .0) (c .told-by .ensures) (mend .ensures .1 .0) (mend .ensures .1 .1)
 
 pub mend-files-spec : {M : Type 1} → statement M
 mend-files-spec =

@@ -15,7 +15,7 @@ returns-2 c = rw (eq-eqb _ _ (c .before .before .if1 .taken), ← c .before .byt
 
 returns-3 : tie.Need-returns-3
 unfolding bodyFault
-returns-3 c = rw (c .entry-fault .ensures, c .before .entry-in .ensures, c .before .before .count-of .ensures, ne-eqb _ _ (c .before .before .before .if1 .left))
+returns-3 c = rw (c .entry-fault .ensures, c .before .entry-read .ensures, c .before .before .count-of .ensures, ne-eqb _ _ (c .before .before .before .if1 .left))
 
 pub body-fault-spec : {M : Type 1} → statement M
 body-fault-spec =

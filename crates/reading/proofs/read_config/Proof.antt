@@ -72,7 +72,7 @@ loop-again : tie.Need-loop-again Inv-loop μ-loop
 loop-again c =
     let s = now (c .before .before .before .before .before .before .before .before .before .before .before .before .args .s) in
     let l = c .before .before .before .before .before .before .before .before .before .loop in
-    rw (c .placed .ensures, c .before .entry-in .ensures)
+    rw (c .placed .ensures, c .before .entry-read .ensures)
     (turn-on s (l .cfg) (l .at) (l .last) (l .place) (l .inv) _ (rest-is s (l .at)) (sym (c .before .before .before .before .before .before .before .head-of .ensures) ∙ c .before .before .before .before .before .tag .given .1) (sym (c .before .before .before .body-fault .ensures) ∙ c .before .before .if2 .left))
 
 pub read-config-spec : {M : Type 1} → statement M

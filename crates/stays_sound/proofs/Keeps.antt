@@ -1,0 +1,150 @@
+-- Every step keeps a sound state sound: clause by clause put together, then way by way, with the claim and with the test.
+-- Assumes nothing.
+use Prim.Native.Nat.{ℕ}
+use mathlib.Core.Bool.{true, false}
+use mathlib.Core.Path.{_≡_}
+use Rattle.numbers.specs.Refusals.{otherAnswer}
+use Rattle.laws.specs.Choice.{pick}
+use Rattle.laws.proofs.Choosing.{pick-has}
+use Rattle.values.specs.Values.{timeoutV, sameValue}
+use Rattle.types.specs.Types.{Value, Step, Answer, Taken, Refused, Config, State, Stepped}
+use Rattle.rules.specs.Sound.{soundOf}
+use Rattle.effects.specs.Steps.{refused, stored, entered, exited, looked, fed, invalidated, received, called, collected, closed, answers, clientOf, finished, answered, emptied, lowestEmpty, spawned, ticked, waited}
+use Rattle.effects.specs.Step.{possibleOf, onAnswer, claimedOf, innerOf, stepOf}
+use Rattle.stays_sound.specs.Facts.{Sound, CanWriteVariable, CanEnter, CanExit, CanRead, CanFeed, CanInvalidate, CanReceive, CanCall, CanCollect, CanHandBack, CanEnd, CanSpawn, CanTimeout, CanTick, CanWait}
+use Rattle.stays_sound.proofs.Told.{told, made}
+use Rattle.stays_sound.proofs.Shapes.{write-variable-keeps-shape, enter-keeps-shape, exit-keeps-shape, read-keeps-shape, feed-keeps-shape, invalidate-keeps-shape, receive-keeps-shape, call-keeps-shape, collect-keeps-shape, answer-keeps-shape, late-keeps-shape, end-keeps-shape, spawn-keeps-shape, timeout-keeps-shape, tick-keeps-shape, wait-keeps-shape}
+use Rattle.stays_sound.proofs.Runnables.{feed-keeps-runnables, call-keeps-runnables, answer-keeps-runnables, timeout-keeps-runnables, end-keeps-runnables, spawn-keeps-runnables, tick-keeps-runnables, wait-keeps-runnables}
+use Rattle.stays_sound.proofs.Tables.{write-variable-keeps-variables, tick-keeps-timers, wait-keeps-timers}
+use Rattle.stays_sound.proofs.Elements.{read-keeps-elements, feed-keeps-elements, invalidate-keeps-elements, receive-keeps-elements}
+use Rattle.stays_sound.proofs.Operations.{call-keeps-operations, answer-keeps-operations, timeout-keeps-operations, wait-keeps-operations}
+use Rattle.stays_sound.proofs.Slots.{enter-keeps-slots, exit-keeps-slots, call-keeps-slots, collect-keeps-slots, hand-back-keeps-slots, end-keeps-slots, spawn-keeps-slots}
+use Rattle.stays_sound.proofs.Counts.{enter-keeps-counts, exit-keeps-counts, feed-keeps-counts, call-keeps-counts, collect-keeps-counts, late-keeps-counts, answer-keeps-counts, end-keeps-counts, spawn-keeps-counts, timeout-keeps-counts, tick-keeps-counts, wait-keeps-counts}
+use Rattle.stays_sound.proofs.Areas.{enter-keeps-areas, exit-keeps-areas, call-keeps-areas, collect-keeps-areas, hand-back-keeps-areas, end-keeps-areas, spawn-keeps-areas}
+use Rattle.stays_sound.proofs.Clients.{enter-keeps-clients, exit-keeps-clients, feed-keeps-clients, call-keeps-clients, collect-keeps-clients, late-keeps-clients, answer-keeps-clients, timeout-keeps-clients, end-keeps-clients, spawn-keeps-clients, tick-keeps-clients, wait-keeps-clients}
+use Rattle.stays_sound.proofs.Ways.{Way, readVariable, writeVariable, enter, exit, read, write, updated, invalidate, receiveNone, receive, send, callOpen, call, pollOpen, poll, collect, answer, late, end, spawn, timeout, tick, wait, Went, bars, goes, went}
+
+-- ---- the state after each step that is taken
+
+module _ (cfg : Config) (st : State) (s : Sound cfg st) where
+  pub write-variable-keeps : (i v : ℕ) (x : Value) → CanWriteVariable cfg st i v x → Sound cfg (stored st v x)
+  write-variable-keeps i v x z = search (write-variable-keeps-shape, write-variable-keeps-variables)
+
+  pub enter-keeps : (i a : ℕ) → CanEnter cfg st i a → Sound cfg (entered st i a)
+  enter-keeps i a z = search (enter-keeps-shape, enter-keeps-slots, enter-keeps-counts, enter-keeps-areas, enter-keeps-clients)
+
+  pub exit-keeps : (i a : ℕ) → CanExit cfg st i a → Sound cfg (exited st i a)
+  exit-keeps i a z = search (exit-keeps-shape, exit-keeps-slots, exit-keeps-counts, exit-keeps-areas, exit-keeps-clients)
+
+  pub read-keeps : (i q : ℕ) → CanRead cfg st i q → Sound cfg (looked st q)
+  read-keeps i q z = search (read-keeps-shape, read-keeps-elements)
+
+  -- write and send
+  pub feed-keeps : (i p : ℕ) (v : Value) → CanFeed cfg st i p v → Sound cfg (fed cfg st p v)
+  unfolding fed
+  feed-keeps i p v z = search (feed-keeps-shape, feed-keeps-runnables, feed-keeps-elements, feed-keeps-counts, feed-keeps-clients)
+
+  pub invalidate-keeps : (i p : ℕ) → CanInvalidate cfg st i p → Sound cfg (invalidated cfg st p)
+  invalidate-keeps i p z = search (invalidate-keeps-shape, invalidate-keeps-elements)
+
+  pub receive-keeps : (i q : ℕ) → CanReceive cfg st i q → Sound cfg (received st q)
+  receive-keeps i q z = search (receive-keeps-shape, receive-keeps-elements)
+
+  pub call-keeps : (i o : ℕ) (v : Value) → CanCall cfg st i o v → Sound cfg (called cfg st i o v)
+  unfolding called
+  call-keeps i o v z = search (call-keeps-shape, call-keeps-runnables, call-keeps-operations, call-keeps-slots, call-keeps-counts, call-keeps-areas, call-keeps-clients)
+
+  pub collect-keeps : (i o : ℕ) → CanCollect cfg st i o → Sound cfg (collected st i)
+  collect-keeps i o z = search (collect-keeps-shape, collect-keeps-slots, collect-keeps-counts, collect-keeps-areas, collect-keeps-clients)
+
+  -- a hand back that ends the client's call, and one that comes late
+  pub answer-keeps : (i : ℕ) (v : Value) → CanHandBack cfg st i v → answers (st .operations) (clientOf st i) ≡ true → Sound cfg (answered cfg st i v)
+  unfolding closed
+  answer-keeps i v z e =
+      search (answer-keeps-shape, answer-keeps-runnables, answer-keeps-operations, hand-back-keeps-slots cfg st i v s z, answer-keeps-counts, hand-back-keeps-areas cfg st i v s z, answer-keeps-clients)
+
+  pub late-keeps : (i : ℕ) (v : Value) → CanHandBack cfg st i v → answers (st .operations) (clientOf st i) ≡ false → Sound cfg (finished st st i)
+  late-keeps i v z e = search (late-keeps-shape, hand-back-keeps-slots, late-keeps-counts, hand-back-keeps-areas, late-keeps-clients)
+
+  pub end-keeps : (i : ℕ) → CanEnd st i → Sound cfg (emptied st i)
+  end-keeps i z = search (end-keeps-shape, end-keeps-runnables, end-keeps-slots, end-keeps-counts, end-keeps-areas, end-keeps-clients)
+
+  pub spawn-keeps : (r : ℕ) → CanSpawn cfg st r → Sound cfg (spawned cfg st r (lowestEmpty (st .slots)))
+  unfolding spawned
+  spawn-keeps r z = search (spawn-keeps-shape, spawn-keeps-runnables, spawn-keeps-slots, spawn-keeps-counts, spawn-keeps-areas, spawn-keeps-clients)
+
+  pub timeout-keeps : (o : ℕ) → CanTimeout cfg st o → Sound cfg (closed cfg st o timeoutV)
+  unfolding closed
+  timeout-keeps o z = search (timeout-keeps-shape, timeout-keeps-runnables, timeout-keeps-operations, timeout-keeps-counts, timeout-keeps-clients)
+
+  pub tick-keeps : (t : ℕ) → CanTick cfg st t → Sound cfg (ticked cfg st t)
+  tick-keeps t z = search (tick-keeps-shape, tick-keeps-runnables, tick-keeps-timers, tick-keeps-counts, tick-keeps-clients)
+
+  pub wait-keeps : (t : ℕ) → CanWait cfg st t → Sound cfg (waited cfg st t)
+  unfolding waited
+  wait-keeps t z = search (wait-keeps-shape, wait-keeps-runnables, wait-keeps-operations, wait-keeps-timers, wait-keeps-counts, wait-keeps-clients)
+
+  -- ---- each way, and each step
+
+  abbrev pub Keeps : Stepped → Type 0
+  Keeps r = Sound cfg (r .state)
+
+  way-keeps : {n : ℕ} {x : Step} {w : Value} {t : State} → Way cfg st x n w t → Sound cfg t
+  way-keeps readVariable = s
+  way-keeps (writeVariable z) = write-variable-keeps _ _ _ z
+  way-keeps (enter z) = enter-keeps _ _ z
+  way-keeps (exit z) = exit-keeps _ _ z
+  way-keeps (read z) = read-keeps _ _ z
+  way-keeps (write z) = feed-keeps _ _ _ z
+  way-keeps updated = s
+  way-keeps (invalidate z) = invalidate-keeps _ _ z
+  way-keeps (receiveNone e) = s
+  way-keeps (receive z) = receive-keeps _ _ z
+  way-keeps (send z) = feed-keeps _ _ _ z
+  way-keeps (callOpen e) = s
+  way-keeps (call z) = call-keeps _ _ _ z
+  way-keeps (pollOpen e) = s
+  way-keeps (poll e) = s
+  way-keeps (collect z) = collect-keeps _ _ z
+  way-keeps (answer z e) = answer-keeps _ _ z e
+  way-keeps (late z e) = late-keeps _ _ z e
+  way-keeps (end z) = end-keeps _ z
+  way-keeps (spawn z) = spawn-keeps _ z
+  way-keeps (timeout z) = timeout-keeps _ z
+  way-keeps (tick z) = tick-keeps _ z
+  way-keeps (wait z) = wait-keeps _ z
+
+  went-keeps : {n : ℕ} {x : Step} {r : Stepped} → Went cfg st x n r → Keeps r
+  went-keeps (bars b) = s
+  went-keeps (goes w) = way-keeps w
+
+  pub possible-keeps : (x : Step) → Keeps (possibleOf cfg st x)
+  possible-keeps x = went-keeps (went cfg st x)
+
+  -- with its claim
+  pub inner-keeps : (x : Step) → Keeps (innerOf cfg st x)
+  unfolding innerOf claimedOf
+  inner-keeps x = go (possibleOf cfg st x .answer)
+    where
+      go : (a : Answer) → Keeps (onAnswer a (λ (v : Value). pick (sameValue v (x .claim)) (possibleOf cfg st x) (refused otherAnswer st)) (λ (n : ℕ). possibleOf cfg st x))
+      go (Taken v) = pick-has Keeps (sameValue v (x .claim)) (possibleOf cfg st x) (refused otherAnswer st) (λ e. possible-keeps x) (λ e. s)
+      go (Refused n) = possible-keeps x
+
+-- ---- sound stays sound
+
+-- before the claim is looked at
+pub kept-possible : (cfg : Config) (st : State) (s : Step) → soundOf cfg st ≡ true → soundOf cfg (possibleOf cfg st s .state) ≡ true
+kept-possible cfg st s h = made cfg (possibleOf cfg st s .state) (possible-keeps cfg st (told cfg st h) s)
+
+-- with it
+pub kept : (cfg : Config) (st : State) (s : Step) → soundOf cfg st ≡ true → soundOf cfg (innerOf cfg st s .state) ≡ true
+kept cfg st s h = made cfg (innerOf cfg st s .state) (inner-keeps cfg st (told cfg st h) s)
+
+-- the test of a sound state need not be made again
+pub once : (cfg : Config) (st : State) (s : Step) → soundOf cfg st ≡ true → stepOf cfg st s ≡ innerOf cfg st s
+unfolding stepOf
+once cfg st s h = rw h
+
+-- after the test
+pub kept-step : (cfg : Config) (st : State) (s : Step) → soundOf cfg st ≡ true → soundOf cfg (stepOf cfg st s .state) ≡ true
+kept-step cfg st s h = rw (once cfg st s h) (kept cfg st s h)

@@ -1,0 +1,202 @@
+-- What a step may rely on that is not refused: from the refusals that all steps share, and from its own, its record of facts. No other proof reads the tests of a refusal.
+-- Assumes nothing.
+use Prim.Native.Nat.{ℕ, zero}
+use mathlib.Core.Bool.{Bool, true, false, not}
+use mathlib.Core.Path.{_≡_, refl}
+use native.Mathlib.Omega.{arith}
+use lib.Dec.{ltb, eqb}
+use borrow.Author.Tests.{ltb-true, ltb-false, leb-false, eqb-true, eqb-false, eq-eqb, ne-eqb}
+use Rattle.numbers.specs.Refusals.{malformed, notThere, notOwn, barred}
+use Rattle.numbers.specs.Codes.{writeVariableCode, enterCode, exitCode, readCode, writeCode, invalidateCode, receiveCode, sendCode, callCode, resultCode, handBackCode, endCode, spawnCode, timeoutCode, tickCode}
+use Rattle.laws.specs.Choice.{both, either, bit}
+use Rattle.laws.proofs.Choosing.{clash, both-left, both-right, alike-is, all-told, pick-on}
+use Rattle.types.specs.Types.{Value, Step, Config, State}
+use Rattle.config.specs.Tables.{runnableConfIn, areaConfIn, requiredConfIn, operationConfIn, providedConfIn}
+use Rattle.entries.specs.Entries.{countOf, entryOf}
+use Rattle.entries.specs.Faults.{isQueued}
+use Rattle.state.specs.Tables.{maxSlots, runnableIn, elementIn, slotIn}
+use Rattle.rules.specs.Sound.{componentOf}
+use Rattle.rules.specs.Rows.{aSlot, scheduler, rows, rowOf}
+use Rattle.rules.specs.Refusals.{argues, formed, partThere, queuesAs, partOwn, asksSynchronous, lifeLets, ownedRefusal, instanceRefusal, schedulerRefusal, refusalBy, refusalOf}
+use Rattle.effects.specs.Steps.{isTaken, onTop, isBare, isOpen, isSpent, requestsFull, serves, holds, isOver, maySpawn, lowestEmpty, isUp, operationsLet, timersLet, allLet}
+use Rattle.stays_sound.specs.Facts.{Acts, CanWriteVariable, CanEnter, CanExit, CanRead, CanFeed, CanInvalidate, CanReceive, CanCall, CanCollect, CanHandBack, CanEnd, CanSpawn, CanTimeout, CanTick, CanWait}
+
+-- ---- refusals 2 to 5, and 2 and 3
+
+-- a slot's step that they let through
+pub record Let (cfg : Config) (st : State) (code i k : ℕ) (v : Value) : Type 0 where
+  pub form : formed (rowOf code) k v ≡ true
+  pub used : slotIn (st .slots) i .used ≡ true
+  pub part : partThere cfg (rowOf code .part) k ≡ true
+  pub own : partOwn cfg (componentOf cfg (slotIn (st .slots) i .life .runnable)) (rowOf code) k ≡ true
+  pub life : lifeLets cfg (slotIn (st .slots) i .life) code k ≡ true
+
+-- the scheduler's step that they let through
+pub record LetRun (cfg : Config) (code i k : ℕ) (v : Value) : Type 0 where
+  pub who : i ≡ 0
+  pub form : formed (rowOf code) k v ≡ true
+  pub part : partThere cfg (rowOf code .part) k ≡ true
+
+module _ (cfg : Config) (st : State) (s : Step) {n : ℕ} (c : s .code ≡ n) (h : refusalOf cfg (st .slots) s ≡ 0) where
+  pub let-told : rowOf n .who ≡ aSlot → Let cfg st n (s .who) (s .what) (s .argument)
+  unfolding refusalOf refusalBy instanceRefusal ownedRefusal
+  let-told w =
+      let x = slotIn (st .slots) (s .who) in
+      let r = rowOf n in
+      let a = pick-on (formed r (s .what) (s .argument)) _ malformed 0 (rw (c, eq-eqb (r .who) aSlot w) at h) (λ q. omega (arith, q)) in
+      let b = pick-on (both (x .used) (partThere cfg (r .part) (s .what))) _ notThere 0 (a .1) (λ q. omega (arith, q)) in
+      let c = pick-on (partOwn cfg (componentOf cfg (x .life .runnable)) r (s .what)) _ notOwn 0 (b .1) (λ q. omega (arith, q)) in
+      let d = pick-on (lifeLets cfg (x .life) n (s .what)) _ barred 0 (c .1) (λ q. omega (arith, q)) in
+      record { form = a .0; used = both-left (x .used) _ (b .0); part = both-right (x .used) _ (b .0); own = c .0; life = d .0 }
+
+  pub run-told : rowOf n .who ≡ scheduler → LetRun cfg n (s .who) (s .what) (s .argument)
+  unfolding refusalOf refusalBy schedulerRefusal
+  run-told w =
+      let r = rowOf n in
+      let a = pick-on (both (eqb (s .who) 0) (formed r (s .what) (s .argument))) _ malformed 0 (rw (c, ne-eqb (r .who) aSlot (λ q. omega (arith, w, q)), eq-eqb (r .who) scheduler w) at h) (λ q. omega (arith, q)) in
+      let b = pick-on (partThere cfg (r .part) (s .what)) _ notThere 0 (a .1) (λ q. omega (arith, q)) in
+      record { who = eqb-true _ _ (both-left (eqb (s .who) 0) _ (a .0)); form = both-right (eqb (s .who) 0) _ (a .0); part = b .0 }
+
+-- ---- an instance that may act: it neither waits nor is finished, unless the step is a result or an end
+
+rests : (b : Bool) → either (not b) false ≡ true → b ≡ false
+rests true h = absurd (clash false h refl)
+rests false h = refl
+
+module _ (cfg : Config) (st : State) (code i k : ℕ) (v : Value) (z : Let cfg st code i k v) where
+  acts : eqb code resultCode ≡ false → eqb code endCode ≡ false → Acts st i
+  unfolding lifeLets
+  acts a b =
+      let t = all-told _ (rw (a, b) at (z .life)) in
+      record { there = record { used = z .used }; running = rests (slotIn (st .slots) i .life .waiting) (t .0); unfinished = rests (slotIn (st .slots) i .life .finished) (t .1 .0) }
+
+-- ---- each step
+
+module _ (cfg : Config) (st : State) (i k : ℕ) (v : Value) where
+  pub says-write-variable : Let cfg st writeVariableCode i k v → CanWriteVariable cfg st i k v
+  unfolding formed argues partThere rowOf rows countOf
+  says-write-variable z = record { who = acts cfg st writeVariableCode i k v z refl refl; inside = ltb-true _ _ (z .part); payload = z .form }
+
+  pub says-enter : Let cfg st enterCode i k v → isTaken st k ≡ false → CanEnter cfg st i k
+  unfolding partThere rowOf rows countOf partOwn queuesAs entryOf
+  says-enter z e = record {
+    who = acts cfg st enterCode i k v z refl refl;
+    inside = ltb-true _ _ (z .part);
+    own = eqb-true _ _ (both-left (eqb (areaConfIn (cfg .areas) k .component) (componentOf cfg (slotIn (st .slots) i .life .runnable))) true (z .own));
+    free = e;
+  }
+
+  pub says-exit : Let cfg st exitCode i k v → onTop (slotIn (st .slots) i) k ≡ true → CanExit cfg st i k
+  unfolding partThere rowOf rows countOf onTop
+  says-exit z e = record {
+    who = acts cfg st exitCode i k v z refl refl;
+    inside = ltb-true _ _ (z .part);
+    some = ltb-true _ _ (both-left (ltb 0 (slotIn (st .slots) i .stack .held)) _ e);
+    top = eqb-true _ _ (both-right (ltb 0 (slotIn (st .slots) i .stack .held)) _ e);
+  }
+
+  pub says-read : Let cfg st readCode i k v → CanRead cfg st i k
+  unfolding partThere rowOf rows countOf partOwn queuesAs entryOf isQueued
+  says-read z = record {
+    who = acts cfg st readCode i k v z refl refl;
+    inside = ltb-true _ _ (z .part);
+    unqueued = alike-is (ltb 0 (requiredConfIn (cfg .required) k .capacity)) false (both-right (eqb (requiredConfIn (cfg .required) k .component) (componentOf cfg (slotIn (st .slots) i .life .runnable))) _ (z .own));
+  }
+
+  pub says-write : Let cfg st writeCode i k v → CanFeed cfg st i k v
+  unfolding formed argues partThere rowOf rows countOf
+  says-write z = record { who = acts cfg st writeCode i k v z refl refl; inside = ltb-true _ _ (z .part); payload = z .form }
+
+  pub says-invalidate : Let cfg st invalidateCode i k v → CanInvalidate cfg st i k
+  unfolding partThere rowOf rows countOf partOwn queuesAs entryOf
+  says-invalidate z = record {
+    who = acts cfg st invalidateCode i k v z refl refl;
+    inside = ltb-true _ _ (z .part);
+    unqueued = off (providedConfIn (cfg .provided) k .queued) (alike-is (ltb 0 (bit (providedConfIn (cfg .provided) k .queued))) false (both-right (eqb (providedConfIn (cfg .provided) k .component) (componentOf cfg (slotIn (st .slots) i .life .runnable))) _ (z .own)));
+  }
+    where
+      off : (b : Bool) → ltb 0 (bit b) ≡ false → b ≡ false
+      off true h = h
+      off false h = refl
+
+  pub says-receive : Let cfg st receiveCode i k v → isBare st k ≡ false → CanReceive cfg st i k
+  unfolding partThere rowOf rows countOf partOwn queuesAs entryOf isQueued
+  says-receive z e = record {
+    who = acts cfg st receiveCode i k v z refl refl;
+    inside = ltb-true _ _ (z .part);
+    queued = alike-is (ltb 0 (requiredConfIn (cfg .required) k .capacity)) true (both-right (eqb (requiredConfIn (cfg .required) k .component) (componentOf cfg (slotIn (st .slots) i .life .runnable))) _ (z .own));
+    some = omega (arith, eqb-false (elementIn (st .elements) k .queue .queued) 0 e);
+  }
+
+  pub says-send : Let cfg st sendCode i k v → CanFeed cfg st i k v
+  unfolding formed argues partThere rowOf rows countOf
+  says-send z = record { who = acts cfg st sendCode i k v z refl refl; inside = ltb-true _ _ (z .part); payload = z .form }
+
+  pub says-call : Let cfg st callCode i k v → isOpen st k ≡ false → isSpent st k ≡ false → requestsFull cfg (st .runnables) (operationConfIn (cfg .operations) k .server) ≡ false → CanCall cfg st i k v
+  unfolding formed argues partThere rowOf rows countOf partOwn queuesAs entryOf requestsFull
+  says-call z a b c = record {
+    who = acts cfg st callCode i k v z refl refl;
+    inside = ltb-true _ _ (z .part);
+    own = eqb-true _ _ (both-left (eqb (operationConfIn (cfg .operations) k .component) (componentOf cfg (slotIn (st .slots) i .life .runnable))) true (z .own));
+    payload = z .form;
+    shut = a;
+    number = eqb-false _ _ b;
+    room = leb-false _ _ c;
+  }
+
+  -- a synchronous result
+  pub says-collect : Let cfg st resultCode i k v → operationConfIn (cfg .operations) k .asynchronous ≡ false → isOpen st k ≡ false → CanCollect cfg st i k
+  unfolding partThere rowOf rows countOf lifeLets asksSynchronous
+  says-collect z a e =
+      let t = all-told _ (z .life) in
+      let w : slotIn (st .slots) i .life .waiting ≡ true = rw a at (t .1 .1 .0) in
+      record {
+        there = record { used = z .used };
+        inside = ltb-true _ _ (z .part);
+        waiting = w;
+        on = eqb-true _ _ (rw w at (t .0));
+        shut = e;
+      }
+
+  pub says-hand-back : Let cfg st handBackCode i k v → serves st i ≡ true → CanHandBack cfg st i v
+  unfolding formed argues rowOf rows
+  says-hand-back z e = record { who = acts cfg st handBackCode i k v z refl refl; payload = both-right (eqb k 0) _ (z .form); serving = e }
+
+  pub says-end : Let cfg st endCode i k v → serves st i ≡ false → holds st i ≡ false → CanEnd st i
+  says-end z e f = record { there = record { used = z .used }; none = e; flat = omega (arith, ltb-false 0 (slotIn (st .slots) i .stack .held) f) }
+
+module _ (cfg : Config) (st : State) (i k : ℕ) (v : Value) where
+  pub says-spawn : LetRun cfg spawnCode i k v → maySpawn (runnableConfIn (cfg .runnables) k) (runnableIn (st .runnables) k) ≡ true → ltb (lowestEmpty (st .slots)) maxSlots ≡ true → CanSpawn cfg st k
+  unfolding partThere rowOf rows countOf maySpawn
+  says-spawn z m e =
+      let x = runnableIn (st .runnables) k in
+      let r = both-right (eqb (x .interval) 0) _ m in
+      record {
+        inside = ltb-true _ _ (z .part);
+        rested = eqb-true _ _ (both-left (eqb (x .interval) 0) _ m);
+        alone = both-left (either (eqb (x .instances) 0) (runnableConfIn (cfg .runnables) k .concurrent)) _ r;
+        due = both-right (either (eqb (x .instances) 0) (runnableConfIn (cfg .runnables) k .concurrent)) _ r;
+        slot = ltb-true _ _ e;
+      }
+
+  pub says-timeout : LetRun cfg timeoutCode i k v → isOver st k ≡ true → CanTimeout cfg st k
+  unfolding partThere rowOf rows countOf
+  says-timeout z e = record {
+    inside = ltb-true _ _ (z .part);
+    calling = both-left (isOpen st k) _ e;
+    zero = eqb-true _ _ (both-right (isOpen st k) _ e);
+  }
+
+  pub says-tick : LetRun cfg tickCode i k v → isUp st k ≡ true → CanTick cfg st k
+  unfolding partThere rowOf rows countOf
+  says-tick z e = record { inside = ltb-true _ _ (z .part); zero = eqb-true _ _ e }
+
+pub says-wait : (cfg : Config) (st : State) (t : ℕ) → allLet cfg st t ≡ true → CanWait cfg st t
+unfolding allLet
+says-wait cfg st t e =
+    let r = both-right (operationsLet cfg (st .operations) t) _ e in
+    record {
+      operations = both-left (operationsLet cfg (st .operations) t) _ e;
+      timers = both-left (timersLet cfg (st .timers) t) _ r;
+      runnables = both-right (timersLet cfg (st .timers) t) _ r;
+    }

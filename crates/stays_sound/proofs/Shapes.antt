@@ -1,0 +1,180 @@
+-- Every table keeps its length.
+-- Assumes nothing.
+use Prim.Native.Nat.{ℕ}
+use mathlib.Core.Bool.{true, false}
+use mathlib.Core.Path.{_≡_, _∙_}
+use lib.ListN.{length, length-set}
+use Rattle.laws.specs.Choice.{pick}
+use Rattle.laws.proofs.Places.{each-length}
+use Rattle.values.specs.Values.{invalidV, timeoutV}
+use Rattle.types.specs.Types.{Value, Config, Runnable, Runnables, Variable, Variables, Area, Areas, Element, Elements, Operation, Operations, Timer, Timers, Slot, Slots, State}
+use Rattle.config.specs.Tables.{operationConfIn, timerConfIn}
+use Rattle.state.specs.Parts.{noSlot, noRunnable, noElement, noOperation, noTimer}
+use Rattle.state.specs.Tables.{runnableIn, elementIn, operationIn, slotIn, withRunnables, withVariables, withAreas, withElements, withOperations, withTimers, withSlots, withRunnable, withVariable, withArea, withElement, withOperation, withTimer, withSlot}
+use Rattle.rules.specs.Sound.{shaped}
+use Rattle.effects.specs.Steps.{stored, entering, exiting, entered, exited, seen, looked, fedElement, fedElements, woken, isFed, fedRunnables, fed, invalidated, receiving, received, opening, asking, callerAfter, called, runningOn, collected, closing, isReturned, returnedRunnables, closed, finishing, clientOf, finished, answered, emptied, lowestEmpty, spawned, ticked, operationAfter, timerAfter, runnableAfter, operationsAfter, timersAfter, runnablesAfter, waited}
+use Rattle.stays_sound.proofs.Told.{Shape, shape-told, shape-made}
+use Rattle.stays_sound.specs.Facts.{Sound}
+
+-- ---- one place changed, and the first places changed
+
+pub runnable-length : (t : Runnables) (i : ℕ) (x : Runnable) → length (withRunnable t i x .at) ≡ length (t .at)
+unfolding withRunnable
+runnable-length t i x = length-set (t .at) i x
+
+pub variable-length : (t : Variables) (i : ℕ) (x : Variable) → length (withVariable t i x .at) ≡ length (t .at)
+unfolding withVariable
+variable-length t i x = length-set (t .at) i x
+
+pub area-length : (t : Areas) (i : ℕ) (x : Area) → length (withArea t i x .at) ≡ length (t .at)
+unfolding withArea
+area-length t i x = length-set (t .at) i x
+
+pub element-length : (t : Elements) (i : ℕ) (x : Element) → length (withElement t i x .at) ≡ length (t .at)
+unfolding withElement
+element-length t i x = length-set (t .at) i x
+
+pub operation-length : (t : Operations) (i : ℕ) (x : Operation) → length (withOperation t i x .at) ≡ length (t .at)
+unfolding withOperation
+operation-length t i x = length-set (t .at) i x
+
+pub timer-length : (t : Timers) (i : ℕ) (x : Timer) → length (withTimer t i x .at) ≡ length (t .at)
+unfolding withTimer
+timer-length t i x = length-set (t .at) i x
+
+pub slot-length : (t : Slots) (i : ℕ) (x : Slot) → length (withSlot t i x .at) ≡ length (t .at)
+unfolding withSlot
+slot-length t i x = length-set (t .at) i x
+
+module _ (cfg : Config) where
+  pub fed-elements-length : (p : ℕ) (v : Value) (t : Elements) → length (fedElements cfg p v t .at) ≡ length (t .at)
+  unfolding fedElements
+  fed-elements-length p v t = each-length (fedElement cfg p v) noElement (cfg .required .n) (t .at)
+
+  pub fed-runnables-length : (t : Elements) (p : ℕ) (rs : Runnables) → length (fedRunnables cfg t p rs .at) ≡ length (rs .at)
+  unfolding fedRunnables
+  fed-runnables-length t p rs = each-length (λ (r : ℕ) (x : Runnable). pick (isFed cfg t p r) (woken x) x) noRunnable (cfg .runnables .n) (rs .at)
+
+  pub returned-length : (o : ℕ) (rs : Runnables) → length (returnedRunnables cfg o rs .at) ≡ length (rs .at)
+  unfolding returnedRunnables
+  returned-length o rs = each-length (λ (r : ℕ) (x : Runnable). pick (isReturned cfg o r) (woken x) x) noRunnable (cfg .runnables .n) (rs .at)
+
+  pub runnables-after-length : (rs : Runnables) (t : ℕ) → length (runnablesAfter cfg rs t .at) ≡ length (rs .at)
+  unfolding runnablesAfter
+  runnables-after-length rs t = each-length (λ (r : ℕ) (x : Runnable). runnableAfter t x) noRunnable (cfg .runnables .n) (rs .at)
+
+  pub operations-after-length : (os : Operations) (t : ℕ) → length (operationsAfter cfg os t .at) ≡ length (os .at)
+  unfolding operationsAfter
+  operations-after-length os t = each-length (λ (o : ℕ) (x : Operation). operationAfter t x) noOperation (cfg .operations .n) (os .at)
+
+  pub timers-after-length : (ts : Timers) (t : ℕ) → length (timersAfter cfg ts t .at) ≡ length (ts .at)
+  unfolding timersAfter
+  timers-after-length ts t = each-length (λ (k : ℕ) (x : Timer). timerAfter t x) noTimer (cfg .timers .n) (ts .at)
+
+-- ---- one table of a state put in place of another of its length
+
+module _ (st : State) (h : Shape st) where
+  in-runnables : (t : Runnables) → length (t .at) ≡ length (st .runnables .at) → Shape (withRunnables st t)
+  in-runnables t e = record { runnables = e ∙ h .runnables; variables = h .variables; areas = h .areas; elements = h .elements; operations = h .operations; timers = h .timers; slots = h .slots }
+
+  in-variables : (t : Variables) → length (t .at) ≡ length (st .variables .at) → Shape (withVariables st t)
+  in-variables t e = record { runnables = h .runnables; variables = e ∙ h .variables; areas = h .areas; elements = h .elements; operations = h .operations; timers = h .timers; slots = h .slots }
+
+  in-areas : (t : Areas) → length (t .at) ≡ length (st .areas .at) → Shape (withAreas st t)
+  in-areas t e = record { runnables = h .runnables; variables = h .variables; areas = e ∙ h .areas; elements = h .elements; operations = h .operations; timers = h .timers; slots = h .slots }
+
+  in-elements : (t : Elements) → length (t .at) ≡ length (st .elements .at) → Shape (withElements st t)
+  in-elements t e = record { runnables = h .runnables; variables = h .variables; areas = h .areas; elements = e ∙ h .elements; operations = h .operations; timers = h .timers; slots = h .slots }
+
+  in-operations : (t : Operations) → length (t .at) ≡ length (st .operations .at) → Shape (withOperations st t)
+  in-operations t e = record { runnables = h .runnables; variables = h .variables; areas = h .areas; elements = h .elements; operations = e ∙ h .operations; timers = h .timers; slots = h .slots }
+
+  in-timers : (t : Timers) → length (t .at) ≡ length (st .timers .at) → Shape (withTimers st t)
+  in-timers t e = record { runnables = h .runnables; variables = h .variables; areas = h .areas; elements = h .elements; operations = h .operations; timers = e ∙ h .timers; slots = h .slots }
+
+  in-slots : (t : Slots) → length (t .at) ≡ length (st .slots .at) → Shape (withSlots st t)
+  in-slots t e = record { runnables = h .runnables; variables = h .variables; areas = h .areas; elements = h .elements; operations = h .operations; timers = h .timers; slots = e ∙ h .slots }
+
+-- ---- step by step
+
+module _ (cfg : Config) (st : State) (s : Sound cfg st) where
+  -- of the state as it stands
+  now : Shape st
+  now = shape-told st (s .shape)
+
+  -- a call that ends
+  closed-shape : (o : ℕ) (v : Value) → Shape (closed cfg st o v)
+  unfolding closed
+  closed-shape o v =
+      in-runnables _ (in-operations st now _ (operation-length (st .operations) o (closing v (operationIn (st .operations) o)))) _ (returned-length cfg o (st .runnables))
+
+module _ (cfg : Config) (st : State) where
+  pub write-variable-keeps-shape : (v : ℕ) (x : Value) → Sound cfg st → shaped (stored st v x) ≡ true
+  write-variable-keeps-shape v x s = shape-made _ (in-variables st (now cfg st s) _ (variable-length (st .variables) v (record { value = x })))
+
+  pub enter-keeps-shape : (i a : ℕ) → Sound cfg st → shaped (entered st i a) ≡ true
+  enter-keeps-shape i a s =
+      shape-made _ (in-slots _ (in-areas st (now cfg st s) _ (area-length (st .areas) a (record { taken = true }))) _ (slot-length (st .slots) i (entering (slotIn (st .slots) i) a)))
+
+  pub exit-keeps-shape : (i a : ℕ) → Sound cfg st → shaped (exited st i a) ≡ true
+  exit-keeps-shape i a s =
+      shape-made _ (in-slots _ (in-areas st (now cfg st s) _ (area-length (st .areas) a (record { taken = false }))) _ (slot-length (st .slots) i (exiting (slotIn (st .slots) i))))
+
+  pub read-keeps-shape : (q : ℕ) → Sound cfg st → shaped (looked st q) ≡ true
+  read-keeps-shape q s = shape-made _ (in-elements st (now cfg st s) _ (element-length (st .elements) q (seen (elementIn (st .elements) q))))
+
+  pub feed-keeps-shape : (p : ℕ) (v : Value) → Sound cfg st → shaped (fed cfg st p v) ≡ true
+  unfolding fed
+  feed-keeps-shape p v s =
+      shape-made _ (in-runnables _ (in-elements st (now cfg st s) _ (fed-elements-length cfg p v (st .elements))) _ (fed-runnables-length cfg (st .elements) p (st .runnables)))
+
+  pub invalidate-keeps-shape : (p : ℕ) → Sound cfg st → shaped (invalidated cfg st p) ≡ true
+  invalidate-keeps-shape p s = shape-made _ (in-elements st (now cfg st s) _ (fed-elements-length cfg p invalidV (st .elements)))
+
+  pub receive-keeps-shape : (q : ℕ) → Sound cfg st → shaped (received st q) ≡ true
+  receive-keeps-shape q s = shape-made _ (in-elements st (now cfg st s) _ (element-length (st .elements) q (receiving (elementIn (st .elements) q))))
+
+  pub call-keeps-shape : (i o : ℕ) (v : Value) → Sound cfg st → shaped (called cfg st i o v) ≡ true
+  unfolding called
+  call-keeps-shape i o v s =
+      shape-made _
+      (in-slots _
+      (in-runnables _
+      (in-operations st (now cfg st s) _ (operation-length (st .operations) o (opening (operationConfIn (cfg .operations) o .timeout) (operationIn (st .operations) o))))
+      _ (runnable-length (st .runnables) (operationConfIn (cfg .operations) o .server)
+      (asking (runnableIn (st .runnables) (operationConfIn (cfg .operations) o .server)) (record { operation = o; number = operationIn (st .operations) o .number; argument = v }))))
+      _ (slot-length (st .slots) i (callerAfter cfg o (slotIn (st .slots) i))))
+
+  pub collect-keeps-shape : (i : ℕ) → Sound cfg st → shaped (collected st i) ≡ true
+  collect-keeps-shape i s = shape-made _ (in-slots st (now cfg st s) _ (slot-length (st .slots) i (runningOn (slotIn (st .slots) i))))
+
+  -- with a call that ends, and without
+  pub answer-keeps-shape : (i : ℕ) (v : Value) → Sound cfg st → shaped (answered cfg st i v) ≡ true
+  unfolding closed
+  answer-keeps-shape i v s = shape-made _ (in-slots _ (closed-shape cfg st s (clientOf st i .operation) v) _ (slot-length (st .slots) i (finishing (slotIn (st .slots) i))))
+
+  pub late-keeps-shape : (i : ℕ) → Sound cfg st → shaped (finished st st i) ≡ true
+  late-keeps-shape i s = shape-made _ (in-slots st (now cfg st s) _ (slot-length (st .slots) i (finishing (slotIn (st .slots) i))))
+
+  pub end-keeps-shape : (i : ℕ) → Sound cfg st → shaped (emptied st i) ≡ true
+  end-keeps-shape i s = shape-made _ (in-slots _ (in-runnables st (now cfg st s) _ (runnable-length (st .runnables) (slotIn (st .slots) i .life .runnable) _)) _ (slot-length (st .slots) i noSlot))
+
+  pub spawn-keeps-shape : (r : ℕ) → Sound cfg st → shaped (spawned cfg st r (lowestEmpty (st .slots))) ≡ true
+  unfolding spawned
+  spawn-keeps-shape r s = shape-made _ (in-slots _ (in-runnables st (now cfg st s) _ (runnable-length (st .runnables) r _)) _ (slot-length (st .slots) (lowestEmpty (st .slots)) _))
+
+  pub timeout-keeps-shape : (o : ℕ) → Sound cfg st → shaped (closed cfg st o timeoutV) ≡ true
+  unfolding closed
+  timeout-keeps-shape o s = shape-made _ (closed-shape cfg st s o timeoutV)
+
+  pub tick-keeps-shape : (t : ℕ) → Sound cfg st → shaped (ticked cfg st t) ≡ true
+  tick-keeps-shape t s =
+      shape-made _ (in-runnables _ (in-timers st (now cfg st s) _ (timer-length (st .timers) t _)) _ (runnable-length (st .runnables) (timerConfIn (cfg .timers) t .runnable) _))
+
+  pub wait-keeps-shape : (t : ℕ) → Sound cfg st → shaped (waited cfg st t) ≡ true
+  unfolding waited
+  wait-keeps-shape t s =
+      shape-made _
+      (in-runnables _
+      (in-timers _ (in-operations st (now cfg st s) _ (operations-after-length cfg (st .operations) t)) _ (timers-after-length cfg (st .timers) t))
+      _ (runnables-after-length cfg (st .runnables) t))

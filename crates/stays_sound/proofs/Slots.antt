@@ -1,0 +1,166 @@
+-- Every slot stays sound: an empty one is blank, and an instance's life, client and stack fit it and each other.
+-- Assumes nothing.
+use Prim.Native.Nat.{ℕ, _+_, _-_, _<_}
+use mathlib.Core.Bool.{Bool, true, false, not}
+use mathlib.Core.Path.{_≡_, refl, sym, _∙_, ap}
+use native.Mathlib.Nat.{mod-eq-of-lt}
+use native.Mathlib.Omega.{arith}
+use lib.Dec.{eqb}
+use borrow.Author.Tests.{ltb-true, eqb-true, eqb-false, lt-ltb, le-leb, eq-eqb}
+use Rattle.laws.specs.Choice.{pick, allOf}
+use Rattle.laws.specs.Loop.{allBelow}
+use Rattle.laws.specs.Row.{placeFilled, filled}
+use Rattle.laws.proofs.Choosing.{both-make, all-told, all-made}
+use Rattle.laws.proofs.Places.{all-put, filled-push, filled-pop}
+use Rattle.values.specs.Values.{isVoid}
+use Rattle.types.specs.Types.{Value, Config, RunnableConf, Life, Runnable, Owed, Stack, Slot, Slots, State}
+use Rattle.config.specs.Tables.{maxAreaConfs, runnableConfIn, areaConfIn, operationConfIn}
+use Rattle.entries.specs.Faults.{isServer}
+use Rattle.state.specs.Parts.{noOwed, noStack, noSlot}
+use Rattle.state.specs.Queues.{upOne, pushArea, popArea, firstRequest}
+use Rattle.state.specs.Fields.{lifeOf, lifeWaiting, lifeRunning, lifeFinished}
+use Rattle.state.specs.Tables.{maxSlots, slotIn, withSlot, runnableIn}
+use Rattle.rules.specs.Sound.{componentOf, isNoClient, waitsWell, lifeSound, owedSound, areaFits, isZero, stackSound, isNoSlot, slotSound, slotsSound}
+use Rattle.effects.specs.Steps.{entering, exiting, entered, exited, waitingOn, callerAfter, called, runningOn, collected, finishing, finished, emptied, isDue, fresh, instanceOf, lowestEmpty, spawned}
+use Rattle.stays_sound.specs.Facts.{Sound, CanEnter, CanExit, CanCall, CanCollect, CanHandBack, CanEnd, CanSpawn}
+use Rattle.rules.proofs.Configured.{areas-most}
+use Rattle.stays_sound.proofs.Areas.{free-room}
+use Rattle.stays_sound.proofs.Instances.{Instance, instance-made, slot-below, instance-at, owed-server, stack-most, stack-filled}
+use Rattle.stays_sound.proofs.Runnables.{sits-at, first-fits}
+
+-- ---- the table
+
+pub slots-put : (cfg : Config) (ss : Slots) (i : ℕ) (x : Slot) → slotsSound cfg ss ≡ true → slotSound cfg x ≡ true → slotsSound cfg (withSlot ss i x) ≡ true
+unfolding slotsSound slotIn withSlot
+slots-put cfg ss i x h q = all-put (λ k y. slotSound cfg y) (ss .at) i maxSlots x noSlot h q
+
+-- the table with a slot's instance changed
+module _ (cfg : Config) (st : State) (s : Sound cfg st) where
+  changed : (i : ℕ) (x : Slot) → x .used ≡ true → Instance cfg x → slotsSound cfg (withSlot (st .slots) i x) ≡ true
+  changed i x u h = slots-put cfg (st .slots) i x (s .slots) (instance-made cfg x u h)
+
+-- ---- stacks
+
+module _ (cfg : Config) (l : Life) (k : Stack) where
+  -- one more area on top, where there is room and it is of the component
+  push-sound : (a : ℕ) → k .held < 16 → a < cfg .areas .n → areaConfIn (cfg .areas) a .component ≡ componentOf cfg (l .runnable) → stackSound cfg l k ≡ true → stackSound cfg l (pushArea k a) ≡ true
+  unfolding stackSound pushArea areaFits
+  push-sound a r b c h =
+      let e : upOne (k .held) ≡ k .held + 1 = mod-eq-of-lt (omega arith) in
+      rw e
+      (both-make _ _ (le-leb (k .held + 1) 16 (omega arith))
+      (filled-push (areaFits cfg (componentOf cfg (l .runnable))) isZero 0 maxAreaConfs (k .held) (k .at) a r
+      (both-make _ _ (lt-ltb _ _ b) (eq-eqb _ _ c))
+      (stack-filled cfg l k h)))
+
+  -- the one on top taken off
+  pop-sound : 0 < k .held → stackSound cfg l k ≡ true → stackSound cfg l (popArea k) ≡ true
+  unfolding stackSound popArea
+  pop-sound p h =
+      let m = stack-most cfg l k h in
+      let e : k .held ≡ (k .held - 1) + 1 = omega arith in
+      both-make _ _ (le-leb (k .held - 1) 16 (omega arith))
+      (filled-pop (areaFits cfg (componentOf cfg (l .runnable))) isZero 0 maxAreaConfs (k .held - 1) (k .at) 0 refl (omega arith)
+      (ap (λ (n : ℕ). filled (areaFits cfg (componentOf cfg (l .runnable))) isZero 0 maxAreaConfs n (k .at)) (sym e) ∙ stack-filled cfg l k h))
+
+-- ---- lives
+
+life-waits : (cfg : Config) (l : Life) (o : ℕ) → o < cfg .operations .n → operationConfIn (cfg .operations) o .asynchronous ≡ false → operationConfIn (cfg .operations) o .component ≡ componentOf cfg (l .runnable) → lifeSound cfg l ≡ true
+    → lifeSound cfg (lifeWaiting l o) ≡ true
+unfolding lifeSound waitsWell
+life-waits cfg l o b y c h =
+    let t = all-told _ h in
+    all-made _ (t .0, (t .1 .0, (all-made _ (lt-ltb _ _ b, (ap not y, (eq-eqb _ _ c, tt))), tt)))
+
+life-runs : (cfg : Config) (l : Life) → lifeSound cfg l ≡ true → lifeSound cfg (lifeRunning l) ≡ true
+unfolding lifeSound
+life-runs cfg l h = let t = all-told _ h in all-made _ (t .0, (t .1 .0, (refl, tt)))
+
+life-finishes : (cfg : Config) (l : Life) → isServer cfg (l .runnable) ≡ true → lifeSound cfg l ≡ true → lifeSound cfg (lifeFinished l) ≡ true
+unfolding lifeSound waitsWell
+life-finishes cfg l e h = let t = all-told _ h in all-made _ (t .0, (e, (t .1 .1 .0, tt)))
+
+pub life-fresh : (cfg : Config) (r : ℕ) → r < cfg .runnables .n → lifeSound cfg (lifeOf r) ≡ true
+unfolding lifeSound
+life-fresh cfg r b = all-made _ (lt-ltb _ _ b, (refl, (refl, tt)))
+
+-- a blank stack and a blank slot
+stack-fresh : (cfg : Config) (l : Life) → stackSound cfg l noStack ≡ true
+unfolding stackSound filled placeFilled allBelow noStack
+stack-fresh cfg l = refl
+
+pub blank-slot : (cfg : Config) → slotSound cfg noSlot ≡ true
+unfolding slotSound isNoSlot isNoClient isVoid allOf filled placeFilled allBelow noSlot noStack
+blank-slot cfg = refl
+
+-- ---- step by step
+
+module _ (cfg : Config) (st : State) where
+  pub enter-keeps-slots : (i a : ℕ) → Sound cfg st → CanEnter cfg st i a → slotsSound cfg (entered st i a .slots) ≡ true
+  enter-keeps-slots i a s z =
+      let x = slotIn (st .slots) i in
+      let room = free-room cfg st i a s (slot-below cfg st s i (z .who .there .used)) (omega (arith, z .inside, areas-most cfg (s .config))) (z .free) in
+      let h = instance-at cfg st s i (z .who .there .used) in
+      changed cfg st s i (entering x a) (z .who .there .used)
+      (record { life = h .life; owed = h .owed; stack = push-sound cfg (x .life) (x .stack) a room (z .inside) (z .own) (h .stack) })
+
+  pub exit-keeps-slots : (i a : ℕ) → Sound cfg st → CanExit cfg st i a → slotsSound cfg (exited st i a .slots) ≡ true
+  exit-keeps-slots i a s z =
+      let x = slotIn (st .slots) i in
+      let h = instance-at cfg st s i (z .who .there .used) in
+      changed cfg st s i (exiting x) (z .who .there .used)
+      (record { life = h .life; owed = h .owed; stack = pop-sound cfg (x .life) (x .stack) (z .some) (h .stack) })
+
+  pub call-keeps-slots : (i o : ℕ) (v : Value) → Sound cfg st → CanCall cfg st i o v → slotsSound cfg (called cfg st i o v .slots) ≡ true
+  unfolding called callerAfter owedSound stackSound
+  call-keeps-slots i o v s z = go (operationConfIn (cfg .operations) o .asynchronous) refl
+    where
+      go : (b : Bool) → operationConfIn (cfg .operations) o .asynchronous ≡ b → slotsSound cfg (withSlot (st .slots) i (pick b (slotIn (st .slots) i) (waitingOn (slotIn (st .slots) i) o))) ≡ true
+      go true e = changed cfg st s i (slotIn (st .slots) i) (z .who .there .used) (instance-at cfg st s i (z .who .there .used))
+      go false e =
+          let x = slotIn (st .slots) i in
+          let h = instance-at cfg st s i (z .who .there .used) in
+          changed cfg st s i (waitingOn x o) (z .who .there .used)
+          (record { life = life-waits cfg (x .life) o (z .inside) e (z .own) (h .life); owed = h .owed; stack = h .stack })
+
+  pub collect-keeps-slots : (i o : ℕ) → Sound cfg st → CanCollect cfg st i o → slotsSound cfg (collected st i .slots) ≡ true
+  unfolding owedSound stackSound
+  collect-keeps-slots i o s z =
+      let x = slotIn (st .slots) i in
+      let h = instance-at cfg st s i (z .there .used) in
+      changed cfg st s i (runningOn x) (z .there .used) (record { life = life-runs cfg (x .life) (h .life); owed = h .owed; stack = h .stack })
+
+  pub hand-back-keeps-slots : (i : ℕ) (v : Value) → Sound cfg st → CanHandBack cfg st i v → slotsSound cfg (finished st st i .slots) ≡ true
+  unfolding owedSound stackSound isNoClient isVoid
+  hand-back-keeps-slots i v s z =
+      let x = slotIn (st .slots) i in
+      let h = instance-at cfg st s i (z .who .there .used) in
+      let e = owed-server cfg (x .life) (x .owed) (h .owed) (z .serving) in
+      changed cfg st s i (finishing x) (z .who .there .used)
+      (record { life = life-finishes cfg (x .life) e (h .life); owed = rw e; stack = h .stack })
+
+  pub end-keeps-slots : (i : ℕ) → Sound cfg st → CanEnd st i → slotsSound cfg (emptied st i .slots) ≡ true
+  end-keeps-slots i s z = slots-put cfg (st .slots) i noSlot (s .slots) (blank-slot cfg)
+
+  pub spawn-keeps-slots : (r : ℕ) → Sound cfg st → CanSpawn cfg st r → slotsSound cfg (spawned cfg st r (lowestEmpty (st .slots)) .slots) ≡ true
+  unfolding spawned instanceOf isDue owedSound isServer isNoClient isVoid
+  spawn-keeps-slots r s z = go (eqb (c .capacity) 0) refl
+    where
+      c : RunnableConf
+      c = runnableConfIn (cfg .runnables) r
+
+      x : Runnable
+      x = runnableIn (st .runnables) r
+
+      w : Owed
+      w = record { serving = true; client = firstRequest (x .requests) }
+
+      go : (b : Bool) → eqb (c .capacity) 0 ≡ b → slotsSound cfg (withSlot (st .slots) (lowestEmpty (st .slots)) (pick b (fresh r noOwed) (fresh r w))) ≡ true
+      go true e =
+          changed cfg st s (lowestEmpty (st .slots)) (fresh r noOwed) refl
+          (record { life = life-fresh cfg r (z .inside); owed = rw (eqb-true (c .capacity) 0 e); stack = stack-fresh cfg _ })
+      go false e =
+          let d : 0 < x .requests .queued = ltb-true 0 _ (rw e at (z .due)) in
+          let n : 0 < c .capacity = omega (arith, eqb-false (c .capacity) 0 e) in
+          changed cfg st s (lowestEmpty (st .slots)) (fresh r w) refl
+          (record { life = life-fresh cfg r (z .inside); owed = rw (lt-ltb 0 (c .capacity) n) (first-fits cfg r (x .requests) (sits-at cfg st s r (z .inside) .requests) (s .config) d); stack = stack-fresh cfg _ })

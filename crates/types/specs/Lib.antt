@@ -1,0 +1,2 @@
+-- The types of values, configurations, states and entries.
+pub mod Types
