@@ -19,13 +19,13 @@ use Rattle.types.specs.Types.{Operation, Operations}
 use Rattle.state.specs.Parts.{noOperation}
 use Rattle.state.specs.Tables.{operationIn, withOperation}
 use Rattle.stays_sound.proofs.Clients.{calling-inside}
-use Rattle.history.specs.History.{How, Ending, endsOf, lastOn}
+use Rattle.history.specs.History.{How, Ending, endsOf, lastOn, given, delivered, endedCall}
 use Rattle.history.proofs.Beside.{set-each, set-both}
-use Rattle.history.proofs.Tied.{given, delivered, endedCall, AllProper, Calls, Proper}
+use Rattle.history.proofs.Tied.{AllProper, Calls, Proper}
 
 -- ---- one ending more
 
-ends-more : (k : ℕ) (e : Ending) (es : List Ending) → endsOf k (e ∷ es) ≡ bit (eqb (e .call) k) + endsOf k es
+pub ends-more : (k : ℕ) (e : Ending) (es : List Ending) → endsOf k (e ∷ es) ≡ bit (eqb (e .call) k) + endsOf k es
 unfolding endsOf
 ends-more k e es = refl
 

@@ -66,7 +66,7 @@ pub answer-latest : (st : State) (h : History) (i : ℕ) → serves st i ≡ tru
 unfolding answers
 answer-latest st h i v a t =
     let c : Client = clientOf st i in
-    let tag : Tag (st .operations) (h .latest) c (takenBy h i) = t .served .each i v in
+    let tag : Tag (st .operations) (h .latest) (h .endings) c (takenBy h i) = t .served .each i v in
     let open-still = both-left (operationIn (st .operations) (c .operation) .calling) _ a in
     let its-number = sym (eqb-true _ _ (both-right (operationIn (st .operations) (c .operation) .calling) _ a)) in
     record { calling = rw (tag .same) open-still; latest = rw (tag .same) (tag .newest open-still its-number) }

@@ -1,6 +1,6 @@
 -- From the facts of a reached state and its history to what the promises say of them.
 -- Areas: a count of one is one holder, which holds it once, and no other (`holder`); a count of none is none (`no-holder`). Queued values: `values-told`.
--- Results: an operation Done with a Number holds what its last ending gave (`number-from`), that ending counts (`last-counts`) and so it is the only one of its
+-- Calls: an operation is open exactly if its latest call has no ending (`open-unended`). What a call, a hand back and a result answer (`call-way`, `back-way`, `result-way`). Results: an operation Done with a Number holds what its last ending gave (`number-from`), that ending counts (`last-counts`) and so it is the only one of its
 -- call (`done-final`). A spawn of a server takes the oldest request (`took-oldest`).
 -- Assumes nothing.
 use Prim.Native.Nat.{ℕ, _+_, _≤_, _<_}
@@ -8,27 +8,30 @@ use mathlib.Core.Bool.{Bool, true, false, not}
 use mathlib.Core.List.{List, [], _∷_}
 use mathlib.Core.Option.{some}
 use mathlib.Core.Path.{_≡_, refl, sym, _∙_, ap}
+use native.Mathlib.Decide.{ℕ-discrete}
 use native.Mathlib.Omega.{arith}
 use lib.Dec.{ltb, leb, eqb}
 use lib.ListN.{getD}
 use lib.Seq.{getD-set-same}
-use borrow.Author.Tests.{leb-true, eqb-true, eq-eqb}
-use Rattle.numbers.specs.Codes.{spawnCode}
+use borrow.Author.Tests.{lt-ltb, leb-true, eqb-true, eq-eqb, ne-eqb}
+use Rattle.numbers.specs.Codes.{callCode, resultCode, handBackCode, spawnCode}
 use Rattle.laws.specs.Choice.{pick, both, bit}
 use Rattle.laws.specs.Loop.{sumBelow}
-use Rattle.laws.proofs.Choosing.{both-left, both-right, all-told}
+use Rattle.laws.proofs.Choosing.{clash, both-left, both-right, all-told}
 use Rattle.laws.proofs.Looping.{all-at, sum-term, sum-two, sum-find, count-most}
-use Rattle.types.specs.Types.{Value, Step, Config, State}
-use Rattle.values.specs.Values.{numberV, isVoid}
+use Rattle.types.specs.Types.{Value, Step, Config, Client, State}
+use Rattle.values.specs.Values.{numberV, okV, limitV, noDataV, isVoid}
 use Rattle.config.specs.Tables.{requiredConfIn}
 use Rattle.entries.specs.Faults.{isServer}
 use Rattle.state.specs.Tables.{areaIn, elementIn, operationIn, slotIn}
 use Rattle.rules.specs.Sound.{isStored, valuesSound, elementSound, elementsSound, timesIn, holders, isNoSlot, slotSound, slotsSound}
-use Rattle.effects.specs.Steps.{isOpen, lowestEmpty}
+use Rattle.effects.specs.Steps.{isOpen, answers, clientOf, lowestEmpty}
 use Rattle.stays_sound.specs.Facts.{Sound, CanSpawn}
-use Rattle.history.specs.History.{noRequest, How, byTimeout, byInstance, Ending, History, takenBy, queuedAt, observe, endsOf, lastOn}
-use Rattle.history.proofs.Tied.{given, delivered, AllProper, Tied, Proper}
+use Rattle.stays_sound.proofs.Ways.{Way, callOpen, call, pollOpen, poll, collect, answer, late}
+use Rattle.history.specs.History.{noRequest, How, byTimeout, byInstance, Ending, History, takenBy, queuedAt, latestOn, observe, endsOf, lastOn, isUnended, given, delivered}
+use Rattle.history.proofs.Tied.{AllProper, Tied, Proper}
 use Rattle.history.proofs.Deeds.{server-adds}
+use Rattle.history.proofs.Ended.{answer-latest}
 
 -- ---- areas
 
@@ -70,7 +73,63 @@ values-told cfg st q g b =
     let held = pick (both (ltb q (cfg .required .n)) (eqb c 0)) (isStored (x .value)) (both (isVoid (x .value)) (not (x .updated))) in
     leb-true _ _ (both-left (leb (x .queue .queued) c) _ (both-right held _ (all-at (λ (q : ℕ). elementSound cfg q (elementIn (st .elements) q)) 16 (g .elements) q b)))
 
+-- ---- open calls
+
+pub open-unended : (st : State) (h : History) (o : ℕ) → Tied st h → isOpen st o ≡ isUnended h o
+unfolding isUnended
+open-unended st h o t = go (isOpen st o) refl
+  where
+    shut : isOpen st o ≡ false → Dec (latestOn h o ≡ 0) → false ≡ both (ltb 0 (latestOn h o)) (eqb (endsOf (latestOn h o) (h .endings)) 0)
+    shut e (yes q) = rw q
+    shut e (no n) =
+        let b : 0 < latestOn h o = omega (arith, n) in
+        rw (lt-ltb 0 (latestOn h o) b, ne-eqb (endsOf (latestOn h o) (h .endings)) 0 (λ z. omega (arith, z, rw e at (t .calls .state o b))))
+
+    go : (b : Bool) → isOpen st o ≡ b → isOpen st o ≡ both (ltb 0 (latestOn h o)) (eqb (endsOf (latestOn h o) (h .endings)) 0)
+    go true e =
+        let b = t .calls .begun o e in
+        e ∙ rw (lt-ltb 0 (latestOn h o) b, eq-eqb (endsOf (latestOn h o) (h .endings)) 0 (omega (arith, rw e at (t .calls .state o b))))
+    go false e = e ∙ shut e (ℕ-discrete (latestOn h o) 0)
+
+-- ---- what is answered
+
+-- a call is Limit in a call, and else Ok
+call-way : (cfg : Config) (st : State) (s : Step) {w : Value} {t : State} → Way cfg st s callCode w t → w ≡ pick (isOpen st (s .what)) limitV okV
+call-way cfg st s (callOpen e) = rw e
+call-way cfg st s (call z) = rw (z .shut)
+
+pub call-alone : (cfg : Config) (st : State) (s : Step) (h : History) {w : Value} {t : State} → Tied st h → Way cfg st s callCode w t → w ≡ pick (isUnended h (s .what)) limitV okV
+call-alone cfg st s h t way = call-way cfg st s way ∙ ap (λ (b : Bool). pick b limitV okV) (open-unended st h (s .what) t)
+
+-- a hand back in time is of the call that its instance was spawned for, which has no ending; in any other that call has one
+pub back-way : (cfg : Config) (st : State) (s : Step) (h : History) {w : Value} {t : State} → Tied st h → Way cfg st s handBackCode w t
+    → w ≡ numberV (bit (eqb (endsOf (takenBy h (s .who) .at) (h .endings)) 0))
+unfolding answers
+back-way cfg st s h t (answer z e) =
+    let a = answer-latest st h (s .who) (z .serving) e t in
+    let o = takenBy h (s .who) .on in
+    let b = t .calls .begun o (a .calling) in
+    rw (a .latest, eq-eqb (endsOf (latestOn h o) (h .endings)) 0 (omega (arith, rw (a .calling) at (t .calls .state o b))))
+back-way cfg st s h t (late z e) =
+    let c : Client = clientOf st (s .who) in
+    rw (ne-eqb (endsOf (takenBy h (s .who) .at) (h .endings)) 0
+    (λ q. let m = t .served .each (s .who) (z .serving) .unended q in
+    clash (answers (st .operations) c) (rw (m .0, eq-eqb (operationIn (st .operations) (c .operation) .number) (c .number) (sym (m .1)))) e))
+
 -- ---- results
+
+-- a result is NoData in a call, and else what the operation is Done with
+result-way : (cfg : Config) (st : State) (s : Step) {w : Value} {t : State} → Way cfg st s resultCode w t → w ≡ pick (isOpen st (s .what)) noDataV (operationIn (st .operations) (s .what) .done)
+result-way cfg st s (pollOpen e) = rw e
+result-way cfg st s (poll e) = rw e
+result-way cfg st s (collect z) = rw (z .shut)
+
+pub result-delivered : (cfg : Config) (st : State) (s : Step) (h : History) {w : Value} {t : State} → Tied st h → Way cfg st s resultCode w t → w ≡ pick (isUnended h (s .what)) noDataV (delivered (lastOn (s .what) (h .endings)))
+result-delivered cfg st s h t way = result-way cfg st s way ∙ go (isOpen st (s .what)) refl ∙ ap (λ (b : Bool). pick b noDataV (delivered (lastOn (s .what) (h .endings)))) (open-unended st h (s .what) t)
+  where
+    go : (b : Bool) → isOpen st (s .what) ≡ b → pick b noDataV (operationIn (st .operations) (s .what) .done) ≡ pick b noDataV (delivered (lastOn (s .what) (h .endings)))
+    go true e = refl
+    go false e = t .calls .last (s .what) e
 
 -- a value that is a Number came from an instance, and by a proper ending from one spawned for that call
 number-from : (o n : ℕ) (l : List Ending) → AllProper l → numberV n ≡ delivered (lastOn o l) → (e : Ending) × (lastOn o l ≡ some e) × (e .how ≡ byInstance (e .call) (numberV n))

@@ -14,8 +14,12 @@ pub mod Timed
 pub mod Ticked
 pub mod Ended
 pub mod Accepts
+pub mod Lets
 pub mod Finals
 pub mod Held
+pub mod Unended
+pub mod Lives
 pub mod Reached
 pub mod Proofs
 pub mod Together
+pub mod Refuted

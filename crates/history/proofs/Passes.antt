@@ -28,7 +28,7 @@ pub same-calls : (os : Operations) → SameCalls 0 os os
 same-calls os = record { number = λ o. refl; calling = λ o. refl; done = λ o. refl; count = λ o e. add-zero _ }
 
 pub alike-same : (st : State) → Alike 0 st st
-alike-same st = record { operations = same-calls (st .operations); requests = λ r. refl; owed = λ k. refl }
+alike-same st = record { operations = same-calls (st .operations); requests = λ r. refl; owed = λ k. refl; used = λ k. refl }
 
 -- areas and stacks are as they were
 pub record Unmoved (st st′ : State) : Type 0 where
@@ -55,30 +55,36 @@ still st st′ e f g a = record { alike = a; unmoved = unmoved-by st st′ e f; 
 -- ---- variables and elements
 
 pub write-variable-calm : (st : State) (v : ℕ) (x : Value) → Calm 0 st (stored st v x)
-write-variable-calm st v x = still st _ refl refl refl (record { operations = same-calls (st .operations); requests = λ r. refl; owed = λ k. refl })
+write-variable-calm st v x = still st _ refl refl refl (record { operations = same-calls (st .operations); requests = λ r. refl; owed = λ k. refl; used = λ k. refl })
 
 -- other elements, as after a read, an invalidate and a receive
 pub elements-calm : (st : State) (t : Elements) → Calm 0 st (withElements st t)
-elements-calm st t = still st _ refl refl refl (record { operations = same-calls (st .operations); requests = λ r. refl; owed = λ k. refl })
+elements-calm st t = still st _ refl refl refl (record { operations = same-calls (st .operations); requests = λ r. refl; owed = λ k. refl; used = λ k. refl })
 
 pub fed-calm : (cfg : Config) (st : State) (p : ℕ) (v : Value) → Calm 0 st (fed cfg st p v)
 unfolding fed
-fed-calm cfg st p v = still st _ refl refl refl (record { operations = same-calls (st .operations); requests = fed-kept (λ x. x .requests) (λ x. refl) cfg (st .elements) p (st .runnables); owed = λ k. refl })
+fed-calm cfg st p v = still st _ refl refl refl (record { operations = same-calls (st .operations); requests = fed-kept (λ x. x .requests) (λ x. refl) cfg (st .elements) p (st .runnables); owed = λ k. refl; used = λ k. refl })
 
 -- ---- a slot that owes what it owed
 
-slot-alike : (st m : State) (i : ℕ) (x : Slot) → m .operations ≡ st .operations → m .runnables ≡ st .runnables → x .owed ≡ slotIn (st .slots) i .owed → Alike 0 st (withSlots m (withSlot (st .slots) i x))
-slot-alike st m i x e f o = record { operations = rw e (same-calls (st .operations)); requests = λ r. rw f; owed = slot-kept (λ y. y .owed) (st .slots) i x o }
+slot-alike : (st m : State) (i : ℕ) (x : Slot) → m .operations ≡ st .operations → m .runnables ≡ st .runnables → x .owed ≡ slotIn (st .slots) i .owed → x .used ≡ slotIn (st .slots) i .used
+    → Alike 0 st (withSlots m (withSlot (st .slots) i x))
+slot-alike st m i x e f o u = record {
+  operations = rw e (same-calls (st .operations));
+  requests = λ r. rw f;
+  owed = slot-kept (λ y. y .owed) (st .slots) i x o;
+  used = slot-kept (λ y. y .used) (st .slots) i x u;
+}
 
 pub enter-alike : (st : State) (i a : ℕ) → Alike 0 st (entered st i a)
-enter-alike st i a = slot-alike st (withAreas st _) i _ refl refl refl
+enter-alike st i a = slot-alike st (withAreas st _) i _ refl refl refl refl
 
 pub exit-alike : (st : State) (i a : ℕ) → Alike 0 st (exited st i a)
-exit-alike st i a = slot-alike st (withAreas st _) i _ refl refl refl
+exit-alike st i a = slot-alike st (withAreas st _) i _ refl refl refl refl
 
 pub collect-calm : (st : State) (i : ℕ) → Calm 0 st (collected st i)
 collect-calm st i = record {
-  alike = slot-alike st st i _ refl refl refl;
+  alike = slot-alike st st i _ refl refl refl refl;
   unmoved = record { areas = λ a. refl; stacks = λ a. slot-kept (λ x. timesIn a (x .stack)) (st .slots) i (runningOn (slotIn (st .slots) i)) refl };
   timers = refl;
 }
@@ -90,6 +96,7 @@ tick-alike cfg st t = record {
   operations = same-calls (st .operations);
   requests = runnable-kept (λ x. x .requests) (st .runnables) (timerConfIn (cfg .timers) t .runnable) (woken (runnableIn (st .runnables) (timerConfIn (cfg .timers) t .runnable))) refl;
   owed = λ k. refl;
+  used = λ k. refl;
 }
 
 pub tick-unmoved : (cfg : Config) (st : State) (t : ℕ) → Unmoved st (ticked cfg st t)
@@ -125,7 +132,7 @@ module _ (cfg : Config) (st : State) (t : ℕ) (g : Sound cfg st) (z : CanWait c
 
   pub wait-alike : Alike t st (waited cfg st t)
   unfolding waited
-  wait-alike = record { operations = wait-calls; requests = after-kept (λ x. x .requests) t (λ x. refl) cfg (st .runnables); owed = λ k. refl }
+  wait-alike = record { operations = wait-calls; requests = after-kept (λ x. x .requests) t (λ x. refl) cfg (st .runnables); owed = λ k. refl; used = λ k. refl }
 
   pub wait-unmoved : Unmoved st (waited cfg st t)
   unfolding waited

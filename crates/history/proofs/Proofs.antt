@@ -2,8 +2,8 @@
 -- recording's history (`tied-at`), whose places are started calls (`named-at`) and whose queues are first in, first out (`fifo-at`); a promise about a step inside
 -- a recording is read off the run before it (`halves`).
 -- Assumes nothing.
-use Prim.Native.Nat.{ℕ}
-use mathlib.Core.Bool.{Bool, true, false}
+use Prim.Native.Nat.{ℕ, _+_, _<_}
+use mathlib.Core.Bool.{true}
 use mathlib.Core.List.{List, _∷_, _++_}
 use mathlib.Core.Option.{some}
 use mathlib.Core.Path.{_≡_, refl, sym, _∙_, ap}
@@ -11,29 +11,32 @@ use native.Mathlib.Nat.{add-zero}
 use native.Mathlib.Omega.{arith}
 use lib.ListN.{length, getD, length-drop}
 use lib.Seq.{getD-drop}
-use borrow.Author.Tests.{lt-ltb, eq-eqb}
+use borrow.Author.Tests.{ltb-true, ltb-false, lt-ltb, eq-eqb}
 use Rattle.laws.specs.Choice.{bit}
-use Rattle.types.specs.Types.{Step, Config, State}
+use Rattle.types.specs.Types.{Step, Taken, Config, State}
 use Rattle.entries.specs.Faults.{isServer, configSound}
 use Rattle.state.specs.Start.{startOf}
-use Rattle.state.specs.Tables.{operationIn, slotIn}
+use Rattle.state.specs.Tables.{slotIn}
+use Rattle.effects.specs.Steps.{lowestEmpty}
 use Rattle.effects.specs.Step.{stepOf}
 use Rattle.stays_sound.specs.Facts.{Sound}
 use Rattle.rules.proofs.Configured.{runnables-most, areas-most, server-there}
-use Rattle.stays_sound.proofs.Kept.{here}
+use Rattle.stays_sound.proofs.Kept.{here, lowest-empty}
 use Rattle.stays_sound.proofs.Areas.{times-none, exit-stack}
 use Rattle.stays_sound.proofs.Clients.{requests-told}
 use Rattle.stays_sound.proofs.Ways.{Way}
 use Rattle.stays_sound.proofs.Accepted.{way, enter-told, exit-told, result-told, answer-told, end-told, spawn-told, timeout-told, tick-told}
-use Rattle.history.specs.History.{noRequest, History, historyOf, takenBy, holderOf, allQueued, allSpawns}
-use Rattle.history.specs.Promises.{Run, OfRuns, OfSteps, StaysSound, AreasHeld, EntersFree, ExitsHeld, EndsEmpty, RequestsFit, ValuesFit, EndsOnce, EndsProperly, TimeoutAtZero, TimeoutInTime, BackInTime, TicksInTime, OpenInTime, CountIsRest, NumberIsFinal, DoneIsFinal, OpenIsUnended, LatestStarted, QueuesFollowed, ServedFollowed, FirstInFirstOut, SpawnTakesNext}
-use Rattle.history.proofs.Tied.{Tied}
+use Rattle.history.specs.History.{noRequest, History, historyOf, takenBy, latestOn, endsOf, isUnended, livesIn, holderOf, allQueued, allSpawns}
+use Rattle.history.specs.Promises.{Run, OfRuns, OfSteps, StaysSound, HeldBy, AreasHeld, EntersFree, ExitsHeld, EndsEmpty, SpawnsEmpty, ActsAlive, HolderStays, RequestsFit, ValuesFit, CallsOneByOne, BackIsAnswered, EndsOnce, EndsProperly, TimeoutAtZero, TimeoutInTime, BackInTime, OpenInTime, TicksInTime, TimersInTime, ResultIsDelivered, DoneIsDelivered, NumberIsFinal, DoneIsFinal, UsedIsLived, OpenIsUnended, UnendedIsLatest, LatestStarted, CountIsRest, QueuesFollowed, ServedFollowed, FirstInFirstOut, SpawnTakesNext}
 use Rattle.history.proofs.Runs.{Halves, halves, first, history-one}
 use Rattle.history.proofs.Deeds.{due-server}
 use Rattle.history.proofs.Ended.{ended-at, answer-latest}
-use Rattle.history.proofs.Reached.{sound-along, sound-at, tied-at, named-at, fifo-at, timed-at, ticked-at, ended-along, holds-at, ends-grow}
+use Rattle.history.proofs.Reached.{sound-along, sound-at, tied-at, named-at, fifo-at, timed-at, ticked-at, ended-along, holds-at, unended-at, lives-at, ends-grow}
+use Rattle.history.proofs.Lets.{taker-used, collected-shut}
+use Rattle.history.proofs.Unended.{started-some}
+use Rattle.history.proofs.Lives.{lives-one, lives-on}
 use Rattle.history.proofs.Held.{Holds, held-by, free-none, stack-holder}
-use Rattle.history.proofs.Finals.{values-told, done-final, took-oldest}
+use Rattle.history.proofs.Finals.{values-told, open-unended, call-alone, back-way, result-delivered, done-final, took-oldest}
 
 -- ---- a step inside a recording
 
@@ -45,8 +48,11 @@ module _ (cfg : Config) (before after : List Step) (s : Step) (st : State) (c : 
   sound-before : Sound cfg (found .mid)
   sound-before = sound-at cfg before (found .mid) c (found .before)
 
+  taken-there : stepOf cfg (found .mid) s .answer ≡ Taken (s .claim)
+  taken-there = first cfg (found .mid) st s after (found .after)
+
   way-there : {n : ℕ} → s .code ≡ n → Way cfg (found .mid) s n (s .claim) (stepOf cfg (found .mid) s .state)
-  way-there q = way cfg (found .mid) s q (first cfg (found .mid) st s after (found .after))
+  way-there q = way cfg (found .mid) s q taken-there
 
 -- ---- states
 
@@ -80,6 +86,36 @@ ends-empty cfg before after s st c e q a b h =
     let w : Holds (m .mid) a (some (s .who)) = rw h at (holds-at cfg before (m .mid) a (m .before)) in
     omega (arith, w .1, times-none a (slotIn (m .mid .slots) (s .who) .stack) (z .flat))
 
+pub spawns-empty : OfSteps SpawnsEmpty
+spawns-empty cfg before after s st c e q =
+    let m = found cfg before after s st c e in
+    let z = spawn-told cfg (m .mid) s (way-there cfg before after s st c e q) in
+    let k = lowestEmpty (m .mid .slots) in
+    rw (z .1) (z .0 .slot, omega (arith, ltb-false 0 (livesIn k before) (sym (lives-at cfg before (m .mid) (m .before) .used k) ∙ lowest-empty (m .mid .slots) (z .0 .slot))))
+
+pub acts-alive : OfSteps ActsAlive
+acts-alive cfg before after s st c e w =
+    let m = found cfg before after s st c e in
+    ltb-true 0 (livesIn (s .who) before) (sym (lives-at cfg before (m .mid) (m .before) .used (s .who)) ∙ taker-used cfg (m .mid) s (taken-there cfg before after s st c e) w)
+
+pub holder-stays : OfSteps HolderStays
+holder-stays cfg before after s st c e a i b h = (
+  lives,
+  lives-one i before s
+      ∙ lives-on i (length before + 1) (livesIn i before) s
+      (λ q z. omega (arith, lives, spawns-empty cfg before after s st c e q .1, ap (λ (j : ℕ). livesIn j before) z))
+      (λ q z. ends-empty cfg before after s st c e q a b (h ∙ ap some (sym z))),
+)
+  where
+    m : Halves cfg (startOf cfg) st before (s ∷ after)
+    m = found cfg before after s st c e
+
+    held : HeldBy (m .mid) a (some i)
+    held = rw h at (areas-held cfg before (m .mid) c (m .before) a b)
+
+    lives : 0 < livesIn i before
+    lives = ltb-true 0 (livesIn i before) (sym (lives-at cfg before (m .mid) (m .before) .used i) ∙ held .2)
+
 pub requests-fit : OfRuns RequestsFit
 requests-fit cfg rs st c e r b = requests-told cfg st r (sound-at cfg rs st c e) b .0
 
@@ -87,6 +123,16 @@ pub values-fit : OfRuns ValuesFit
 values-fit cfg rs st c e q b = values-told cfg st q (sound-at cfg rs st c e) b
 
 -- ---- calls
+
+pub calls-one-by-one : OfSteps CallsOneByOne
+calls-one-by-one cfg before after s st c e q =
+    let m = found cfg before after s st c e in
+    call-alone cfg (m .mid) s (historyOf cfg before) (tied-at cfg before (m .mid) (m .before)) (way-there cfg before after s st c e q)
+
+pub back-is-answered : OfSteps BackIsAnswered
+back-is-answered cfg before after s st c e q =
+    let m = found cfg before after s st c e in
+    back-way cfg (m .mid) s (historyOf cfg before) (tied-at cfg before (m .mid) (m .before)) (way-there cfg before after s st c e q)
 
 pub ends-once : OfRuns EndsOnce
 ends-once cfg rs st c e k = tied-at cfg rs st e .calls .once k
@@ -115,11 +161,36 @@ back-in-time cfg before after s st c e q v =
     let w = answer-latest (m .mid) (historyOf cfg before) (s .who) (z .0 .serving) (z .1) (tied-at cfg before (m .mid) (m .before)) in
     rw (w .latest) (omega (arith, timed-at cfg before (m .mid) (m .before) .rest (takenBy (historyOf cfg before) (s .who) .on) (w .calling)))
 
+-- a call without an ending is the latest of its operation, which is Calling
+pub open-in-time : OfRuns OpenInTime
+unfolding isUnended
+open-in-time cfg rs st c e k o x z =
+    let l = unended-at cfg rs st e .latest k o x z in
+    let h = historyOf cfg rs in
+    let b : 0 < latestOn h o = omega (arith, l, started-some rs k o x) in
+    let u : endsOf (latestOn h o) (h .endings) ≡ 0 = ap (λ (j : ℕ). endsOf j (h .endings)) (sym l) ∙ z in
+    let w : isUnended h o ≡ true = rw (lt-ltb 0 (latestOn h o) b, eq-eqb (endsOf (latestOn h o) (h .endings)) 0 u) in
+    rw l (omega (arith, timed-at cfg rs st e .rest o (open-unended st h o (tied-at cfg rs st e) ∙ w)))
+
 pub ticks-in-time : OfSteps TicksInTime
 ticks-in-time cfg before after s st c e q =
     let m = found cfg before after s st c e in
     let z = tick-told cfg (m .mid) s (way-there cfg before after s st c e q) in
     omega (arith, ticked-at cfg before (m .mid) (m .before) .rest (s .what) (z .inside), z .zero)
+
+pub timers-in-time : OfRuns TimersInTime
+timers-in-time cfg rs st c e k b = omega (arith, ticked-at cfg rs st e .rest k b)
+
+pub result-is-delivered : OfSteps ResultIsDelivered
+result-is-delivered cfg before after s st c e q =
+    let m = found cfg before after s st c e in
+    let t = tied-at cfg before (m .mid) (m .before) in (
+      result-delivered cfg (m .mid) s (historyOf cfg before) t (way-there cfg before after s st c e q),
+      λ f. sym (open-unended (m .mid) (historyOf cfg before) (s .what) t) ∙ collected-shut cfg (m .mid) s (taken-there cfg before after s st c e) q f,
+    )
+
+pub done-is-delivered : OfRuns DoneIsDelivered
+done-is-delivered cfg rs st c e o b q = let t = tied-at cfg rs st e in (t .calls .last o q, t .calls .ended o q)
 
 pub number-is-final : OfSteps NumberIsFinal
 number-is-final cfg before after s st c e n q k =
@@ -133,21 +204,14 @@ done-is-final cfg rs st c e o n b x y = done-final st (historyOf cfg rs) o n (ti
 
 -- ---- that the history misses and invents nothing
 
+pub used-is-lived : OfRuns UsedIsLived
+used-is-lived cfg rs st c e i b = lives-at cfg rs st e .used i
+
 pub open-is-unended : OfRuns OpenIsUnended
-open-is-unended cfg rs st c e o b = (
-  λ q. (t .calls .begun o q, omega (arith, rw q at (t .calls .state o (t .calls .begun o q)))),
-  λ p. on (operationIn (st .operations) o .calling) (omega (arith, p .1, t .calls .state o (p .0))),
-)
-  where
-    t : Tied st (historyOf cfg rs)
-    t = tied-at cfg rs st e
+open-is-unended cfg rs st c e o b = open-unended st (historyOf cfg rs) o (tied-at cfg rs st e)
 
-    on : (x : Bool) → bit x ≡ 1 → x ≡ true
-    on true q = refl
-    on false q = absurd (omega arith)
-
-pub open-in-time : OfRuns OpenInTime
-open-in-time cfg rs st c e o b p q = omega (arith, timed-at cfg rs st e .rest o (open-is-unended cfg rs st c e o b .1 (p, q)))
+pub unended-is-latest : OfRuns UnendedIsLatest
+unended-is-latest cfg rs st c e k o x z = unended-at cfg rs st e .latest k o x z
 
 pub count-is-rest : OfRuns CountIsRest
 count-is-rest cfg rs st c e o q = timed-at cfg rs st e .rest o q

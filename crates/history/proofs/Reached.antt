@@ -1,6 +1,7 @@
 -- What holds of every run and the state that it reaches, each by the one induction over the recording (`along`): the state is sound (`sound-at`) and tied to the
 -- history (`tied-at`), the history's places are started calls (`named-at`), each server's queue is first in, first out (`fifo-at`), the counts of open calls are
--- what is left of their time (`timed-at`), as those of timers are of their periods (`ticked-at`), each ending stands at its step, in time (`ended-along`), and areas stand with whoever entered them (`holds-at`).
+-- what is left of their time (`timed-at`), as those of timers are of their periods (`ticked-at`), each ending stands at its step, in time (`ended-along`), areas stand with whoever entered
+-- them (`holds-at`), a call without an ending is the latest of its operation (`unended-at`), and a slot is in use while an instance lives there (`lives-at`).
 -- Endings are only added: a call has ended at least as often after more steps (`ends-grow`).
 -- Assumes nothing.
 use Prim.Native.Nat.{ℕ, _≤_, _<_}
@@ -8,11 +9,7 @@ use mathlib.Core.Bool.{true}
 use mathlib.Core.List.{List, [], _∷_, _++_}
 use mathlib.Core.Path.{_≡_}
 use native.Mathlib.Omega.{arith}
-use lib.Dec.{eqb}
-use Rattle.numbers.specs.Codes.{callCode, handBackCode, endCode, spawnCode, timeoutCode}
-use Rattle.laws.proofs.Choosing.{pick-has}
 use Rattle.types.specs.Types.{Step, Config, State}
-use Rattle.values.specs.Values.{okV, sameValue}
 use Rattle.entries.specs.Faults.{isServer, configSound}
 use Rattle.rules.specs.Sound.{soundOf}
 use Rattle.effects.specs.Step.{stepOf}
@@ -33,6 +30,8 @@ use Rattle.history.proofs.Fifo.{Fifo, fifo-start, fifo-deed}
 use Rattle.history.proofs.Timed.{Timed, timed-start, timed-deed}
 use Rattle.history.proofs.Ticked.{Ticked, ticked-start, clocks, ticked-deed}
 use Rattle.history.proofs.Ended.{AllEnded, ended-start, ended-deed}
+use Rattle.history.proofs.Unended.{Unended, grows, unended-start, unended-deed}
+use Rattle.history.proofs.Lives.{Lives, lives-start, lives-deed}
 use Rattle.history.proofs.Held.{Holds, holder-one, moves, holds-start, holds-deed}
 
 -- ---- by induction over the recording
@@ -98,17 +97,22 @@ holds-at cfg rs st a e =
     rw (holder-one a before s) (holds-deed cfg m s g (stepOf cfg m s .state) (moves cfg m s (stepOf cfg m s .state) g (deed cfg m s x)) a (holderOf a before) h))
     (holds-start cfg a) rs st e
 
--- ---- endings are only added
+pub unended-at : (cfg : Config) (rs : List Step) (st : State) → Run cfg rs st → Unended rs (historyOf cfg rs)
+unfolding historyOf historyFrom
+unended-at cfg rs st e =
+    along cfg (λ before m. Unended before (historyOf cfg before))
+    (λ before s m r u a.
+    rw (history-one cfg before s)
+    (unended-deed cfg m s (stepOf cfg m s .state) before (historyOf cfg before) (told cfg m (accepted cfg m s (s .claim) a .0)) (deed cfg m s a) (tied-at cfg before m r) (named-at cfg before m r) u))
+    unended-start rs st e
 
-grows : (cfg : Config) (h : History) (s : Step) (k : ℕ) → endsOf k (h .endings) ≤ endsOf k (observe cfg h s .endings)
-unfolding observe endsOf
-grows cfg h s k =
-    let P : History → Type 0 = λ x. endsOf k (h .endings) ≤ endsOf k (x .endings) in
-    pick-has P (eqb (s .code) callCode) _ _ (λ c. pick-has P (sameValue (s .claim) okV) _ _ (λ e. omega arith) (λ e. omega arith))
-    (λ c. pick-has P (eqb (s .code) handBackCode) _ _ (λ c. pick-has P (eqb (s .claim .number) 1) _ _ (λ e. omega arith) (λ e. omega arith))
-    (λ c. pick-has P (eqb (s .code) endCode) _ _ (λ c. omega arith)
-    (λ c. pick-has P (eqb (s .code) spawnCode) _ _ (λ c. pick-has P (isServer cfg (s .what)) _ _ (λ e. omega arith) (λ e. omega arith))
-    (λ c. pick-has P (eqb (s .code) timeoutCode) _ _ (λ c. omega arith) (λ c. omega arith)))))
+pub lives-at : (cfg : Config) (rs : List Step) (st : State) → Run cfg rs st → Lives (st .slots) rs
+lives-at cfg rs st e =
+    along cfg (λ before m. Lives (m .slots) before)
+    (λ before s m r l a. lives-deed cfg m s (stepOf cfg m s .state) before (told cfg m (accepted cfg m s (s .claim) a .0)) (deed cfg m s a) l)
+    (lives-start cfg) rs st e
+
+-- ---- endings are only added
 
 grows-from : (cfg : Config) (h : History) (rs : List Step) (k : ℕ) → endsOf k (h .endings) ≤ endsOf k (historyFrom cfg h rs .endings)
 unfolding historyFrom

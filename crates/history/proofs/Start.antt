@@ -51,8 +51,8 @@ tied-start cfg = record {
     size = refl;
     each = λ r.
         rw (no-requests cfg r)
-        (all-alike (λ w. Beside (Tag noOperations (replicate 8 0)) noClient noRequest 0 (replicate 16 noClient) w) 16 [] r
-        (beside-none (Tag noOperations (replicate 8 0)) noClient noRequest (replicate 16 noClient)));
+        (all-alike (λ w. Beside (Tag noOperations (replicate 8 0) []) noClient noRequest 0 (replicate 16 noClient) w) 16 [] r
+        (beside-none (Tag noOperations (replicate 8 0) []) noClient noRequest (replicate 16 noClient)));
   };
   served = record { size = refl; each = λ k e. absurd (clash _ e (none-serves k)) };
   calls = calls-start;

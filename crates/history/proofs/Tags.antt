@@ -1,5 +1,5 @@
 -- What each kind of change does to the clients and the requests beside them.
--- A call that ends asks nothing more of its operation's tags (`tag-close`). A call that starts is of an operation that is not Calling, so no client bears its
+-- A call that ends asks nothing more of its operation's tags, and the client under its number is that of the call that ended (`tag-close`). A call that starts is of an operation that is not Calling, so no client bears its
 -- number yet (`shut-number`, from a sound state) and every other tag stands (`tag-open`); the new client is tagged with the new call (`tag-new`), and both
 -- join the end of their queues (`queues-push`). A spawn takes the oldest of both (`oldest-tag`, `queues-pop`) and puts them side by side on its slot
 -- (`served-put`); a slot that owes nothing asks nothing (`served-idle`).
@@ -12,8 +12,8 @@ use native.Mathlib.Omega.{arith}
 use lib.Dec.{ltb}
 use lib.ListN.{length, getD, set, drop, length-set}
 use lib.Seq.{getD-set-same}
-use borrow.Author.Tests.{ltb-true}
-use Rattle.laws.specs.Choice.{either}
+use borrow.Author.Tests.{ltb-true, eq-eqb}
+use Rattle.laws.specs.Choice.{either, bit}
 use Rattle.laws.proofs.Choosing.{clash}
 use Rattle.laws.proofs.Places.{inside-of}
 use Rattle.types.specs.Types.{Client, Operation, Operations, Runnable, Runnables, Slot, Slots}
@@ -22,10 +22,10 @@ use Rattle.state.specs.Queues.{upOne, pushRequest, firstRequest, restRequests}
 use Rattle.state.specs.Tables.{runnableIn, operationIn, slotIn, withRunnable, withOperation, withSlot}
 use Rattle.rules.specs.Sound.{numbered}
 use Rattle.stays_sound.specs.Facts.{Clients}
-use Rattle.history.specs.History.{Request, noRequest}
+use Rattle.history.specs.History.{Request, noRequest, Ending, endsOf}
 use Rattle.history.proofs.Beside.{set-each, set-both, Beside, beside-push, beside-pop}
 use Rattle.history.proofs.Tied.{Tag, Queues, Served, queues-map, served-map}
-use Rattle.history.proofs.Calls.{operation-each, operation-both}
+use Rattle.history.proofs.Calls.{ends-more, operation-each, operation-both}
 
 -- ---- a place with a request or a client is inside its table
 
@@ -39,38 +39,58 @@ serving-inside ss k e = inside-of (λ y. y .owed .serving ≡ true) (ss .at) k n
 
 -- ---- an operation replaced
 
-tag-close : (os : Operations) (latest : List ℕ) (o : ℕ) (x : Operation) (c : Client) (q : Request) → o < length (os .at) → x .calling ≡ false → Tag os latest c q
-    → Tag (withOperation os o x) latest c q
-tag-close os latest o x c q b e t = record {
+tag-close : (os : Operations) (latest : List ℕ) (es : List Ending) (o : ℕ) (x : Operation) (w : Ending) (c : Client) (q : Request) → o < length (os .at) → x .calling ≡ false → w .call ≡ getD latest o 0
+    → Tag os latest es c q → Tag (withOperation os o x) latest (w ∷ es) c q
+tag-close os latest es o x w c q b e l t = record {
   same = t .same;
   argument = t .argument;
   newest = operation-each (λ j y. j ≡ c .operation → y .calling ≡ true → c .number ≡ y .number → q .at ≡ getD latest j 0) os o x b
       (λ p z n. absurd (clash (x .calling) z e))
       (λ j n p. rw p (t .newest))
       (c .operation) refl;
+  unended = operation-each (λ j y. j ≡ c .operation → endsOf (q .at) (w ∷ es) ≡ 0 → (y .calling ≡ true) × (c .number ≡ y .number)) os o x b
+      (λ p z. absurd (let m = t .unended (before z) in omega (arith, z, ends-more (q .at) w es, ap bit (eq-eqb (w .call) (q .at) (l ∙ ap (λ j. getD latest j 0) p ∙ sym (t .newest (m .0) (m .1)))))))
+      (λ j n p z. rw p (t .unended (before z)))
+      (c .operation) refl;
 }
+  where
+    before : endsOf (q .at) (w ∷ es) ≡ 0 → endsOf (q .at) es ≡ 0
+    before z = omega (arith, z, ends-more (q .at) w es)
 
-tag-open : (os : Operations) (latest : List ℕ) (o p : ℕ) (x : Operation) (c : Client) (q : Request) → o < length (os .at) → o < length latest → (c .operation ≡ o → c .number ≡ x .number → ⊥)
-    → Tag os latest c q → Tag (withOperation os o x) (set latest o p) c q
-tag-open os latest o p x c q b d n t = record {
+tag-open : (os : Operations) (latest : List ℕ) (es : List Ending) (o p : ℕ) (x : Operation) (c : Client) (q : Request) → o < length (os .at) → o < length latest → operationIn os o .calling ≡ false
+    → (c .operation ≡ o → c .number ≡ x .number → ⊥) → Tag os latest es c q → Tag (withOperation os o x) (set latest o p) es c q
+tag-open os latest es o p x c q b d shut n t = record {
   same = t .same;
   argument = t .argument;
   newest = operation-both (λ j y k. j ≡ c .operation → y .calling ≡ true → c .number ≡ y .number → q .at ≡ k) os latest o x p b d
       (λ a z m. absurd (n (sym a) m))
       (λ j m a. rw a (t .newest))
       (c .operation) refl;
+  unended = operation-each (λ j y. j ≡ c .operation → endsOf (q .at) es ≡ 0 → (y .calling ≡ true) × (c .number ≡ y .number)) os o x b
+      (λ a z. absurd (clash (operationIn os o .calling) (rw a (t .unended z .0)) shut))
+      (λ j m a. rw a (t .unended))
+      (c .operation) refl;
 }
 
-pub tag-new : (os : Operations) (latest : List ℕ) (o p : ℕ) (x : Operation) (c : Client) (q : Request) → o < length latest → c .operation ≡ o → q .on ≡ o → q .argument ≡ c .argument → q .at ≡ p
-    → Tag (withOperation os o x) (set latest o p) c q
-tag-new os latest o p x c q d e on argument place = record { same = on ∙ sym e; argument = argument; newest = λ z m. place ∙ sym (ap (λ j. getD (set latest o p) j 0) e ∙ getD-set-same latest o p 0 d) }
+pub tag-new : (os : Operations) (latest : List ℕ) (es : List Ending) (o p : ℕ) (x : Operation) (c : Client) (q : Request) → o < length (os .at) → o < length latest → c .operation ≡ o → q .on ≡ o
+    → q .argument ≡ c .argument → q .at ≡ p → x .calling ≡ true → c .number ≡ x .number
+    → Tag (withOperation os o x) (set latest o p) es c q
+tag-new os latest es o p x c q b d e on argument place calling number = record {
+  same = on ∙ sym e;
+  argument = argument;
+  newest = λ z m. place ∙ sym (ap (λ j. getD (set latest o p) j 0) e ∙ getD-set-same latest o p 0 d);
+  unended = operation-each (λ j y. j ≡ c .operation → endsOf (q .at) es ≡ 0 → (y .calling ≡ true) × (c .number ≡ y .number)) os o x b
+      (λ a z. (calling, number))
+      (λ j n a. absurd (n (a ∙ e)))
+      (c .operation) refl;
+}
 
-module _ (os : Operations) (latest : List ℕ) (o : ℕ) (x : Operation) (b : o < length (os .at)) where
-  pub queues-close : (rs : Runnables) (ws : List (List Request)) → x .calling ≡ false → Queues os latest rs ws → Queues (withOperation os o x) latest rs ws
-  queues-close rs ws e = queues-map os (withOperation os o x) latest latest rs ws (λ r j q l t. tag-close os latest o x _ q b e t)
+module _ (os : Operations) (latest : List ℕ) (es : List Ending) (o : ℕ) (x : Operation) (w : Ending) (b : o < length (os .at)) (e : x .calling ≡ false) (l : w .call ≡ getD latest o 0) where
+  pub queues-close : (rs : Runnables) (ws : List (List Request)) → Queues os latest es rs ws → Queues (withOperation os o x) latest (w ∷ es) rs ws
+  queues-close rs ws = queues-map os (withOperation os o x) latest latest es (w ∷ es) rs ws (λ r j q m t. tag-close os latest es o x w _ q b e l t)
 
-  pub served-close : (ss : Slots) (ts : List Request) → x .calling ≡ false → Served os latest ss ts → Served (withOperation os o x) latest ss ts
-  served-close ss ts e = served-map os (withOperation os o x) latest latest ss ts (λ k q z t. tag-close os latest o x _ q b e t)
+  pub served-close : (ss : Slots) (ts : List Request) → Served os latest es ss ts → Served (withOperation os o x) latest (w ∷ es) ss ts
+  served-close ss ts = served-map os (withOperation os o x) latest latest es (w ∷ es) ss ts (λ k q z t. tag-close os latest es o x w _ q b e l t)
 
 -- a client's number is not that of an operation that is not Calling
 shut-number : (os : Operations) (c : Client) (o : ℕ) → numbered os c ≡ true → operationIn os o .calling ≡ false → c .operation ≡ o → c .number ≡ operationIn os o .number → ⊥
@@ -81,18 +101,18 @@ shut-number os c o h e p m = go (ltb (c .number) (operationIn os o .number)) ref
     go true z y = omega (arith, ltb-true (c .number) (operationIn os o .number) z, m)
     go false z y = clash false (rw z at y) refl
 
-module _ (os : Operations) (rs : Runnables) (ss : Slots) (latest : List ℕ) (o p : ℕ) (x : Operation)
+module _ (os : Operations) (rs : Runnables) (ss : Slots) (latest : List ℕ) (es : List Ending) (o p : ℕ) (x : Operation)
     (g : Clients os rs ss) (b : o < length (os .at)) (d : o < length latest) (e : operationIn os o .calling ≡ false) (n : x .number ≡ operationIn os o .number)
   where
-    pub queues-open : (ws : List (List Request)) → length (rs .at) ≡ 16 → Queues os latest rs ws → Queues (withOperation os o x) (set latest o p) rs ws
+    pub queues-open : (ws : List (List Request)) → length (rs .at) ≡ 16 → Queues os latest es rs ws → Queues (withOperation os o x) (set latest o p) es rs ws
     queues-open ws l =
-        queues-map os (withOperation os o x) latest (set latest o p) rs ws
-        (λ r j q c t. tag-open os latest o p x _ q b d (λ y m. shut-number os _ o (g .queued r (omega (arith, l, queued-inside rs r j c)) j c) e y (m ∙ n)) t)
+        queues-map os (withOperation os o x) latest (set latest o p) es es rs ws
+        (λ r j q c t. tag-open os latest es o p x _ q b d e (λ y m. shut-number os _ o (g .queued r (omega (arith, l, queued-inside rs r j c)) j c) e y (m ∙ n)) t)
 
-    pub served-open : (ts : List Request) → length (ss .at) ≡ 32 → Served os latest ss ts → Served (withOperation os o x) (set latest o p) ss ts
+    pub served-open : (ts : List Request) → length (ss .at) ≡ 32 → Served os latest es ss ts → Served (withOperation os o x) (set latest o p) es ss ts
     served-open ts l =
-        served-map os (withOperation os o x) latest (set latest o p) ss ts
-        (λ k q z t. tag-open os latest o p x _ q b d (λ y m. shut-number os _ o (g .served k (omega (arith, l, serving-inside ss k z)) z) e y (m ∙ n)) t)
+        served-map os (withOperation os o x) latest (set latest o p) es es ss ts
+        (λ k q z t. tag-open os latest es o p x _ q b d e (λ y m. shut-number os _ o (g .served k (omega (arith, l, serving-inside ss k z)) z) e y (m ∙ n)) t)
 
 -- ---- a queue grows at its end, and is taken at its front
 
@@ -101,18 +121,18 @@ runnable-both : (P : Runnable → List Request → Type 0) (rs : Runnables) (ws 
 unfolding runnableIn withRunnable
 runnable-both P rs ws r y w b c p h = set-both (λ j. P) (rs .at) ws r y noRunnable w [] b c p (λ j n. h j)
 
-module _ (os : Operations) (latest : List ℕ) (rs : Runnables) (ws : List (List Request)) (r : ℕ) (y : Runnable) (h : Queues os latest rs ws) (b : r < length (rs .at)) (b16 : r < 16) where
+module _ (os : Operations) (latest : List ℕ) (es : List Ending) (rs : Runnables) (ws : List (List Request)) (r : ℕ) (y : Runnable) (h : Queues os latest es rs ws) (b : r < length (rs .at)) (b16 : r < 16) where
   abbrev Follows : Runnable → List Request → Type 0
-  Follows x w = Beside (Tag os latest) noClient noRequest (x .requests .queued) (x .requests .at) w
+  Follows x w = Beside (Tag os latest es) noClient noRequest (x .requests .queued) (x .requests .at) w
 
   pub queues-push : (c : Client) (q : Request) → runnableIn rs r .requests .queued < 16 → length (runnableIn rs r .requests .at) ≡ 16
-      → y .requests ≡ pushRequest (runnableIn rs r .requests) c → Tag os latest c q
-      → Queues os latest (withRunnable rs r y) (set ws r (getD ws r [] ++ (q ∷ [])))
+      → y .requests ≡ pushRequest (runnableIn rs r .requests) c → Tag os latest es c q
+      → Queues os latest es (withRunnable rs r y) (set ws r (getD ws r [] ++ (q ∷ [])))
   unfolding pushRequest
   queues-push c q n l e t = record {
     size = length-set ws r (getD ws r [] ++ (q ∷ [])) ∙ h .size;
     each = runnable-both Follows rs ws r y (getD ws r [] ++ (q ∷ [])) b (omega (arith, h .size))
-        (rw (e, up) (beside-push (Tag os latest) noClient noRequest _ _ (getD ws r []) c q (omega (arith, n, l)) t (h .each r)))
+        (rw (e, up) (beside-push (Tag os latest es) noClient noRequest _ _ (getD ws r []) c q (omega (arith, n, l)) t (h .each r)))
         (h .each);
   }
     where
@@ -120,33 +140,33 @@ module _ (os : Operations) (latest : List ℕ) (rs : Runnables) (ws : List (List
       up = omega (arith, n)
 
   pub queues-pop : length (runnableIn rs r .requests .at) ≡ 16 → runnableIn rs r .requests .queued ≤ 16 → y .requests ≡ restRequests (runnableIn rs r .requests)
-      → Queues os latest (withRunnable rs r y) (set ws r (drop 1 (getD ws r [])))
+      → Queues os latest es (withRunnable rs r y) (set ws r (drop 1 (getD ws r [])))
   unfolding restRequests
   queues-pop l n e = record {
     size = length-set ws r (drop 1 (getD ws r [])) ∙ h .size;
     each = runnable-both Follows rs ws r y (drop 1 (getD ws r [])) b (omega (arith, h .size))
-        (rw e (beside-pop (Tag os latest) noClient noRequest _ _ (getD ws r []) (omega (arith, n, l)) (h .each r)))
+        (rw e (beside-pop (Tag os latest es) noClient noRequest _ _ (getD ws r []) (omega (arith, n, l)) (h .each r)))
         (h .each);
   }
 
-pub oldest-tag : (os : Operations) (latest : List ℕ) (rs : Runnables) (ws : List (List Request)) (r : ℕ) → Queues os latest rs ws → 0 < runnableIn rs r .requests .queued
-    → Tag os latest (firstRequest (runnableIn rs r .requests)) (getD (getD ws r []) 0 noRequest)
+pub oldest-tag : (os : Operations) (latest : List ℕ) (es : List Ending) (rs : Runnables) (ws : List (List Request)) (r : ℕ) → Queues os latest es rs ws → 0 < runnableIn rs r .requests .queued
+    → Tag os latest es (firstRequest (runnableIn rs r .requests)) (getD (getD ws r []) 0 noRequest)
 unfolding firstRequest
-oldest-tag os latest rs ws r h b = h .each r .each 0 b
+oldest-tag os latest es rs ws r h b = h .each r .each 0 b
 
 -- ---- a slot replaced, with the request beside it or with nothing owed
 
-module _ (os : Operations) (latest : List ℕ) (ss : Slots) (ts : List Request) (k : ℕ) (x : Slot) (h : Served os latest ss ts) (b : k < length (ss .at)) where
-  pub served-put : (q : Request) → k < 32 → (x .owed .serving ≡ true → Tag os latest (x .owed .client) q) → Served os latest (withSlot ss k x) (set ts k q)
+module _ (os : Operations) (latest : List ℕ) (es : List Ending) (ss : Slots) (ts : List Request) (k : ℕ) (x : Slot) (h : Served os latest es ss ts) (b : k < length (ss .at)) where
+  pub served-put : (q : Request) → k < 32 → (x .owed .serving ≡ true → Tag os latest es (x .owed .client) q) → Served os latest es (withSlot ss k x) (set ts k q)
   unfolding slotIn withSlot
   served-put q c t = record {
     size = length-set ts k q ∙ h .size;
-    each = set-both (λ j y z. y .owed .serving ≡ true → Tag os latest (y .owed .client) z) (ss .at) ts k x noSlot q noRequest b (omega (arith, h .size)) t (λ j n. h .each j);
+    each = set-both (λ j y z. y .owed .serving ≡ true → Tag os latest es (y .owed .client) z) (ss .at) ts k x noSlot q noRequest b (omega (arith, h .size)) t (λ j n. h .each j);
   }
 
-  pub served-idle : x .owed .serving ≡ false → Served os latest (withSlot ss k x) ts
+  pub served-idle : x .owed .serving ≡ false → Served os latest es (withSlot ss k x) ts
   unfolding slotIn withSlot
   served-idle e = record {
     size = h .size;
-    each = set-each (λ j y. y .owed .serving ≡ true → Tag os latest (y .owed .client) (getD ts j noRequest)) (ss .at) k x noSlot b (λ z. absurd (clash (x .owed .serving) z e)) (λ j n. h .each j);
+    each = set-each (λ j y. y .owed .serving ≡ true → Tag os latest es (y .owed .client) (getD ts j noRequest)) (ss .at) k x noSlot b (λ z. absurd (clash (x .owed .serving) z e)) (λ j n. h .each j);
   }

@@ -1,41 +1,24 @@
 -- The tie between a state and the history of the recording that led to it (`Tied`), and what leaves it alone.
 -- Three parts, each over only the tables that it reads. `Queues`: beside each client in a server's queue stands the request followed. `Served`: beside each
 -- client on an instance stands the request that its spawn took. `Tag` says what a client and a request beside it share: one operation and, while that is
--- Calling under the client's number, its latest call. Here alone numbers meet places, and by equality only. `Calls`: how operations and the endings stand.
+-- Calling under the client's number, its latest call; and it is so as long as that call has no ending. Here alone numbers meet places, and by equality only. `Calls`: how operations and the endings stand.
 -- The tie reads of an operation its number, whether it is Calling and what it holds, of a runnable its requests, of a slot what it owes. States that agree
--- in those (`Alike`) are tied to the same history, one step later (`tied-alike`). `Alike` also says how much time lies between the two.
+-- in those (`Alike`) are tied to the same history, one step later (`tied-alike`). `Alike` also says how much time lies between the two, and that the same slots are in use.
 -- Assumes nothing.
 use Prim.Native.Nat.{ℕ, _+_, _≤_, _<_}
 use mathlib.Core.Bool.{true, false}
 use mathlib.Core.List.{List, [], _∷_}
-use mathlib.Core.Option.{Option, none, some}
 use mathlib.Core.Path.{_≡_}
 use native.Mathlib.Omega.{arith}
 use lib.ListN.{length, getD}
 use Rattle.laws.specs.Choice.{bit}
-use Rattle.types.specs.Types.{Value, Client, Operations, Runnables, Slots, State}
-use Rattle.values.specs.Values.{voidV, timeoutV}
+use Rattle.types.specs.Types.{Client, Operations, Runnables, Slots, State}
 use Rattle.state.specs.Parts.{noClient}
 use Rattle.state.specs.Tables.{runnableIn, operationIn, slotIn}
-use Rattle.history.specs.History.{Request, noRequest, How, byTimeout, byInstance, Ending, History, passed, endsOf, lastOn}
+use Rattle.history.specs.History.{Request, noRequest, How, byTimeout, byInstance, Ending, History, passed, endsOf, lastOn, delivered, endedCall}
 use Rattle.history.proofs.Beside.{Beside, beside-map}
 
--- ---- what an ending leaves
-
--- what the operation then holds
-abbrev pub given : How → Value
-given byTimeout = timeoutV
-given (byInstance k v) = v
-
--- the same of the last ending, if there is one
-abbrev pub delivered : Option Ending → Value
-delivered none = voidV
-delivered (some e) = given (e .how)
-
--- the call that it ended
-abbrev pub endedCall : Option Ending → ℕ
-endedCall none = 0
-endedCall (some e) = e .call
+-- ---- what ended a call
 
 -- time may end any call, an instance only the one that it was spawned for
 abbrev pub Proper : ℕ → How → Type 0
@@ -50,18 +33,19 @@ AllProper (e ∷ es) = ((0 < e .call) × Proper (e .call) (e .how)) × AllProper
 -- ---- the parts
 
 -- a client, and the request beside it
-pub record Tag (os : Operations) (latest : List ℕ) (c : Client) (q : Request) : Type 0 where
+pub record Tag (os : Operations) (latest : List ℕ) (es : List Ending) (c : Client) (q : Request) : Type 0 where
   pub same : q .on ≡ c .operation
   pub argument : q .argument ≡ c .argument
   pub newest : operationIn os (c .operation) .calling ≡ true → c .number ≡ operationIn os (c .operation) .number → q .at ≡ getD latest (c .operation) 0
+  pub unended : endsOf (q .at) es ≡ 0 → (operationIn os (c .operation) .calling ≡ true) × (c .number ≡ operationIn os (c .operation) .number)
 
-pub record Queues (os : Operations) (latest : List ℕ) (rs : Runnables) (queued : List (List Request)) : Type 0 where
+pub record Queues (os : Operations) (latest : List ℕ) (es : List Ending) (rs : Runnables) (queued : List (List Request)) : Type 0 where
   pub size : length queued ≡ 16
-  pub each : (r : ℕ) → Beside (Tag os latest) noClient noRequest (runnableIn rs r .requests .queued) (runnableIn rs r .requests .at) (getD queued r [])
+  pub each : (r : ℕ) → Beside (Tag os latest es) noClient noRequest (runnableIn rs r .requests .queued) (runnableIn rs r .requests .at) (getD queued r [])
 
-pub record Served (os : Operations) (latest : List ℕ) (ss : Slots) (taken : List Request) : Type 0 where
+pub record Served (os : Operations) (latest : List ℕ) (es : List Ending) (ss : Slots) (taken : List Request) : Type 0 where
   pub size : length taken ≡ 32
-  pub each : (k : ℕ) → slotIn ss k .owed .serving ≡ true → Tag os latest (slotIn ss k .owed .client) (getD taken k noRequest)
+  pub each : (k : ℕ) → slotIn ss k .owed .serving ≡ true → Tag os latest es (slotIn ss k .owed .client) (getD taken k noRequest)
 
 pub record Calls (os : Operations) (latest : List ℕ) (endings : List Ending) (place : ℕ) : Type 0 where
   pub size : length latest ≡ 8
@@ -80,8 +64,8 @@ pub record Calls (os : Operations) (latest : List ℕ) (endings : List Ending) (
   pub ended : (o : ℕ) → operationIn os o .calling ≡ false → endedCall (lastOn o endings) ≡ getD latest o 0
 
 pub record Tied (st : State) (h : History) : Type 0 where
-  pub queues : Queues (st .operations) (h .latest) (st .runnables) (h .queued)
-  pub served : Served (st .operations) (h .latest) (st .slots) (h .taken)
+  pub queues : Queues (st .operations) (h .latest) (h .endings) (st .runnables) (h .queued)
+  pub served : Served (st .operations) (h .latest) (h .endings) (st .slots) (h .taken)
   pub calls : Calls (st .operations) (h .latest) (h .endings) (h .place)
 
 -- ---- tables that agree in what is read of them
@@ -97,6 +81,7 @@ pub record Alike (t : ℕ) (st st′ : State) : Type 0 where
   pub operations : SameCalls t (st .operations) (st′ .operations)
   pub requests : (r : ℕ) → runnableIn (st′ .runnables) r .requests ≡ runnableIn (st .runnables) r .requests
   pub owed : (k : ℕ) → slotIn (st′ .slots) k .owed ≡ slotIn (st .slots) k .owed
+  pub used : (k : ℕ) → slotIn (st′ .slots) k .used ≡ slotIn (st .slots) k .used
 
 pub calls-alike : {t : ℕ} (os os′ : Operations) (latest : List ℕ) (es : List Ending) (p : ℕ) → SameCalls t os os′ → Calls os latest es p → Calls os′ latest es (p + 1)
 calls-alike os os′ latest es p a h = record {
@@ -112,43 +97,48 @@ calls-alike os os′ latest es p a h = record {
   ended = λ o. rw (a .calling o) (h .ended o);
 }
 
-tag-alike : {t : ℕ} (os os′ : Operations) (latest : List ℕ) (c : Client) (q : Request) → SameCalls t os os′ → Tag os latest c q → Tag os′ latest c q
-tag-alike os os′ latest c q a g = record { same = g .same; argument = g .argument; newest = rw (a .calling (c .operation), a .number (c .operation)) (g .newest) }
+tag-alike : {t : ℕ} (os os′ : Operations) (latest : List ℕ) (es : List Ending) (c : Client) (q : Request) → SameCalls t os os′ → Tag os latest es c q → Tag os′ latest es c q
+tag-alike os os′ latest es c q a g = record {
+  same = g .same;
+  argument = g .argument;
+  newest = rw (a .calling (c .operation), a .number (c .operation)) (g .newest);
+  unended = rw (a .calling (c .operation), a .number (c .operation)) (g .unended);
+}
 
 -- each request carried over to other operations and calls
-pub queues-map : (os os′ : Operations) (latest latest′ : List ℕ) (rs : Runnables) (ws : List (List Request))
+pub queues-map : (os os′ : Operations) (latest latest′ : List ℕ) (es es′ : List Ending) (rs : Runnables) (ws : List (List Request))
     → ((r j : ℕ) (q : Request) → j < runnableIn rs r .requests .queued
-    → Tag os latest (getD (runnableIn rs r .requests .at) j noClient) q → Tag os′ latest′ (getD (runnableIn rs r .requests .at) j noClient) q)
-    → Queues os latest rs ws → Queues os′ latest′ rs ws
-queues-map os os′ latest latest′ rs ws f h = record {
+    → Tag os latest es (getD (runnableIn rs r .requests .at) j noClient) q → Tag os′ latest′ es′ (getD (runnableIn rs r .requests .at) j noClient) q)
+    → Queues os latest es rs ws → Queues os′ latest′ es′ rs ws
+queues-map os os′ latest latest′ es es′ rs ws f h = record {
   size = h .size;
   each = λ r.
-      beside-map (Tag os latest) noClient noRequest (Tag os′ latest′) (runnableIn rs r .requests .queued) (runnableIn rs r .requests .at) (getD ws r [])
+      beside-map (Tag os latest es) noClient noRequest (Tag os′ latest′ es′) (runnableIn rs r .requests .queued) (runnableIn rs r .requests .at) (getD ws r [])
       (λ j b t. f r j (getD (getD ws r []) j noRequest) b t) (h .each r);
 }
 
-pub served-map : (os os′ : Operations) (latest latest′ : List ℕ) (ss : Slots) (ts : List Request)
-    → ((k : ℕ) (q : Request) → slotIn ss k .owed .serving ≡ true → Tag os latest (slotIn ss k .owed .client) q → Tag os′ latest′ (slotIn ss k .owed .client) q)
-    → Served os latest ss ts → Served os′ latest′ ss ts
-served-map os os′ latest latest′ ss ts f h = record { size = h .size; each = λ k e. f k (getD ts k noRequest) e (h .each k e) }
+pub served-map : (os os′ : Operations) (latest latest′ : List ℕ) (es es′ : List Ending) (ss : Slots) (ts : List Request)
+    → ((k : ℕ) (q : Request) → slotIn ss k .owed .serving ≡ true → Tag os latest es (slotIn ss k .owed .client) q → Tag os′ latest′ es′ (slotIn ss k .owed .client) q)
+    → Served os latest es ss ts → Served os′ latest′ es′ ss ts
+served-map os os′ latest latest′ es es′ ss ts f h = record { size = h .size; each = λ k e. f k (getD ts k noRequest) e (h .each k e) }
 
 -- runnables with the same requests, slots that owe the same
-pub queues-alike : (os : Operations) (latest : List ℕ) (rs rs′ : Runnables) (ws : List (List Request)) → ((r : ℕ) → runnableIn rs′ r .requests ≡ runnableIn rs r .requests)
-    → Queues os latest rs ws → Queues os latest rs′ ws
-queues-alike os latest rs rs′ ws a h = record { size = h .size; each = λ r. rw (a r) (h .each r) }
+pub queues-alike : (os : Operations) (latest : List ℕ) (es : List Ending) (rs rs′ : Runnables) (ws : List (List Request)) → ((r : ℕ) → runnableIn rs′ r .requests ≡ runnableIn rs r .requests)
+    → Queues os latest es rs ws → Queues os latest es rs′ ws
+queues-alike os latest es rs rs′ ws a h = record { size = h .size; each = λ r. rw (a r) (h .each r) }
 
-pub served-alike : (os : Operations) (latest : List ℕ) (ss ss′ : Slots) (ts : List Request) → ((k : ℕ) → slotIn ss′ k .owed ≡ slotIn ss k .owed) → Served os latest ss ts
-    → Served os latest ss′ ts
-served-alike os latest ss ss′ ts a h = record { size = h .size; each = λ k. rw (a k) (h .each k) }
+pub served-alike : (os : Operations) (latest : List ℕ) (es : List Ending) (ss ss′ : Slots) (ts : List Request) → ((k : ℕ) → slotIn ss′ k .owed ≡ slotIn ss k .owed) → Served os latest es ss ts
+    → Served os latest es ss′ ts
+served-alike os latest es ss ss′ ts a h = record { size = h .size; each = λ k. rw (a k) (h .each k) }
 
 -- a step that starts, takes and ends no call
 pub tied-alike : {n : ℕ} (st st′ : State) (h : History) → Alike n st st′ → Tied st h → Tied st′ (passed h)
 tied-alike st st′ h a t = record {
   queues =
-      queues-map (st .operations) (st′ .operations) (h .latest) (h .latest) (st′ .runnables) (h .queued) (λ r j q b. tag-alike (st .operations) (st′ .operations) (h .latest) _ q (a .operations))
-      (queues-alike (st .operations) (h .latest) (st .runnables) (st′ .runnables) (h .queued) (a .requests) (t .queues));
+      queues-map (st .operations) (st′ .operations) (h .latest) (h .latest) (h .endings) (h .endings) (st′ .runnables) (h .queued) (λ r j q b. tag-alike (st .operations) (st′ .operations) (h .latest) (h .endings) _ q (a .operations))
+      (queues-alike (st .operations) (h .latest) (h .endings) (st .runnables) (st′ .runnables) (h .queued) (a .requests) (t .queues));
   served =
-      served-map (st .operations) (st′ .operations) (h .latest) (h .latest) (st′ .slots) (h .taken) (λ k q e. tag-alike (st .operations) (st′ .operations) (h .latest) _ q (a .operations))
-      (served-alike (st .operations) (h .latest) (st .slots) (st′ .slots) (h .taken) (a .owed) (t .served));
+      served-map (st .operations) (st′ .operations) (h .latest) (h .latest) (h .endings) (h .endings) (st′ .slots) (h .taken) (λ k q e. tag-alike (st .operations) (st′ .operations) (h .latest) (h .endings) _ q (a .operations))
+      (served-alike (st .operations) (h .latest) (h .endings) (st .slots) (st′ .slots) (h .taken) (a .owed) (t .served));
   calls = calls-alike (st .operations) (st′ .operations) (h .latest) (h .endings) (h .place) (a .operations) (t .calls);
 }

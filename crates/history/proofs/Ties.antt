@@ -23,8 +23,8 @@ use Rattle.rules.proofs.Configured.{runnables-most, operations-most, capacity-m
 use Rattle.stays_sound.proofs.Told.{runnables-length, operations-length, slots-length}
 use Rattle.stays_sound.proofs.Kept.{runnable-kept, slot-kept, returned-kept, caller-kept, slot-inside}
 use Rattle.stays_sound.proofs.Clients.{requests-told, calling-inside}
-use Rattle.history.specs.History.{Request, noRequest, How, byTimeout, byInstance, History, passed, begins, closes, takes, takesOldest, takenBy, latestOn, queuedAt}
-use Rattle.history.proofs.Tied.{given, Tag, Tied, queues-alike, served-alike, calls-alike, tied-alike, Proper}
+use Rattle.history.specs.History.{Request, noRequest, How, byTimeout, byInstance, History, passed, begins, closes, takes, takesOldest, takenBy, latestOn, queuedAt, given}
+use Rattle.history.proofs.Tied.{Tag, Tied, queues-alike, served-alike, calls-alike, tied-alike, Proper}
 use Rattle.history.proofs.Calls.{calls-close, calls-start}
 use Rattle.history.proofs.Tags.{serving-inside, queued-inside, tag-new, queues-close, served-close, queues-open, served-open, queues-push, queues-pop, oldest-tag, served-put, served-idle}
 use Rattle.history.proofs.Passes.{same-calls, alike-same}
@@ -35,12 +35,12 @@ pub tied-call : (cfg : Config) (st : State) (h : History) (i o : ℕ) (v : Value
 unfolding called
 tied-call cfg st h i o v s z t = record {
   queues =
-      queues-push os′ latest′ (st .runnables) (h .queued) r y
-      (queues-open (st .operations) (st .runnables) (st .slots) (h .latest) o (h .place + 1) x (s .clients) within inside (z .shut) refl (h .queued) (runnables-length cfg st s) (t .queues))
-      (omega (arith, runnables-length cfg st s, there)) there c q room (requests-told cfg st r s there .1) refl (tag-new (st .operations) (h .latest) o (h .place + 1) x c q inside refl refl refl refl);
+      queues-push os′ latest′ (h .endings) (st .runnables) (h .queued) r y
+      (queues-open (st .operations) (st .runnables) (st .slots) (h .latest) (h .endings) o (h .place + 1) x (s .clients) within inside (z .shut) refl (h .queued) (runnables-length cfg st s) (t .queues))
+      (omega (arith, runnables-length cfg st s, there)) there c q room (requests-told cfg st r s there .1) refl (tag-new (st .operations) (h .latest) (h .endings) o (h .place + 1) x c q within inside refl refl refl refl refl refl);
   served =
-      served-alike os′ latest′ (st .slots) _ (h .taken) (slot-kept (λ w. w .owed) (st .slots) i _ (caller-kept (λ w. w .owed) (λ w n. refl) cfg o (slotIn (st .slots) i)))
-      (served-open (st .operations) (st .runnables) (st .slots) (h .latest) o (h .place + 1) x (s .clients) within inside (z .shut) refl (h .taken) (slots-length cfg st s) (t .served));
+      served-alike os′ latest′ (h .endings) (st .slots) _ (h .taken) (slot-kept (λ w. w .owed) (st .slots) i _ (caller-kept (λ w. w .owed) (λ w n. refl) cfg o (slotIn (st .slots) i)))
+      (served-open (st .operations) (st .runnables) (st .slots) (h .latest) (h .endings) o (h .place + 1) x (s .clients) within inside (z .shut) refl (h .taken) (slots-length cfg st s) (t .served));
   calls = calls-start (st .operations) (h .latest) (h .endings) (h .place) o x (t .calls) within (omega (arith, operations-most cfg (s .config), z .inside)) refl;
 }
   where
@@ -84,9 +84,9 @@ tied-closed : (cfg : Config) (st : State) (h : History) (o : ℕ) (w : How) (v :
 unfolding closed closing
 tied-closed cfg st h o w v e p g t = record {
   queues =
-      queues-alike _ (h .latest) (st .runnables) _ (h .queued) (returned-kept (λ y. y .requests) (λ y. refl) cfg o (st .runnables))
-      (queues-close (st .operations) (h .latest) o x (calling-inside (st .operations) o e) (st .runnables) (h .queued) refl (t .queues));
-  served = served-close (st .operations) (h .latest) o x (calling-inside (st .operations) o e) (st .slots) (h .taken) refl (t .served);
+      queues-alike _ (h .latest) _ (st .runnables) _ (h .queued) (returned-kept (λ y. y .requests) (λ y. refl) cfg o (st .runnables))
+      (queues-close (st .operations) (h .latest) (h .endings) o x _ (calling-inside (st .operations) o e) refl refl (st .runnables) (h .queued) (t .queues));
+  served = served-close (st .operations) (h .latest) (h .endings) o x _ (calling-inside (st .operations) o e) refl refl (st .slots) (h .taken) (t .served);
   calls = calls-close (st .operations) (h .latest) (h .endings) (h .place) o _ w x (t .calls) e p refl (sym g);
 }
   where
@@ -98,7 +98,7 @@ tied-timeout cfg st h o z t = tied-closed cfg st h o byTimeout timeoutV (z .call
 
 -- the slot owes nobody any longer, and its instance counts as finished
 tied-finish : (st : State) (h : History) (i : ℕ) (x : Slot) → i < length (st .slots .at) → Tied st h → Tied (withSlots st (withSlot (st .slots) i (finishing x))) h
-tied-finish st h i x b t = record { queues = t .queues; served = served-idle (st .operations) (h .latest) (st .slots) (h .taken) i (finishing x) (t .served) b refl; calls = t .calls }
+tied-finish st h i x b t = record { queues = t .queues; served = served-idle (st .operations) (h .latest) (h .endings) (st .slots) (h .taken) i (finishing x) (t .served) b refl; calls = t .calls }
 
 pub tied-answer : (cfg : Config) (st : State) (h : History) (i : ℕ) (v : Value) → CanHandBack cfg st i v → answers (st .operations) (clientOf st i) ≡ true → Tied st h
     → Tied (answered cfg st i v) (closes h (takenBy h i .on) (byInstance (takenBy h i .at) v))
@@ -111,7 +111,7 @@ tied-answer cfg st h i v z e t =
     c : Client
     c = clientOf st i
 
-    tag : Tag (st .operations) (h .latest) c (takenBy h i)
+    tag : Tag (st .operations) (h .latest) (h .endings) c (takenBy h i)
     tag = t .served .each i (z .serving)
 
     open-still : operationIn (st .operations) (c .operation) .calling ≡ true
@@ -130,10 +130,10 @@ pub tied-server : (cfg : Config) (st : State) (h : History) (r k : ℕ) → Soun
     → Tied (spawned cfg st r k) (takesOldest h k r)
 unfolding spawned starting instanceOf
 tied-server cfg st h r k s b e n t = rw e (record {
-  queues = queues-pop (st .operations) (h .latest) (st .runnables) (h .queued) r _ (t .queues) within there (told .1) (omega (arith, told .0, capacity-most cfg (s .config) r)) refl;
+  queues = queues-pop (st .operations) (h .latest) (h .endings) (st .runnables) (h .queued) r _ (t .queues) within there (told .1) (omega (arith, told .0, capacity-most cfg (s .config) r)) refl;
   served =
-      served-put (st .operations) (h .latest) (st .slots) (h .taken) k _ (t .served) (omega (arith, slots-length cfg st s, b)) (getD (queuedAt h r) 0 noRequest) b
-      (λ z. oldest-tag (st .operations) (h .latest) (st .runnables) (h .queued) r (t .queues) n);
+      served-put (st .operations) (h .latest) (h .endings) (st .slots) (h .taken) k _ (t .served) (omega (arith, slots-length cfg st s, b)) (getD (queuedAt h r) 0 noRequest) b
+      (λ z. oldest-tag (st .operations) (h .latest) (h .endings) (st .runnables) (h .queued) r (t .queues) n);
   calls = calls-alike (st .operations) (st .operations) (h .latest) (h .endings) (h .place) (same-calls (st .operations)) (t .calls);
 })
   where
@@ -150,16 +150,16 @@ pub tied-plain : (cfg : Config) (st : State) (h : History) (r k : ℕ) → Sound
     → Tied (spawned cfg st r k) (takes h k noRequest)
 unfolding spawned starting instanceOf
 tied-plain cfg st h r k s b e t = rw e (record {
-  queues = queues-alike (st .operations) (h .latest) (st .runnables) _ (h .queued) (runnable-kept (λ y. y .requests) (st .runnables) r _ refl) (t .queues);
-  served = served-put (st .operations) (h .latest) (st .slots) (h .taken) k (fresh r noOwed) (t .served) (omega (arith, slots-length cfg st s, b)) noRequest b (λ z. absurd (clash false z refl));
+  queues = queues-alike (st .operations) (h .latest) (h .endings) (st .runnables) _ (h .queued) (runnable-kept (λ y. y .requests) (st .runnables) r _ refl) (t .queues);
+  served = served-put (st .operations) (h .latest) (h .endings) (st .slots) (h .taken) k (fresh r noOwed) (t .served) (omega (arith, slots-length cfg st s, b)) noRequest b (λ z. absurd (clash false z refl));
   calls = calls-alike (st .operations) (st .operations) (h .latest) (h .endings) (h .place) (same-calls (st .operations)) (t .calls);
 })
 
 pub tied-end : (cfg : Config) (st : State) (h : History) (i : ℕ) → Sound cfg st → CanEnd st i → Tied st h → Tied (emptied st i) (takes h i noRequest)
 unfolding noSlot
 tied-end cfg st h i s z t = record {
-  queues = queues-alike (st .operations) (h .latest) (st .runnables) _ (h .queued) (runnable-kept (λ y. y .requests) (st .runnables) (slotIn (st .slots) i .life .runnable) _ refl) (t .queues);
-  served = served-put (st .operations) (h .latest) (st .slots) (h .taken) i noSlot (t .served) within noRequest (omega (arith, within, slots-length cfg st s)) (λ q. absurd (clash false q refl));
+  queues = queues-alike (st .operations) (h .latest) (h .endings) (st .runnables) _ (h .queued) (runnable-kept (λ y. y .requests) (st .runnables) (slotIn (st .slots) i .life .runnable) _ refl) (t .queues);
+  served = served-put (st .operations) (h .latest) (h .endings) (st .slots) (h .taken) i noSlot (t .served) within noRequest (omega (arith, within, slots-length cfg st s)) (λ q. absurd (clash false q refl));
   calls = calls-alike (st .operations) (st .operations) (h .latest) (h .endings) (h .place) (same-calls (st .operations)) (t .calls);
 }
   where

@@ -6,11 +6,13 @@ use Rattle.types.specs.Types.{Step}
 use Rattle.state.specs.Start.{startOf}
 use Rattle.history.specs.Promises.{Run, OfRuns, OfSteps, Followed, AtMoment, AtStep, Demand3}
 use Rattle.history.proofs.Runs.{halves}
-use Rattle.history.proofs.Proofs.{stays-sound, areas-held, enters-free, exits-held, ends-empty, requests-fit, values-fit, ends-once, ends-properly, timeout-at-zero, timeout-in-time, back-in-time, ticks-in-time, open-in-time, number-is-final, done-is-final, open-is-unended, latest-started, count-is-rest, queues-followed, served-followed, first-in-first-out, spawn-takes-next}
+use Rattle.history.proofs.Proofs.{stays-sound, areas-held, enters-free, exits-held, ends-empty, spawns-empty, acts-alive, holder-stays, requests-fit, values-fit, calls-one-by-one, back-is-answered, ends-once, ends-properly, timeout-at-zero, timeout-in-time, back-in-time, open-in-time, ticks-in-time, timers-in-time, result-is-delivered, done-is-delivered, number-is-final, done-is-final, used-is-lived, open-is-unended, unended-is-latest, latest-started, count-is-rest, queues-followed, served-followed, first-in-first-out, spawn-takes-next}
 
 followed : OfRuns Followed
 followed cfg rs st c e = record {
+  used = used-is-lived cfg rs st c e;
   unended = open-is-unended cfg rs st c e;
+  newest = unended-is-latest cfg rs st c e;
   latest = latest-started cfg rs st c e;
   rest = count-is-rest cfg rs st c e;
   queues = queues-followed cfg rs st c e;
@@ -28,6 +30,8 @@ at-moment cfg rs st c e = record {
   once = ends-once cfg rs st c e;
   properly = ends-properly cfg rs st c e;
   time = open-in-time cfg rs st c e;
+  timers = timers-in-time cfg rs st c e;
+  delivered = done-is-delivered cfg rs st c e;
   done = done-is-final cfg rs st c e;
   history = followed cfg rs st c e;
 }
@@ -37,10 +41,16 @@ at-step cfg before after s st c e = record {
   enter = enters-free cfg before after s st c e;
   exit = exits-held cfg before after s st c e;
   end = ends-empty cfg before after s st c e;
+  fresh = spawns-empty cfg before after s st c e;
+  alive = acts-alive cfg before after s st c e;
+  holder = holder-stays cfg before after s st c e;
+  call = calls-one-by-one cfg before after s st c e;
+  answer = back-is-answered cfg before after s st c e;
   zero = timeout-at-zero cfg before after s st c e;
   timeout = timeout-in-time cfg before after s st c e;
   back = back-in-time cfg before after s st c e;
   tick = ticks-in-time cfg before after s st c e;
+  result = result-is-delivered cfg before after s st c e;
   number = number-is-final cfg before after s st c e;
   spawn = spawn-takes-next cfg before after s st c e;
 }

@@ -1,16 +1,17 @@
--- The calls of a recording, the time that passes in it and who holds its areas, as its steps and their answers show them under its configuration. No state of the machine is used here, and no number of an operation.
+-- The calls of a recording, the time that passes in it, who lives in its slots and who holds its areas, as its steps and their answers show them under its configuration. No state of the machine is used here, and no number of an operation.
 -- The name of a call is where its step stands in the recording, from 1 on, and 0 names none; an accepted step has the answer that it claims.
 -- Assumes nothing.
 use Prim.Native.Nat.{ℕ, zero, suc, _+_, _≤_}
+use mathlib.Core.Bool.{Bool}
 use mathlib.Core.List.{List, [], _∷_, _++_}
 use mathlib.Core.Option.{Option, none, some}
 use mathlib.Core.Path.{_≡_}
-use lib.Dec.{eqb}
+use lib.Dec.{ltb, eqb}
 use lib.ListN.{getD, set, drop, replicate}
 use Rattle.numbers.specs.Codes.{enterCode, exitCode, callCode, handBackCode, endCode, spawnCode, timeoutCode, tickCode, waitCode}
 use Rattle.laws.specs.Choice.{pick, both, bit}
 use Rattle.types.specs.Types.{Value, Step, Config}
-use Rattle.values.specs.Values.{voidV, numberV, okV, sameValue}
+use Rattle.values.specs.Values.{voidV, numberV, okV, timeoutV, sameValue}
 use Rattle.config.specs.Tables.{maxRunnableConfs, maxOperationConfs, operationConfIn}
 use Rattle.entries.specs.Faults.{isServer}
 use Rattle.state.specs.Tables.{maxSlots}
@@ -137,6 +138,25 @@ unfoldable pub lastOn : ℕ → List Ending → Option Ending
 lastOn o [] = none
 lastOn o (e ∷ es) = pick (eqb (e .on) o) (some e) (lastOn o es)
 
+-- the latest call on o has no ending yet ("How tight the contracts are", demand 3)
+unfoldable pub isUnended : History → ℕ → Bool
+isUnended h o = both (ltb 0 (latestOn h o)) (eqb (endsOf (latestOn h o) (h .endings)) 0)
+
+-- what an ending gave: Timeout, or what was handed back ("The eighteen steps", 13 and 16)
+abbrev pub given : How → Value
+given byTimeout = timeoutV
+given (byInstance k v) = v
+
+-- the same of the last ending, and Void where there is none ("The eighteen steps", 13 and 16)
+abbrev pub delivered : Option Ending → Value
+delivered none = voidV
+delivered (some e) = given (e .how)
+
+-- the call that the last ending ended, 0 where there is none ("How tight the contracts are", demand 3)
+abbrev pub endedCall : Option Ending → ℕ
+endedCall none = 0
+endedCall (some e) = e .call
+
 -- the step at place k of the recording, counted from 1, is a call on o that was answered Ok ("How tight the contracts are", demand 3)
 unfoldable pub Started : List Step → ℕ → ℕ → Type 0
 Started [] k o = ⊥
@@ -177,6 +197,21 @@ lastTick k rs = tickFrom k 0 0 rs
 abbrev pub InTime : ℕ → ℕ → How → Type 0
 InTime t top byTimeout = t ≡ top
 InTime t top (byInstance j v) = t ≤ top
+
+-- ---- instances, as spawns and ends tell it; an instance is named by the place of its spawn
+
+-- who lives in the slot i after the step s at place n, if w did before: a spawn answered with i puts one there, its end leaves nobody, 0 ("The eighteen steps", 14 and Spawn)
+unfoldable pub livesAfter : ℕ → ℕ → ℕ → Step → ℕ
+livesAfter i n w s = pick (both (eqb (s .code) spawnCode) (eqb (s .claim .number) i)) n (pick (both (eqb (s .code) endCode) (eqb (s .who) i)) 0 w)
+
+-- the same after more steps, before which n stand ("The eighteen steps", 14 and Spawn)
+unfoldable pub livesFrom : ℕ → ℕ → ℕ → List Step → ℕ
+livesFrom i w n [] = w
+livesFrom i w n (s ∷ rs) = livesFrom i (livesAfter i (n + 1) w s) (n + 1) rs
+
+-- who lives in the slot i after the steps of a recording ("The eighteen steps", 14 and Spawn)
+unfoldable pub livesIn : ℕ → List Step → ℕ
+livesIn i rs = livesFrom i 0 0 rs
 
 -- ---- areas, as enters and exits tell it
 

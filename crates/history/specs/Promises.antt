@@ -5,23 +5,23 @@
 use Prim.Native.Nat.{ℕ, _+_, _≤_, _<_}
 use mathlib.Core.Bool.{true, false}
 use mathlib.Core.List.{List, [], _∷_, _++_, List·Memᴰ}
-use mathlib.Core.Logic.{_↔_}
 use mathlib.Core.Option.{Option, none, some}
 use mathlib.Core.Path.{_≡_}
-use lib.Dec.{eqb}
+use lib.Dec.{ltb, eqb}
 use lib.ListN.{length, getD, drop}
-use Rattle.numbers.specs.Codes.{enterCode, exitCode, resultCode, handBackCode, endCode, spawnCode, timeoutCode, tickCode}
-use Rattle.laws.specs.Choice.{pick}
+use Rattle.numbers.specs.Codes.{enterCode, exitCode, callCode, resultCode, handBackCode, endCode, spawnCode, timeoutCode, tickCode}
+use Rattle.laws.specs.Choice.{pick, bit}
 use Rattle.types.specs.Types.{Value, Step, Answer, Config, Client, State}
-use Rattle.values.specs.Values.{numberV, answerRefusal, answerValue}
+use Rattle.values.specs.Values.{numberV, okV, limitV, noDataV, answerRefusal, answerValue}
 use Rattle.config.specs.Tables.{maxRunnableConfs, maxAreaConfs, maxRequiredConfs, maxOperationConfs, runnableConfIn, requiredConfIn, operationConfIn, timerConfIn}
 use Rattle.entries.specs.Faults.{configSound}
 use Rattle.state.specs.Parts.{noClient}
 use Rattle.state.specs.Tables.{maxSlots, runnableIn, areaIn, elementIn, operationIn, slotIn}
 use Rattle.state.specs.Start.{startOf}
+use Rattle.rules.specs.Rows.{aSlot, rowOf}
 use Rattle.rules.specs.Sound.{timesIn, soundOf}
 use Rattle.effects.specs.Step.{stepOf}
-use Rattle.history.specs.History.{Request, noRequest, byInstance, Ending, historyOf, queuedAt, takenBy, latestOn, endsOf, lastOn, Started, EndedBy, timeSince, lastTick, InTime, holderOf, allQueued, allSpawns}
+use Rattle.history.specs.History.{Request, noRequest, byInstance, Ending, historyOf, queuedAt, takenBy, latestOn, endsOf, lastOn, isUnended, delivered, endedCall, Started, EndedBy, timeSince, lastTick, InTime, livesIn, holderOf, allQueued, allSpawns}
 
 -- an answer says that the step was taken, with this value: by the number and the value that stand for it; no refusal has the number 0 (`never-zero` in crate stays_sound) ("Numbers of refusal")
 abbrev pub Answers : Answer → Value → Type 0
@@ -69,9 +69,22 @@ EntersFree cfg before s after = s .code ≡ enterCode → holderOf (s .what) bef
 abbrev pub ExitsHeld : Config → List Step → Step → List Step → Type 0
 ExitsHeld cfg before s after = s .code ≡ exitCode → holderOf (s .what) before ≡ some (s .who)
 
--- who ends holds none, so that a holder is always the instance that entered ("Numbers of refusal", 15)
+-- who ends holds none ("Numbers of refusal", 15)
 abbrev pub EndsEmpty : Config → List Step → Step → List Step → Type 0
 EndsEmpty cfg before s after = s .code ≡ endCode → (a : ℕ) → a < maxAreaConfs → holderOf a before ≡ some (s .who) → ⊥
+
+-- a spawn goes into a slot where nobody lives ("The eighteen steps", Spawn)
+abbrev pub SpawnsEmpty : Config → List Step → Step → List Step → Type 0
+SpawnsEmpty cfg before s after = s .code ≡ spawnCode → (s .claim .number < maxSlots) × (livesIn (s .claim .number) before ≡ 0)
+
+-- and who takes a step as an instance lives in its slot ("The eighteen steps", above the table)
+abbrev pub ActsAlive : Config → List Step → Step → List Step → Type 0
+ActsAlive cfg before s after = rowOf (s .code) .who ≡ aSlot → 0 < livesIn (s .who) before
+
+-- and so the holder of an area is always the instance that entered: one lives in its slot, and no step makes it another ("How tight the contracts are", demand 3)
+abbrev pub HolderStays : Config → List Step → Step → List Step → Type 0
+HolderStays cfg before s after =
+    (a i : ℕ) → a < maxAreaConfs → holderOf a before ≡ some i → (0 < livesIn i before) × (livesIn i (before ++ (s ∷ [])) ≡ livesIn i before)
 
 -- no queue of requests passes its capacity ("A sound state", queue lengths)
 abbrev pub RequestsFit : Config → List Step → State → Type 0
@@ -80,6 +93,15 @@ RequestsFit cfg rs st = (r : ℕ) → r < maxRunnableConfs → runnableIn (st .r
 -- no queue of values passes its capacity ("A sound state", queue lengths)
 abbrev pub ValuesFit : Config → List Step → State → Type 0
 ValuesFit cfg rs st = (q : ℕ) → q < maxRequiredConfs → elementIn (st .elements) q .queue .queued ≤ requiredConfIn (cfg .required) q .capacity
+
+-- a call is answered Limit while a call is open there, and Ok at any other time ("The eighteen steps", Call)
+abbrev pub CallsOneByOne : Config → List Step → Step → List Step → Type 0
+CallsOneByOne cfg before s after = s .code ≡ callCode → s .claim ≡ pick (isUnended (historyOf cfg before) (s .what)) limitV okV
+
+-- a hand back is answered 1, and so ends the call that its instance was spawned for, exactly if that call has no ending yet ("The eighteen steps", Hand back)
+abbrev pub BackIsAnswered : Config → List Step → Step → List Step → Type 0
+BackIsAnswered cfg before s after =
+    s .code ≡ handBackCode → s .claim ≡ numberV (bit (eqb (endsOf (takenBy (historyOf cfg before) (s .who) .at) (historyOf cfg before .endings)) 0))
 
 -- each started call ends at most once ("How tight the contracts are", demand 3)
 abbrev pub EndsOnce : Config → List Step → State → Type 0
@@ -118,16 +140,31 @@ BackInTime cfg before s after =
     s .code ≡ handBackCode → s .claim ≡ numberV 1
     → timeSince (takenBy (historyOf cfg before) (s .who) .at) before ≤ operationConfIn (cfg .operations) (takenBy (historyOf cfg before) (s .who) .on) .timeout
 
--- at every moment no more than its timeout has passed since a call that has no ending yet ("The eighteen steps", Wait)
+-- at every moment no more than its timeout has passed since any call that has no ending yet ("The eighteen steps", Wait)
 abbrev pub OpenInTime : Config → List Step → State → Type 0
-OpenInTime cfg rs st =
-    (o : ℕ) → o < maxOperationConfs → 0 < latestOn (historyOf cfg rs) o → endsOf (latestOn (historyOf cfg rs) o) (historyOf cfg rs .endings) ≡ 0
-    → timeSince (latestOn (historyOf cfg rs) o) rs ≤ operationConfIn (cfg .operations) o .timeout
+OpenInTime cfg rs st = (k o : ℕ) → Started rs k o → endsOf k (historyOf cfg rs .endings) ≡ 0 → timeSince k rs ≤ operationConfIn (cfg .operations) o .timeout
 
 -- from one tick of a timer to its next exactly its period passes, and before its first tick no time at all ("The eighteen steps", 17 and Wait)
 abbrev pub TicksInTime : Config → List Step → Step → List Step → Type 0
 TicksInTime cfg before s after =
     s .code ≡ tickCode → timeSince (lastTick (s .what) before) before ≡ pick (eqb (lastTick (s .what) before) 0) 0 (timerConfIn (cfg .timers) (s .what) .period)
+
+-- at every moment no more than its period has passed since a timer's last tick, and before its first no time at all ("The eighteen steps", 17 and Wait)
+abbrev pub TimersInTime : Config → List Step → State → Type 0
+TimersInTime cfg rs st = (k : ℕ) → k < cfg .timers .n → timeSince (lastTick k rs) rs ≤ pick (eqb (lastTick k rs) 0) 0 (timerConfIn (cfg .timers) k .period)
+
+-- a result is NoData while a call is open there, and else exactly what the latest ending there gave, however often it is asked for; a synchronous one is only given then ("The eighteen steps", Result)
+abbrev pub ResultIsDelivered : Config → List Step → Step → List Step → Type 0
+ResultIsDelivered cfg before s after =
+    s .code ≡ resultCode
+    → (s .claim ≡ pick (isUnended (historyOf cfg before) (s .what)) noDataV (delivered (lastOn (s .what) (historyOf cfg before .endings))))
+    × (operationConfIn (cfg .operations) (s .what) .asynchronous ≡ false → isUnended (historyOf cfg before) (s .what) ≡ false)
+
+-- an operation in no call holds exactly what the latest ending there gave, Void before any, and that ending was its latest call's ("The eighteen steps", 13 and 16)
+abbrev pub DoneIsDelivered : Config → List Step → State → Type 0
+DoneIsDelivered cfg rs st =
+    (o : ℕ) → o < maxOperationConfs → operationIn (st .operations) o .calling ≡ false
+    → (operationIn (st .operations) o .done ≡ delivered (lastOn o (historyOf cfg rs .endings))) × (endedCall (lastOn o (historyOf cfg rs .endings)) ≡ latestOn (historyOf cfg rs) o)
 
 -- who gets a Number as a result gets what an instance handed back that was spawned for the latest call that ended there; and nowhere in the whole recording, before or after, does that call end again, by a timeout or otherwise ("How tight the contracts are", demand 3)
 abbrev pub NumberIsFinal : Config → List Step → Step → List Step → Type 0
@@ -143,11 +180,17 @@ DoneIsFinal cfg rs st =
 
 -- ---- that the history misses and invents nothing
 
+-- a slot is in use exactly while an instance lives there ("A sound state")
+abbrev pub UsedIsLived : Config → List Step → State → Type 0
+UsedIsLived cfg rs st = (i : ℕ) → i < maxSlots → slotIn (st .slots) i .used ≡ ltb 0 (livesIn i rs)
+
 -- an operation is open exactly if its latest call has no ending yet ("How tight the contracts are", demand 3)
 abbrev pub OpenIsUnended : Config → List Step → State → Type 0
-OpenIsUnended cfg rs st =
-    (o : ℕ) → o < maxOperationConfs
-    → (operationIn (st .operations) o .calling ≡ true) ↔ ((0 < latestOn (historyOf cfg rs) o) × (endsOf (latestOn (historyOf cfg rs) o) (historyOf cfg rs .endings) ≡ 0))
+OpenIsUnended cfg rs st = (o : ℕ) → o < maxOperationConfs → operationIn (st .operations) o .calling ≡ isUnended (historyOf cfg rs) o
+
+-- any call that has no ending is the latest of its operation, which so has one open call at most ("The eighteen steps", Call)
+abbrev pub UnendedIsLatest : Config → List Step → State → Type 0
+UnendedIsLatest cfg rs st = (k o : ℕ) → Started rs k o → endsOf k (historyOf cfg rs .endings) ≡ 0 → k ≡ latestOn (historyOf cfg rs) o
 
 -- the latest call of an operation, where it has one, was started on it ("How tight the contracts are", demand 3)
 abbrev pub LatestStarted : Config → List Step → State → Type 0
@@ -190,7 +233,9 @@ SpawnTakesNext cfg before s after =
 
 -- that the history of the steps so far misses and invents nothing ("How tight the contracts are", demand 3)
 pub record Followed (cfg : Config) (rs : List Step) (st : State) : Type 0 where
+  pub used : UsedIsLived cfg rs st
   pub unended : OpenIsUnended cfg rs st
+  pub newest : UnendedIsLatest cfg rs st
   pub latest : LatestStarted cfg rs st
   pub rest : CountIsRest cfg rs st
   pub queues : QueuesFollowed cfg rs st
@@ -207,6 +252,8 @@ pub record AtMoment (cfg : Config) (rs : List Step) (st : State) : Type 0 where
   pub once : EndsOnce cfg rs st
   pub properly : EndsProperly cfg rs st
   pub time : OpenInTime cfg rs st
+  pub timers : TimersInTime cfg rs st
+  pub delivered : DoneIsDelivered cfg rs st
   pub done : DoneIsFinal cfg rs st
   pub history : Followed cfg rs st
 
@@ -215,10 +262,16 @@ pub record AtStep (cfg : Config) (before : List Step) (s : Step) (after : List S
   pub enter : EntersFree cfg before s after
   pub exit : ExitsHeld cfg before s after
   pub end : EndsEmpty cfg before s after
+  pub fresh : SpawnsEmpty cfg before s after
+  pub alive : ActsAlive cfg before s after
+  pub holder : HolderStays cfg before s after
+  pub call : CallsOneByOne cfg before s after
+  pub answer : BackIsAnswered cfg before s after
   pub zero : TimeoutAtZero cfg before s after
   pub timeout : TimeoutInTime cfg before s after
   pub back : BackInTime cfg before s after
   pub tick : TicksInTime cfg before s after
+  pub result : ResultIsDelivered cfg before s after
   pub number : NumberIsFinal cfg before s after
   pub spawn : SpawnTakesNext cfg before s after
 

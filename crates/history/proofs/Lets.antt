@@ -1,0 +1,33 @@
+-- What an accepted step was let through with, beyond its way: whoever takes it as an instance is in its slot (`taker-used`), and a result of a synchronous operation finds no call open there (`collected-shut`).
+-- Assumes nothing.
+use mathlib.Core.Bool.{Bool, true, false}
+use mathlib.Core.Path.{_≡_, refl}
+use Rattle.numbers.specs.Codes.{resultCode}
+use Rattle.types.specs.Types.{Step, Taken, Config, State}
+use Rattle.config.specs.Tables.{operationConfIn}
+use Rattle.state.specs.Tables.{slotIn}
+use Rattle.rules.specs.Rows.{aSlot, rowOf}
+use Rattle.rules.specs.Refusals.{refusalOf}
+use Rattle.effects.specs.Steps.{isOpen, collectOf, resultOf}
+use Rattle.effects.specs.Step.{stepOf}
+use Rattle.effects.proofs.Codes.{never, result, possible-by, possible-let}
+use Rattle.stays_sound.proofs.Says.{let-told}
+use Rattle.stays_sound.proofs.Accepted.{accepted}
+
+module _ (cfg : Config) (st : State) (s : Step) (a : stepOf cfg st s .answer ≡ Taken (s .claim)) where
+  let-through : refusalOf cfg (st .slots) s ≡ 0
+  let-through = possible-let cfg st s (rw (accepted cfg st s (s .claim) a .1) at a)
+
+  pub taker-used : rowOf (s .code) .who ≡ aSlot → slotIn (st .slots) (s .who) .used ≡ true
+  taker-used w = let-told cfg st s refl let-through w .used
+
+  pub collected-shut : s .code ≡ resultCode → operationConfIn (cfg .operations) (s .what) .asynchronous ≡ false → isOpen st (s .what) ≡ false
+  unfolding resultOf collectOf
+  collected-shut c f = go (isOpen st (s .what)) refl
+    where
+      taken : resultOf cfg st (s .who) (s .what) .answer ≡ Taken (s .claim)
+      taken = rw (accepted cfg st s (s .claim) a .1, possible-by cfg st s result c let-through) at a
+
+      go : (b : Bool) → isOpen st (s .what) ≡ b → isOpen st (s .what) ≡ false
+      go true e = absurd (never (rw (f, e) at taken))
+      go false e = e
