@@ -7,6 +7,7 @@ UNREADABLE=5
 USAGE=6
 UNBUILT=7
 UNWRITTEN=8
+MISTAKEN=9
 
 say() { printf '%s: %s\n' "$self" "$*" >&2; }
 
@@ -128,6 +129,26 @@ need_output() {
 # Prints a text whole, or ends with a status of its own.
 put() { # TEXT
     { printf '%s\n' "$1"; } 2>/dev/null || die "$UNWRITTEN" 'the line could not be written'
+}
+
+# A folder of this run's own, gone when it ends.
+make_room() {
+    room=$(mktemp -d) || die "$UNWRITTEN" 'there is no place for temporary files'
+    trap 'rm -rf "$room"' EXIT
+    trap 'exit 129' HUP INT TERM
+}
+
+# What the program text said on standard error: nothing, or the reason why there is no answer.
+said_of() { # FILE NAMES
+    [ -s "$room/said" ] || return 0
+    read -r first <"$room/said"
+    case $first in
+    'input too long') die 4 "$first" ;;
+    'not written') die "$UNWRITTEN" 'the output could not be written' ;;
+    'names '[0-9]*) printf '%s:%s\n' "$2" "${first#names }" >&2; exit "$MISTAKEN" ;;
+    [0-9]*:[0-9]*': expected '*) printf '%s:%s\n' "$1" "$first" >&2; exit "$MISTAKEN" ;;
+    esac
+    die "$UNREADABLE" "$first"
 }
 
 print_version() {
