@@ -591,7 +591,12 @@ fn start_runnables(t: RunnableConfs) -> Runnables
     };
     let mut k: u8 = 0;
     while k < n {
-        s = s.with(k, start_runnable(t.get(k)));
+        let i = k as usize;
+        if RunnableConfs::MAX <= i {
+            return s;
+        }
+        let x = start_runnable(t.get(k));
+        s.at[i] = x;
         k = k + 1;
     }
     s
@@ -645,7 +650,12 @@ fn start_elements(t: RequiredConfs) -> Elements
     };
     let mut k: u8 = 0;
     while k < n {
-        s = s.with(k, start_element(t.get(k)));
+        let i = k as usize;
+        if RequiredConfs::MAX <= i {
+            return s;
+        }
+        let x = start_element(t.get(k));
+        s.at[i] = x;
         k = k + 1;
     }
     s

@@ -8,10 +8,11 @@ use Rattle.laws.specs.Row.{eachBelow}
 use Rattle.laws.proofs.Places.{each-none, each-more}
 use Rattle.config.specs.Tables.{runnableConfIn}
 use Rattle.state.specs.Parts.{noRequests, noRunnable}
-use Rattle.state.specs.Tables.{noRunnables, withRunnable}
+use Rattle.state.specs.Tables.{noRunnables}
 use Rattle.state.specs.Start.{startRunnable, startRunnables}
 use Rattle.state.specs.declared.Runnable.{Runnable}
 use Rattle.state.specs.declared.Runnables.{Runnables}
+use Rattle.state.proofs.Ends.{each-end}
 use Rattle.state.proofs.start_runnables.Statement.{statement}
 use Rattle.state.proofs.start_runnables.Tie as tie
 
@@ -25,19 +26,32 @@ loop-holds : tie.Need-loop-holds Inv-loop μ-loop
 unfolding noRunnables noRunnable noRequests
 loop-holds c = (search needs, rw each-none)
 
+mul-x : tie.Need-mul-x Inv-loop μ-loop
+mul-x c = omega (arith, c .before .before .if1 .left)
+
+element-set-from-x : tie.Need-element-set-from-x Inv-loop μ-loop
+element-set-from-x c = c .before .before .if1 .left
+
 loop-less : tie.Need-loop-less Inv-loop μ-loop
-loop-less c = omega arith
+loop-less c = omega (arith, c .before .before .before .loop-test .taken)
 
 loop-again : tie.Need-loop-again Inv-loop μ-loop
-unfolding withRunnable
-loop-again c = (omega arith, rw (c .with .ensures, c .before .start-runnable .ensures, c .before .before .get .ensures, c .before .before .before .before .loop .inv .1, each-more))
+loop-again c = (omega (arith, c .before .before .before .loop-test .taken), rw (c .start-runnable .ensures, c .before .get .ensures, c .before .before .before .before .loop .inv .1, each-more))
 
 returns : tie.Need-returns Inv-loop μ-loop
-unfolding startRunnables
+unfolding startRunnables noRunnables
 returns c =
+    let t = c .before .before .before .args .t in
+    let k = c .before .before .loop .k in
+    let e = each-end (λ (j : ℕ) (x : Runnable). startRunnable (runnableConfIn t j)) noRunnable k (t .n) (noRunnables .at) (c .if1 .taken) (c .before .before .loop .inv .0) in
+    rw (c .before .before .loop .inv .1, e)
+
+returns-2 : tie.Need-returns-2 Inv-loop μ-loop
+unfolding startRunnables
+returns-2 c =
     let k : c .before .loop .k ≡ c .before .before .args .t .n = omega arith in
     rw (c .before .loop .inv .1, k)
 
 pub start-runnables-spec : {M : Type 1} → statement M
 start-runnables-spec =
-    tie.close (tie.spec Inv-loop μ-loop loop-holds (λ c κs. search needs) (λ c κs. search needs) (λ c κs. search needs) (λ c. search needs) loop-less loop-again returns)
+    tie.close (tie.spec Inv-loop μ-loop loop-holds (λ c. search needs) returns (λ c κs. search needs) (λ c κs. search needs) mul-x element-set-from-x (λ c. search needs) loop-less loop-again returns-2)
