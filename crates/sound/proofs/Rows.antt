@@ -1,6 +1,6 @@
--- Laws that a loop of this crate ends by: rows whose first places are in use, and what one instance counts for.
+-- Laws that a loop of this crate ends by: rows whose first places are in use.
 -- Assumes nothing.
-use Prim.Native.Nat.{ℕ, _≤_, _<_}
+use Prim.Native.Nat.{ℕ, _<_}
 use mathlib.Core.Bool.{Bool, true, false}
 use mathlib.Core.List.{List}
 use mathlib.Core.Path.{_≡_}
@@ -8,13 +8,11 @@ use native.Mathlib.Omega.{arith}
 use lib.Dec.{eqb}
 use lib.ListN.{length, getD}
 use borrow.Author.Tests.{eq-eqb, le-ltb}
-use Rattle.laws.specs.Choice.{both}
 use Rattle.laws.specs.Loop.{allBelow}
 use Rattle.laws.specs.Row.{placeFilled, filled}
-use Rattle.laws.proofs.Choosing.{both-make, both-no, bit-most}
+use Rattle.laws.proofs.Choosing.{both-make, both-no}
 use Rattle.laws.proofs.Looping.{all-fails}
-use Rattle.types.specs.Types.{Owed}
-use Rattle.rules.specs.Sound.{isZero, servedAs, isClient}
+use Rattle.rules.specs.Sound.{isZero}
 
 module _ {A : Type 0} (good blank : A → Bool) (d : A) (m n : ℕ) (l : List A) where
   -- a row with a place that fails
@@ -31,8 +29,3 @@ module _ {A : Type 0} (good blank : A → Bool) (d : A) (m n : ℕ) (l : List A)
 pub zero-place : (l : List ℕ) (j : ℕ) → placeFilled isZero isZero 0 0 l j ≡ eqb (getD l j 0) 0
 unfolding placeFilled
 zero-place l j = rw (le-ltb j 0 (omega arith))
-
--- an instance counts for one client at most
-pub served-most : (o m : ℕ) (w : Owed) → servedAs o m w ≤ 1
-unfolding servedAs
-served-most o m w = bit-most (both (w .serving) (isClient o m (w .client)))

@@ -1,16 +1,11 @@
--- From tables to the configuration that they stand in, and from two groups of clauses to the whole test.
+-- A test that reads one table says the same of every configuration with that table.
 -- Assumes nothing.
-use mathlib.Core.Bool.{Bool, true, false}
-use mathlib.Core.List.{List, [], _∷_, _++_}
-use mathlib.Core.Path.{_≡_, refl, ap}
-use Rattle.laws.specs.Choice.{both, allOf}
-use Rattle.types.specs.Types.{Config, Variables, Elements, Operations, Timers, Areas, Slots, State}
-use Rattle.entries.specs.Faults.{configSound}
-use Rattle.rules.specs.Sound.{variablesSound, variableSound, elementsSound, elementSound, operationsSound, operationSound, callingSound, doneSound, timersSound, timerSound, areasSound, areaSound, shaped, soundOf}
-use Rattle.sound.specs.Only.{onlyVariables, onlyAreas, onlyRequired, onlyOperations, onlyTimers}
-use Rattle.sound.specs.Clauses.{partTests, tieTests}
-
--- ---- a test that reads one table says the same of every configuration with that table
+use mathlib.Core.Path.{_≡_, refl}
+use Rattle.types.specs.Types.{Config, Runnables, Variables, Elements, Operations, Timers}
+use Rattle.rules.specs.Sound.{variablesSound, variableSound, elementsSound, elementSound, operationSound, callingSound, doneSound, timersSound, timerSound}
+use Rattle.sound.specs.declared.Noted.{Noted}
+use Rattle.sound.specs.Only.{onlyVariables, onlyRequired, onlyOperations, onlyTimers}
+use Rattle.sound.specs.Walk.{queueOf, operationTallied, operationsTallied}
 
 pub variables-only : (cfg : Config) (t : Variables) → variablesSound (onlyVariables (cfg .variables)) t ≡ variablesSound cfg t
 unfolding variablesSound variableSound onlyVariables
@@ -20,27 +15,10 @@ pub elements-only : (cfg : Config) (t : Elements) → elementsSound (onlyRequire
 unfolding elementsSound elementSound onlyRequired
 elements-only cfg t = refl
 
-pub operations-only : (cfg : Config) (t : Operations) → operationsSound (onlyOperations (cfg .operations)) t ≡ operationsSound cfg t
-unfolding operationsSound operationSound callingSound doneSound onlyOperations
-operations-only cfg t = refl
+pub operations-only : (cfg : Config) (rs : Runnables) (l : Noted) (t : Operations) → operationsTallied (onlyOperations (cfg .operations)) rs l t ≡ operationsTallied cfg rs l t
+unfolding operationsTallied operationTallied operationSound callingSound doneSound queueOf onlyOperations
+operations-only cfg rs l t = refl
 
 pub timers-only : (cfg : Config) (t : Timers) → timersSound (onlyTimers (cfg .timers)) t ≡ timersSound cfg t
 unfolding timersSound timerSound onlyTimers
 timers-only cfg t = refl
-
-pub areas-only : (cfg : Config) (t : Areas) (ss : Slots) → areasSound (onlyAreas (cfg .areas)) t ss ≡ areasSound cfg t ss
-unfolding areasSound areaSound onlyAreas
-areas-only cfg t ss = refl
-
--- ---- the whole test
-
--- two lists of tests, one behind the other
-all-joined : (a b : List Bool) → allOf (a ++ b) ≡ both (allOf a) (allOf b)
-unfolding allOf
-all-joined [] b = refl
-all-joined (true ∷ a) b = all-joined a b
-all-joined (false ∷ a) b = refl
-
-pub sound-split : (cfg : Config) (st : State) → soundOf cfg st ≡ both (configSound cfg) (both (shaped st) (both (allOf (partTests cfg st)) (allOf (tieTests cfg st))))
-unfolding soundOf allOf
-sound-split cfg st = ap (λ (b : Bool). both (configSound cfg) (both (shaped st) b)) (all-joined (partTests cfg st) (tieTests cfg st))

@@ -1,21 +1,20 @@
-// The test of a state: each function is a sentence of "A sound state" and does what its definition in crate rules says, test for test.
+// The test of a state: the slots are walked once, with a tally that is carried by value, and every other table once behind them, against the tally.
+// What is tested of one part is a sentence of "A sound state" and does what its definition in crate rules says, test for test.
 // Where a test reads one table of the configuration its function is handed that table alone, and promises the test of a configuration with that table.
 ghost use mathlib.Core.Path.{_≡_};
 ghost use mathlib.Core.Bool.{not};
-ghost use Prim.Native.Nat.{ℕ};
 ghost use lib.Dec.{ltb, leb, eqb};
 ghost use lib.ListN.{getD};
 ghost use Rattle.laws.specs.Choice.{pick, both, either, bit, allOf};
-ghost use Rattle.laws.specs.Loop.{allBelow, sumBelow};
 ghost use Rattle.laws.specs.Row.{placeFilled, filled};
 ghost use Rattle.values.specs.Values.{voidV, isVoid, isPayload};
-ghost use Rattle.config.specs.Tables.{maxRunnableConfs, maxAreaConfs, maxOperationConfs, requiredConfIn};
+ghost use Rattle.config.specs.Tables.{maxAreaConfs, requiredConfIn};
 ghost use Rattle.entries.specs.Faults.{isServer};
 ghost use Rattle.state.specs.Parts.{noClient, maxRequests, maxValues};
-ghost use Rattle.state.specs.Tables.{maxSlots, runnableIn, slotIn};
-ghost use Rattle.rules.specs.Sound.{isNoClient, clientFits, requestsSound, valuesSound, runnableSound, variableSound, isStored, elementSound, isOutcome, callingSound, doneSound, operationSound, timerSound, waitsWell, lifeSound, owedSound, areaFits, isZero, stackSound, isNoSlot, slotSound, ofRunnable, slotsOf, countSound, timesIn, holders, areaSound, isClient, queuedAs, servedAs, clientsAs, numbered, clientSound, queuedSound, servedSound, calledSound, runnablesSound, variablesSound, elementsSound, operationsSound, timersSound, slotsSound, countsSound, areasSound, clientsSound, soundOf};
+ghost use Rattle.rules.specs.Sound.{isNoClient, clientFits, requestsSound, valuesSound, runnableSound, variableSound, isStored, elementSound, isOutcome, callingSound, doneSound, operationSound, timerSound, waitsWell, lifeSound, owedSound, areaFits, isZero, stackSound, isNoSlot, slotSound, isClient, queuedAs, numbered, variablesSound, elementsSound, timersSound, soundOf};
 ghost use Rattle.sound.specs.Only.{onlyVariables, onlyAreas, onlyRequired, onlyOperations, onlyTimers};
-ghost use Rattle.sound.specs.Clauses.{partTests, tieTests};
+ghost use Rattle.sound.specs.Tally.{counted, entered, heldBelow, noting, tallied, notedAt, notedAs};
+ghost use Rattle.sound.specs.Walk.{clientsWith, clientAlone, queueAlone, queueOf, notedAlone, runnableTallied, operationTallied, areaTallied, runnablesTallied, operationsTallied, areasTallied, restTests, walkOf};
 use config::AreaConfs;
 use config::Config;
 use config::OperationConfs;
@@ -23,6 +22,7 @@ use config::RequiredConfs;
 use config::RunnableConfs;
 use config::TimerConfs;
 use config::VariableConfs;
+use state::Area;
 use state::Areas;
 use state::Client;
 use state::Element;
@@ -46,23 +46,13 @@ use state::Variables;
 use values::Value;
 
 // The sizes of the tables, as numbers of parts.
-const RUNNABLES: u8 = RunnableConfs::MAX as u8;
-
 const VARIABLES: u8 = VariableConfs::MAX as u8;
 
 const AREAS: u8 = AreaConfs::MAX as u8;
 
-const ELEMENTS: u8 = RequiredConfs::MAX as u8;
-
 const OPERATIONS: u8 = OperationConfs::MAX as u8;
 
 const TIMERS: u8 = TimerConfs::MAX as u8;
-
-const SLOTS: u8 = Slots::MAX as u8;
-
-const REQUESTS: u8 = Requests::MAX as u8;
-
-const VALUES: u8 = Values::MAX as u8;
 
 // A test as a number.
 fn bit(b: bool) -> u8
@@ -114,12 +104,11 @@ fn request_at(q: Requests, j: u8) -> Client
     Client::BLANK
 }
 
-// One place of a queue of requests: a fitting client, or blank behind the last.
-fn request_filled(t: OperationConfs, r: u8, q: Requests, j: u8) -> bool
-    ensures { λ b. ⌜ b ≡ placeFilled (clientFits (onlyOperations t) r) isNoClient noClient (q .queued) (q .at) j ⌝ }
+// One place of a queue of requests, in use or not: a fitting client, or blank.
+fn request_filled(t: OperationConfs, r: u8, used: bool, c: Client) -> bool
+    ensures { λ b. ⌜ b ≡ pick used (clientFits (onlyOperations t) r c) (isNoClient c) ⌝ }
 {
-    let c = request_at(q, j);
-    if j < q.queued {
+    if used {
         return client_fits(t, r, c);
     }
     is_no_client(c)
@@ -128,9 +117,11 @@ fn request_filled(t: OperationConfs, r: u8, q: Requests, j: u8) -> bool
 fn requests_filled(t: OperationConfs, r: u8, q: Requests) -> bool
     ensures { λ b. ⌜ b ≡ filled (clientFits (onlyOperations t) r) isNoClient noClient maxRequests (q .queued) (q .at) ⌝ }
 {
-    let mut j: u8 = 0;
-    while j < REQUESTS {
-        if request_filled(t, r, q, j) {
+    let n = q.queued as usize;
+    let mut j: usize = 0;
+    while j < Requests::MAX {
+        let c = q.at[j];
+        if request_filled(t, r, j < n, c) {
             j = j + 1;
         } else {
             return false;
@@ -152,23 +143,11 @@ fn requests_sound(cfg: Config, r: u8, q: Requests) -> bool
     false
 }
 
-// The value at place j, or Void past the last place.
-fn value_at(q: Values, j: u8) -> Value
-    ensures { λ r. ⌜ r ≡ getD (q .at) j voidV ⌝ }
+// One place of a queue of values, in use or not: a payload, or blank.
+fn value_filled(used: bool, v: Value) -> bool
+    ensures { λ b. ⌜ b ≡ pick used (isPayload v) (isVoid v) ⌝ }
 {
-    let k = j as usize;
-    if k < Values::MAX {
-        return q.at[k];
-    }
-    Value::VOID
-}
-
-// One place of a queue of values: a payload, or blank behind the last.
-fn value_filled(q: Values, j: u8) -> bool
-    ensures { λ b. ⌜ b ≡ placeFilled isPayload isVoid voidV (q .queued) (q .at) j ⌝ }
-{
-    let v = value_at(q, j);
-    if j < q.queued {
+    if used {
         return v.is_payload();
     }
     v.is_void()
@@ -177,9 +156,11 @@ fn value_filled(q: Values, j: u8) -> bool
 fn values_filled(q: Values) -> bool
     ensures { λ b. ⌜ b ≡ filled isPayload isVoid voidV maxValues (q .queued) (q .at) ⌝ }
 {
-    let mut j: u8 = 0;
-    while j < VALUES {
-        if value_filled(q, j) {
+    let n = q.queued as usize;
+    let mut j: usize = 0;
+    while j < Values::MAX {
+        let v = q.at[j];
+        if value_filled(j < n, v) {
             j = j + 1;
         } else {
             return false;
@@ -565,83 +546,124 @@ fn slot_sound(cfg: Config, x: Slot) -> bool
     is_no_slot(x)
 }
 
-// ---- counts
+// ---- the tally of the slots
 
-fn of_runnable(r: u8, x: Slot) -> bool
-    ensures { λ b. ⌜ b ≡ ofRunnable r x ⌝ }
+// The clients that instances serve, by operation and number, in the order of the slots; the first `n` places are in use.
+struct Noted {
+    n: u8,
+    operations: [u8; Slots::MAX],
+    numbers: [u16; Slots::MAX],
+}
+
+// How often each area stands in a stack.
+struct Held {
+    at: [u16; AreaConfs::MAX],
+}
+
+// What the walk over the slots remembers: how many instances each runnable has, how often each area stands in a stack, and the clients.
+struct Tally {
+    instances: [u8; RunnableConfs::MAX],
+    held: Held,
+    noted: Noted,
+}
+
+impl Tally {
+    const BLANK: Tally = Tally {
+        instances: [0; RunnableConfs::MAX],
+        held: Held {
+            at: [0; AreaConfs::MAX],
+        },
+        noted: Noted {
+            n: 0,
+            operations: [0; Slots::MAX],
+            numbers: [0; Slots::MAX],
+        },
+    };
+}
+
+// What the walk comes to: whether every slot is sound, and if so the tally of all.
+struct Walked {
+    sound: bool,
+    tally: Tally,
+}
+
+// One instance more of the runnable r, if the slot is in use.
+fn counted(l: [u8; RunnableConfs::MAX], used: bool, r: u8) -> [u8; RunnableConfs::MAX]
+    ensures { λ t. ⌜ t ≡ counted l used r ⌝ }
 {
-    let l = x.life;
-    if x.used {
-        return l.runnable == r;
+    let k = r as usize;
+    if used {
+        if k < RunnableConfs::MAX {
+            let mut t = l;
+            t[k] = state::up_one(l[k]);
+            return t;
+        }
+        return l;
     }
-    false
+    l
 }
 
-// How many slots are of the runnable r.
-fn slots_of(t: Slots, r: u8) -> u8
-    ensures { λ n. ⌜ n ≡ slotsOf t r ⌝ }
+// The area a once more.
+fn entered(l: Held, a: u8) -> Held
+    ensures { λ t. ⌜ t ≡ entered l a ⌝ }
 {
-    let mut n: u8 = 0;
-    let mut k: u8 = 0;
-    while k < SLOTS {
-        let x = t.get(k);
-        n = n + bit(of_runnable(r, x));
-        k = k + 1;
+    let k = a as usize;
+    if k < AreaConfs::MAX {
+        let mut t = l;
+        t.at[k] = std::num::wrapping_add_u16(l.at[k], 1);
+        return t;
     }
-    n
+    l
 }
 
-// A runnable counts as many instances as it has slots.
-fn count_sound(rs: Runnables, ss: Slots, r: u8) -> bool
-    ensures { λ b. ⌜ b ≡ countSound rs ss r ⌝ }
+// Every area of a stack once more.
+fn held_by(l: Held, s: Stack) -> Held
+    ensures { λ t. ⌜ t ≡ heldBelow s (s .held) l ⌝ }
 {
-    let x = rs.get(r);
-    x.instances == slots_of(ss, r)
-}
-
-// ---- areas
-
-// How often the area a stands in a stack.
-fn times_in(a: u8, s: Stack) -> u8
-    ensures { λ n. ⌜ n ≡ timesIn a s ⌝ }
-{
-    let m = s.held;
-    let mut n: u8 = 0;
+    let n = s.held;
+    let mut t = l;
     let mut j: u8 = 0;
-    while j < m {
-        n = n + bit(area_at(s, j) == a);
+    while j < n {
+        t = entered(t, area_at(s, j));
         j = j + 1;
     }
-    n
+    t
 }
 
-// How often it stands in all stacks.
-fn holders(t: Slots, a: u8) -> u16
-    ensures { λ n. ⌜ n ≡ holders t a ⌝ }
+// The client of an instance, if it serves one.
+fn noting(l: Noted, w: Owed) -> Noted
+    ensures { λ t. ⌜ t ≡ noting l w ⌝ }
 {
-    let mut n: u16 = 0;
-    let mut k: u8 = 0;
-    while k < SLOTS {
-        let holder = t.get(k);
-        let s = holder.stack;
-        n = n + times_in(a, s) as u16;
-        k = k + 1;
-    }
-    n
-}
-
-// A taken area is there and stands in all stacks together once, a free one not at all.
-fn area_sound(t: AreaConfs, areas: Areas, ss: Slots, a: u8) -> bool
-    ensures { λ b. ⌜ b ≡ areaSound (onlyAreas t) areas ss a ⌝ }
-{
-    let x = areas.get(a);
-    if x.taken {
-        if a < t.n {
-            return holders(ss, a) == 1;
+    if w.serving {
+        let c = w.client;
+        let k = l.n as usize;
+        let mut t = l;
+        t.n = state::up_one(l.n);
+        if k < Slots::MAX {
+            t.operations[k] = c.operation;
+            t.numbers[k] = c.number;
+            return t;
         }
-        return false;
+        return t;
     }
-    holders(ss, a) == 0
+    l
+}
+
+// The tally with one slot more.
+fn tallied(t: Tally, x: Slot) -> Tally
+    ensures { λ r. ⌜ r ≡ tallied t x ⌝ }
+{
+    let instances = t.instances;
+    let held = t.held;
+    let clients = t.noted;
+    let l = x.life;
+    let w = x.owed;
+    let s = x.stack;
+    Tally {
+        instances: counted(instances, x.used, l.runnable),
+        held: held_by(held, s),
+        noted: noting(clients, w),
+    }
 }
 
 // ---- clients
@@ -669,52 +691,40 @@ fn queued_as(o: u8, m: u16, q: Requests) -> u8
     n
 }
 
-// Whether the client of an instance does.
-fn served_as(o: u8, m: u16, w: Owed) -> u8
-    ensures { λ n. ⌜ n ≡ servedAs o m w ⌝ }
+// The client noted at place j, without its argument.
+fn noted_at(l: Noted, j: u8) -> Client
+    ensures { λ r. ⌜ r ≡ notedAt l j ⌝ }
 {
-    if w.serving {
-        let c = w.client;
-        return bit(is_client(o, m, c));
+    let k = j as usize;
+    if k < Slots::MAX {
+        return Client {
+            operation: l.operations[k],
+            number: l.numbers[k],
+            argument: Value::VOID,
+        };
     }
-    0
+    Client::BLANK
 }
 
-// How many requests of all queues do.
-fn queued_in(t: Runnables, o: u8, m: u16) -> u16
-    ensures { λ n. ⌜ n ≡ sumBelow (λ (r : ℕ). queuedAs o m (runnableIn t r .requests)) maxRunnableConfs ⌝ }
+// How many of the clients noted do.
+fn noted_as(o: u8, m: u16, l: Noted) -> u8
+    ensures { λ n. ⌜ n ≡ notedAs o m l ⌝ }
 {
-    let mut n: u16 = 0;
-    let mut r: u8 = 0;
-    while r < RUNNABLES {
-        let x = t.get(r);
-        let q = x.requests;
-        n = n + queued_as(o, m, q) as u16;
-        r = r + 1;
-    }
-    n
-}
-
-// How many clients of all instances do.
-fn served_in(t: Slots, o: u8, m: u16) -> u8
-    ensures { λ n. ⌜ n ≡ sumBelow (λ (k : ℕ). servedAs o m (slotIn t k .owed)) maxSlots ⌝ }
-{
+    let k = l.n;
     let mut n: u8 = 0;
-    let mut k: u8 = 0;
-    while k < SLOTS {
-        let x = t.get(k);
-        let w = x.owed;
-        n = n + served_as(o, m, w);
-        k = k + 1;
+    let mut j: u8 = 0;
+    while j < k {
+        n = n + bit(is_client(o, m, noted_at(l, j)));
+        j = j + 1;
     }
     n
 }
 
-// How many clients do, queued or on an instance.
-fn clients_as(rs: Runnables, ss: Slots, o: u8, m: u16) -> u32
-    ensures { λ n. ⌜ n ≡ clientsAs rs ss o m ⌝ }
+// How many do in a queue and among the clients noted.
+fn clients_with(q: Requests, l: Noted, o: u8, m: u16) -> u16
+    ensures { λ n. ⌜ n ≡ clientsWith q l o m ⌝ }
 {
-    queued_in(rs, o, m) as u32 + served_in(ss, o, m) as u32
+    queued_as(o, m, q) as u16 + noted_as(o, m, l) as u16
 }
 
 // A client's number is below its operation's, or equal while that is Calling.
@@ -732,26 +742,24 @@ fn numbered(os: Operations, c: Client) -> bool
     false
 }
 
-// A client shares operation and number with no other.
-fn client_sound(os: Operations, rs: Runnables, ss: Slots, c: Client) -> bool
-    ensures { λ b. ⌜ b ≡ clientSound os rs ss c ⌝ }
+// A client shares operation and number with no other of a queue and of those noted.
+fn client_alone(os: Operations, q: Requests, l: Noted, c: Client) -> bool
+    ensures { λ b. ⌜ b ≡ clientAlone os q l c ⌝ }
 {
     if numbered(os, c) {
-        return clients_as(rs, ss, c.operation, c.number) == 1;
+        return clients_with(q, l, c.operation, c.number) == 1;
     }
     false
 }
 
-// Every queued client of the runnable r.
-fn queued_sound(os: Operations, rs: Runnables, ss: Slots, r: u8) -> bool
-    ensures { λ b. ⌜ b ≡ queuedSound os rs ss r ⌝ }
+// Every client of a queue.
+fn queue_alone(os: Operations, q: Requests, l: Noted) -> bool
+    ensures { λ b. ⌜ b ≡ queueAlone os q l ⌝ }
 {
-    let x = rs.get(r);
-    let q = x.requests;
     let n = q.queued;
     let mut j: u8 = 0;
     while j < n {
-        if client_sound(os, rs, ss, request_at(q, j)) {
+        if client_alone(os, q, l, request_at(q, j)) {
             j = j + 1;
         } else {
             return false;
@@ -760,39 +768,88 @@ fn queued_sound(os: Operations, rs: Runnables, ss: Slots, r: u8) -> bool
     true
 }
 
-// The client on the instance k.
-fn served_sound(os: Operations, rs: Runnables, ss: Slots, k: u8) -> bool
-    ensures { λ b. ⌜ b ≡ servedSound os rs ss k ⌝ }
+// The queue that the clients of the operation o wait in.
+fn queue_of(confs: OperationConfs, rs: Runnables, o: u8) -> Requests
+    ensures { λ q. ⌜ q ≡ queueOf (onlyOperations confs) rs o ⌝ }
 {
-    let x = ss.get(k);
-    let w = x.owed;
-    if w.serving {
-        let c = w.client;
-        return client_sound(os, rs, ss, c);
+    let conf = confs.get(o);
+    let k = conf.server as usize;
+    if k < RunnableConfs::MAX {
+        let x = rs.at[k];
+        return x.requests;
+    }
+    Requests::BLANK
+}
+
+// Every client noted, against those noted: one that waits in a queue too is found there.
+fn noted_alone(os: Operations, l: Noted) -> bool
+    ensures { λ b. ⌜ b ≡ notedAlone os l ⌝ }
+{
+    let n = l.n;
+    let mut j: u8 = 0;
+    while j < n {
+        if client_alone(os, Requests::BLANK, l, noted_at(l, j)) {
+            j = j + 1;
+        } else {
+            return false;
+        }
     }
     true
 }
 
-// While an operation is Calling, one client has its number, neither more nor fewer.
-fn called_sound(os: Operations, rs: Runnables, ss: Slots, o: u8) -> bool
-    ensures { λ b. ⌜ b ≡ calledSound os rs ss o ⌝ }
+// ---- one part against the tally
+
+// A runnable by itself; it counts n instances, as many as it has slots; and each of its clients is alone.
+fn runnable_tallied(cfg: Config, os: Operations, l: Noted, n: u8, r: u8, x: Runnable) -> bool
+    ensures { λ b. ⌜ b ≡ runnableTallied cfg os l n r x ⌝ }
 {
-    let x = os.get(o);
+    if !runnable_sound(cfg, r, x) {
+        return false;
+    }
+    if x.instances == n {
+        let q = x.requests;
+        return queue_alone(os, q, l);
+    }
+    false
+}
+
+// A taken area is there and stands in all stacks together once, a free one not at all.
+fn area_tallied(n: u8, held: u16, a: u8, x: Area) -> bool
+    ensures { λ b. ⌜ b ≡ areaTallied n held a x ⌝ }
+{
+    if x.taken {
+        if a < n {
+            return held == 1;
+        }
+        return false;
+    }
+    held == 0
+}
+
+// An operation by itself; while it is Calling, one client has its number, neither more nor fewer.
+fn operation_tallied(confs: OperationConfs, rs: Runnables, l: Noted, o: u8, x: Operation) -> bool
+    ensures { λ b. ⌜ b ≡ operationTallied (onlyOperations confs) rs l o x ⌝ }
+{
+    if !operation_sound(confs, o, x) {
+        return false;
+    }
     if x.calling {
-        return clients_as(rs, ss, o, x.number) == 1;
+        let q = queue_of(confs, rs, o);
+        return clients_with(q, l, o, x.number) == 1;
     }
     true
 }
 
-// ---- whole tables
+// ---- whole tables, each once
 
-fn runnables_sound(cfg: Config, t: Runnables) -> bool
-    ensures { λ b. ⌜ b ≡ runnablesSound cfg t ⌝ }
+fn runnables_tallied(cfg: Config, os: Operations, y: Tally, t: Runnables) -> bool
+    ensures { λ b. ⌜ b ≡ runnablesTallied cfg os y t ⌝ }
 {
-    let mut k: u8 = 0;
-    while k < RUNNABLES {
-        let x = t.get(k);
-        if runnable_sound(cfg, k, x) {
+    let l = y.noted;
+    let mut k: usize = 0;
+    while k < RunnableConfs::MAX {
+        let x = t.at[k];
+        if runnable_tallied(cfg, os, l, y.instances[k], k as u8, x) {
             k = k + 1;
         } else {
             return false;
@@ -819,10 +876,10 @@ fn variables_sound(confs: VariableConfs, t: Variables) -> bool
 fn elements_sound(confs: RequiredConfs, t: Elements) -> bool
     ensures { λ b. ⌜ b ≡ elementsSound (onlyRequired confs) t ⌝ }
 {
-    let mut k: u8 = 0;
-    while k < ELEMENTS {
-        let x = t.get(k);
-        if element_sound(confs, k, x) {
+    let mut k: usize = 0;
+    while k < RequiredConfs::MAX {
+        let x = t.at[k];
+        if element_sound(confs, k as u8, x) {
             k = k + 1;
         } else {
             return false;
@@ -831,13 +888,13 @@ fn elements_sound(confs: RequiredConfs, t: Elements) -> bool
     true
 }
 
-fn operations_sound(confs: OperationConfs, t: Operations) -> bool
-    ensures { λ b. ⌜ b ≡ operationsSound (onlyOperations confs) t ⌝ }
+fn operations_tallied(confs: OperationConfs, rs: Runnables, l: Noted, t: Operations) -> bool
+    ensures { λ b. ⌜ b ≡ operationsTallied (onlyOperations confs) rs l t ⌝ }
 {
     let mut k: u8 = 0;
     while k < OPERATIONS {
         let x = t.get(k);
-        if operation_sound(confs, k, x) {
+        if operation_tallied(confs, rs, l, k, x) {
             k = k + 1;
         } else {
             return false;
@@ -861,13 +918,13 @@ fn timers_sound(confs: TimerConfs, t: Timers) -> bool
     true
 }
 
-fn slots_sound(cfg: Config, t: Slots) -> bool
-    ensures { λ b. ⌜ b ≡ slotsSound cfg t ⌝ }
+fn areas_tallied(n: u8, held: Held, t: Areas) -> bool
+    ensures { λ b. ⌜ b ≡ areasTallied n held t ⌝ }
 {
-    let mut k: u8 = 0;
-    while k < SLOTS {
-        let x = t.get(k);
-        if slot_sound(cfg, x) {
+    let mut k: usize = 0;
+    while k < AreaConfs::MAX {
+        let x = t.at[k];
+        if area_tallied(n, held.at[k], k as u8, x) {
             k = k + 1;
         } else {
             return false;
@@ -876,94 +933,15 @@ fn slots_sound(cfg: Config, t: Slots) -> bool
     true
 }
 
-fn counts_sound(rs: Runnables, ss: Slots) -> bool
-    ensures { λ b. ⌜ b ≡ countsSound rs ss ⌝ }
-{
-    let mut k: u8 = 0;
-    while k < RUNNABLES {
-        if count_sound(rs, ss, k) {
-            k = k + 1;
-        } else {
-            return false;
-        }
-    }
-    true
-}
+// ---- the whole state
 
-fn areas_sound(confs: AreaConfs, t: Areas, ss: Slots) -> bool
-    ensures { λ b. ⌜ b ≡ areasSound (onlyAreas confs) t ss ⌝ }
-{
-    let mut k: u8 = 0;
-    while k < AREAS {
-        if area_sound(confs, t, ss, k) {
-            k = k + 1;
-        } else {
-            return false;
-        }
-    }
-    true
-}
-
-fn all_queued_sound(os: Operations, rs: Runnables, ss: Slots) -> bool
-    ensures { λ b. ⌜ b ≡ allBelow (queuedSound os rs ss) maxRunnableConfs ⌝ }
-{
-    let mut k: u8 = 0;
-    while k < RUNNABLES {
-        if queued_sound(os, rs, ss, k) {
-            k = k + 1;
-        } else {
-            return false;
-        }
-    }
-    true
-}
-
-fn all_served_sound(os: Operations, rs: Runnables, ss: Slots) -> bool
-    ensures { λ b. ⌜ b ≡ allBelow (servedSound os rs ss) maxSlots ⌝ }
-{
-    let mut k: u8 = 0;
-    while k < SLOTS {
-        if served_sound(os, rs, ss, k) {
-            k = k + 1;
-        } else {
-            return false;
-        }
-    }
-    true
-}
-
-fn all_called_sound(os: Operations, rs: Runnables, ss: Slots) -> bool
-    ensures { λ b. ⌜ b ≡ allBelow (calledSound os rs ss) maxOperationConfs ⌝ }
-{
-    let mut k: u8 = 0;
-    while k < OPERATIONS {
-        if called_sound(os, rs, ss, k) {
-            k = k + 1;
-        } else {
-            return false;
-        }
-    }
-    true
-}
-
-fn clients_sound(os: Operations, rs: Runnables, ss: Slots) -> bool
-    ensures { λ b. ⌜ b ≡ clientsSound os rs ss ⌝ }
-{
-    if !all_queued_sound(os, rs, ss) {
-        return false;
-    }
-    if !all_served_sound(os, rs, ss) {
-        return false;
-    }
-    all_called_sound(os, rs, ss)
-}
-
-// Each part by itself.
-fn parts_sound(cfg: Config, st: State) -> bool
-    ensures { λ b. ⌜ b ≡ allOf (partTests cfg st) ⌝ }
+// What is left to test when the slots are: each part by itself and against the tally.
+fn rest_sound(cfg: Config, st: State, y: Tally) -> bool
+    ensures { λ b. ⌜ b ≡ allOf (restTests cfg st y) ⌝ }
 {
     let runnables = st.runnables;
-    if !runnables_sound(cfg, runnables) {
+    let operations = st.operations;
+    if !runnables_tallied(cfg, operations, y, runnables) {
         return false;
     }
     let variables = st.variables;
@@ -974,33 +952,44 @@ fn parts_sound(cfg: Config, st: State) -> bool
     if !elements_sound(cfg.required, elements) {
         return false;
     }
-    let operations = st.operations;
-    if !operations_sound(cfg.operations, operations) {
+    let l = y.noted;
+    if !operations_tallied(cfg.operations, runnables, l, operations) {
         return false;
     }
     let timers = st.timers;
     if !timers_sound(cfg.timers, timers) {
         return false;
     }
-    let slots = st.slots;
-    slots_sound(cfg, slots)
+    let areas = st.areas;
+    let held = y.held;
+    if !areas_tallied(cfg.areas.n, held, areas) {
+        return false;
+    }
+    noted_alone(operations, l)
 }
 
-// A table against others.
-fn ties_sound(cfg: Config, st: State) -> bool
-    ensures { λ b. ⌜ b ≡ allOf (tieTests cfg st) ⌝ }
+// The one walk over the slots: each by itself, and its part of the tally.
+fn walk(cfg: Config, slots: Slots) -> Walked
+    ensures { λ r. ⌜ r ≡ walkOf cfg slots ⌝ }
 {
-    let runnables = st.runnables;
-    let slots = st.slots;
-    if !counts_sound(runnables, slots) {
-        return false;
+    let mut t = Tally::BLANK;
+    let mut k: usize = 0;
+    while k < Slots::MAX {
+        let x = slots.at[k];
+        if slot_sound(cfg, x) {
+            t = tallied(t, x);
+            k = k + 1;
+        } else {
+            return Walked {
+                sound: false,
+                tally: Tally::BLANK,
+            };
+        }
     }
-    let areas = st.areas;
-    if !areas_sound(cfg.areas, areas, slots) {
-        return false;
+    Walked {
+        sound: true,
+        tally: t,
     }
-    let operations = st.operations;
-    clients_sound(operations, runnables, slots)
 }
 
 // A sound state of a sound configuration; the lengths of tables hold by their types.
@@ -1010,8 +999,11 @@ pub fn is_sound(cfg: Config, st: State) -> bool
     if !entries::config_sound(cfg) {
         return false;
     }
-    if !parts_sound(cfg, st) {
-        return false;
+    let slots = st.slots;
+    let w = walk(cfg, slots);
+    if w.sound {
+        let y = w.tally;
+        return rest_sound(cfg, st, y);
     }
-    ties_sound(cfg, st)
+    false
 }

@@ -5,8 +5,11 @@ use mathlib.Core.Path.{_≡_, sym, _∙_}
 use mathlib.Core.Bool.{true}
 use native.Mathlib.Omega.{arith}
 use Prim.Native.Nat.{ℕ, _≤_, _-_}
+use lib.ListN.{length}
 use Rattle.laws.specs.Loop.{allBelow}
 use Rattle.laws.proofs.Looping.{all-none, all-more, all-fails}
+use Rattle.laws.proofs.Places.{inside, length-mapped}
+use Rattle.state.specs.Parts.{noElement, noValues}
 use Rattle.state.specs.Tables.{elementIn}
 use Rattle.rules.specs.Sound.{elementSound, elementsSound}
 use Rattle.sound.specs.Only.{onlyRequired}
@@ -22,6 +25,15 @@ abbrev μ-loop : tie.MeasureT-loop
 loop-holds : tie.Need-loop-holds Inv-loop μ-loop
 loop-holds c = (search needs, all-none _)
 
+mul-x : tie.Need-mul-x Inv-loop μ-loop
+mul-x c = omega (arith, c .loop-test .taken)
+
+element-copy-out-x : tie.Need-element-copy-out-x Inv-loop μ-loop
+element-copy-out-x c = c .loop-test .taken
+
+cast-element-sound : tie.Need-cast-element-sound Inv-loop μ-loop
+cast-element-sound c = omega (arith, c .before .loop-test .taken)
+
 add-k : tie.Need-add-k Inv-loop μ-loop
 add-k c = omega (arith, c .before .before .before .loop-test .taken)
 
@@ -29,11 +41,20 @@ loop-less : tie.Need-loop-less Inv-loop μ-loop
 loop-less c = omega (arith, c .before .before .before .loop-test .taken)
 
 loop-again : tie.Need-loop-again Inv-loop μ-loop
-loop-again c = (omega (arith, c .before .before .before .loop-test .taken), all-more _ _ (c .before .before .before .before .loop .inv .1) (rw (c .before .before .get .ensures) at (sym (c .before .element-sound .ensures) ∙ c .if1 .taken)))
+unfolding elementIn noElement noValues
+loop-again c =
+    let a = c .before .before .before .before .before .args in
+    let e : length (a .t2 .at) ≡ 16 = search (needs, length-mapped) in
+    let k = c .before .before .before .before .loop .k in
+    (omega (arith, c .before .before .before .loop-test .taken), all-more _ _ (c .before .before .before .before .loop .inv .1) (rw (inside (a .t2 .at) k 16 _ noElement e (c .before .before .before .loop-test .taken)) at (sym (c .before .element-sound .ensures) ∙ c .if1 .taken)))
 
 returns : tie.Need-returns Inv-loop μ-loop
-unfolding elementsSound
-returns c = sym (all-fails _ _ (c .before .before .before .before .loop .k) (c .before .before .before .loop-test .taken) (rw (c .before .before .get .ensures) at (sym (c .before .element-sound .ensures) ∙ c .if1 .left)))
+unfolding elementsSound elementIn noElement noValues
+returns c =
+    let a = c .before .before .before .before .before .args in
+    let e : length (a .t2 .at) ≡ 16 = search (needs, length-mapped) in
+    let k = c .before .before .before .before .loop .k in
+    sym (all-fails _ _ k (c .before .before .before .loop-test .taken) (rw (inside (a .t2 .at) k 16 _ noElement e (c .before .before .before .loop-test .taken)) at (sym (c .before .element-sound .ensures) ∙ c .if1 .left)))
 
 returns-2 : tie.Need-returns-2 Inv-loop μ-loop
 unfolding elementsSound
@@ -43,4 +64,4 @@ returns-2 c =
 
 pub elements-sound-spec : {M : Type 1} → statement M
 elements-sound-spec =
-    tie.close (tie.spec Inv-loop μ-loop loop-holds (λ c κs. tt) (λ c κs. tt) add-k loop-less loop-again returns returns-2)
+    tie.close (tie.spec Inv-loop μ-loop loop-holds mul-x element-copy-out-x cast-element-sound (λ c κs. tt) add-k loop-less loop-again returns returns-2)

@@ -1,13 +1,13 @@
 -- `sound::is_sound` meets its contract.
 -- Assumes nothing.
-use mathlib.Core.Path.{_≡_}
+use mathlib.Core.Path.{_≡_, sym, _∙_}
 use mathlib.Core.Bool.{true}
 use borrow.Author.Tests.{not-true, not-false, eq-eqb}
 use lib.ListN.{length}
 use Rattle.laws.specs.Choice.{allOf}
 use Rattle.laws.proofs.Places.{length-mapped}
-use Rattle.rules.specs.Sound.{shaped}
-use Rattle.sound.proofs.Whole.{sound-split}
+use Rattle.rules.specs.Sound.{shaped, soundOf}
+use Rattle.sound.proofs.Test.{rest-is, slot-fails}
 use Rattle.sound.proofs.is_sound.Statement.{statement}
 use Rattle.sound.proofs.is_sound.Tie as tie
 
@@ -26,14 +26,21 @@ shape c =
     rw (eq-eqb _ _ runnables, eq-eqb _ _ variables, eq-eqb _ _ areas, eq-eqb _ _ elements, eq-eqb _ _ operations, eq-eqb _ _ timers, eq-eqb _ _ slots)
 
 returns : tie.Need-returns
-returns c = rw (sound-split, ← c .before .config-sound .ensures, not-true (c .before .config-sound .result) (c .if1 .taken))
+unfolding soundOf allOf
+returns c = rw (← c .before .config-sound .ensures, not-true (c .before .config-sound .result) (c .if1 .taken))
 
 returns-2 : tie.Need-returns-2
-returns-2 c = rw (sound-split, ← c .before .before .before .config-sound .ensures, not-false (c .before .before .before .config-sound .result) (c .before .before .if1 .left), shape (c .before .before .before .before), ← c .before .parts-sound .ensures, not-true (c .before .parts-sound .result) (c .if2 .taken))
+returns-2 c =
+    let s = c .before .before .before .before .before .before .before in
+    let h = c .before .before .before .before .before .before .config-sound in
+    c .rest-sound .ensures ∙ rest-is (s .args .cfg) (s .args .st) (sym (h .ensures) ∙ not-false (h .result) (c .before .before .before .before .before .if1 .left)) (shape s) (c .before .before .before .walk .result) (c .before .before .before .walk .ensures) (c .before .before .if2 .taken)
 
 returns-3 : tie.Need-returns-3
-returns-3 c = rw (sound-split, ← c .before .before .before .before .config-sound .ensures, not-false (c .before .before .before .before .config-sound .result) (c .before .before .before .if1 .left), shape (c .before .before .before .before .before), ← c .before .before .parts-sound .ensures, not-false (c .before .before .parts-sound .result) (c .before .if2 .left), c .ties-sound .ensures)
+returns-3 c =
+    let s = c .before .before .before .before .before in
+    let h = c .before .before .before .before .config-sound in
+    sym (slot-fails (s .args .cfg) (s .args .st) (sym (h .ensures) ∙ not-false (h .result) (c .before .before .before .if1 .left)) (shape s) (c .before .walk .result) (c .before .walk .ensures) (c .if2 .left))
 
 pub is-sound-spec : {M : Type 1} → statement M
 is-sound-spec =
-    tie.close (tie.spec (λ c κs. tt) returns (λ c κs. tt) returns-2 (λ c κs. tt) returns-3)
+    tie.close (tie.spec (λ c κs. tt) returns (λ c κs. tt) (λ c κs. tt) returns-2 returns-3)

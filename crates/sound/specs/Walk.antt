@@ -1,0 +1,83 @@
+-- The test of a state as the code goes: the slots first, in one walk that leaves a tally; every other table behind them, once each, against the tally.
+-- Assumes nothing.
+use Prim.Native.Nat.{ℕ, _+_}
+use mathlib.Core.Bool.{Bool, not}
+use mathlib.Core.List.{List, [], _∷_}
+use lib.Dec.{ltb, eqb}
+use lib.ListN.{getD}
+use Rattle.laws.specs.Choice.{pick, both, either, bit, allOf}
+use Rattle.laws.specs.Loop.{allBelow}
+use Rattle.types.specs.Types.{Config, Client, Requests, Runnable, Runnables, Area, Areas, Operation, Operations, Slots, State}
+use Rattle.config.specs.Tables.{maxRunnableConfs, maxAreaConfs, maxOperationConfs, operationConfIn}
+use Rattle.state.specs.Parts.{noClient, noRequests}
+use Rattle.state.specs.Tables.{maxSlots, runnableIn, areaIn, operationIn}
+use Rattle.rules.specs.Sound.{runnableSound, operationSound, queuedAs, numbered, variablesSound, elementsSound, timersSound, slotsSound}
+use Rattle.sound.specs.declared.Held.{Held}
+use Rattle.sound.specs.declared.Noted.{Noted}
+use Rattle.sound.specs.declared.Tally.{Tally}
+use Rattle.sound.specs.declared.Walked.{Walked}
+use Rattle.sound.specs.Tally.{noTally, tallyOf, notedAt, notedAs}
+
+-- how many clients have the operation o and the number m, in one queue and among those noted (ours)
+unfoldable pub clientsWith : Requests → Noted → ℕ → ℕ → ℕ
+clientsWith q l o m = queuedAs o m q + notedAs o m l
+
+-- a client has a number that it may have, and shares operation and number with no other of that queue and of those noted (ours)
+unfoldable pub clientAlone : Operations → Requests → Noted → Client → Bool
+clientAlone os q l c = both (numbered os c) (eqb (clientsWith q l (c .operation) (c .number)) 1)
+
+-- every client of a queue does (ours)
+unfoldable pub queueAlone : Operations → Requests → Noted → Bool
+queueAlone os q l = allBelow (λ (j : ℕ). clientAlone os q l (getD (q .at) j noClient)) (q .queued)
+
+-- every client noted does, against those noted; one that waits in a queue too is found with that queue (ours)
+unfoldable pub notedAlone : Operations → Noted → Bool
+notedAlone os l = allBelow (λ (j : ℕ). clientAlone os noRequests l (notedAt l j)) (l .n)
+
+-- the queue that the clients of the operation o wait in (ours)
+unfoldable pub queueOf : Config → Runnables → ℕ → Requests
+queueOf cfg rs o = runnableIn rs (operationConfIn (cfg .operations) o .server) .requests
+
+-- a runnable by itself, the n slots that it has, and its clients (ours)
+unfoldable pub runnableTallied : Config → Operations → Noted → ℕ → ℕ → Runnable → Bool
+runnableTallied cfg os l n r x = both (runnableSound cfg r x) (both (eqb (x .instances) n) (queueAlone os (x .requests) l))
+
+-- an operation by itself, and the one client of an open call (ours)
+unfoldable pub operationTallied : Config → Runnables → Noted → ℕ → Operation → Bool
+operationTallied cfg rs l o x = both (operationSound cfg o x) (either (not (x .calling)) (eqb (clientsWith (queueOf cfg rs o) l o (x .number)) 1))
+
+-- an area, and how often it stands in the stacks; there are n areas (ours)
+unfoldable pub areaTallied : ℕ → ℕ → ℕ → Area → Bool
+areaTallied n held a x = both (either (not (x .taken)) (ltb a n)) (eqb held (bit (x .taken)))
+
+-- every runnable (ours)
+unfoldable pub runnablesTallied : Config → Operations → Tally → Runnables → Bool
+runnablesTallied cfg os y t = allBelow (λ (r : ℕ). runnableTallied cfg os (y .noted) (getD (y .instances) r 0) r (runnableIn t r)) maxRunnableConfs
+
+-- every operation (ours)
+unfoldable pub operationsTallied : Config → Runnables → Noted → Operations → Bool
+operationsTallied cfg rs l t = allBelow (λ (o : ℕ). operationTallied cfg rs l o (operationIn t o)) maxOperationConfs
+
+-- every area (ours)
+unfoldable pub areasTallied : ℕ → Held → Areas → Bool
+areasTallied n l t = allBelow (λ (a : ℕ). areaTallied n (getD (l .at) a 0) a (areaIn t a)) maxAreaConfs
+
+-- what is left to test when the slots are (ours)
+abbrev pub restTests : Config → State → Tally → List Bool
+restTests cfg st y =
+    runnablesTallied cfg (st .operations) y (st .runnables)
+    ∷ variablesSound cfg (st .variables)
+    ∷ elementsSound cfg (st .elements)
+    ∷ operationsTallied cfg (st .runnables) (y .noted) (st .operations)
+    ∷ timersSound cfg (st .timers)
+    ∷ areasTallied (cfg .areas .n) (y .held) (st .areas)
+    ∷ notedAlone (st .operations) (y .noted)
+    ∷ []
+
+-- what the walk over the slots comes to: whether each of them is sound, and the tally of all if so (ours)
+unfoldable pub walkOf : Config → Slots → Walked
+walkOf cfg ss = record { sound = slotsSound cfg ss; tally = pick (slotsSound cfg ss) (tallyOf ss maxSlots) noTally }
+
+-- the slots, and the rest by their tally (ours)
+unfoldable pub wholeTest : Config → State → Bool
+wholeTest cfg st = both (slotsSound cfg (st .slots)) (allOf (restTests cfg st (tallyOf (st .slots) maxSlots)))
