@@ -319,19 +319,19 @@ lines-put-line κs a x y s t p q = written-once _ _ _ _ _ _ _ p q
 
 -- ---- trip
 
-pub trip-rewrite-config : Lent Rattle.round_trips.proofs.rewrite_config.Kinds.ps Rattle.round_trips.proofs.rewrite_config.Kinds.r Rattle.round_trips.proofs.rewrite_config.Reads.Post (λ κs s. s .1 .0 .now)
-trip-rewrite-config κs a x y s t p q = (same (p .0) (q .0), same (p .1) (q .1))
+pub round-trips-rewrite-config : Lent Rattle.round_trips.proofs.rewrite_config.Kinds.ps Rattle.round_trips.proofs.rewrite_config.Kinds.r Rattle.round_trips.proofs.rewrite_config.Reads.Post (λ κs s. s .1 .0 .now)
+round-trips-rewrite-config κs a x y s t p q = (same (p .0) (q .0), same (p .1) (q .1))
 
-pub trip-write-and-read : Lent Rattle.round_trips.proofs.write_and_read.Kinds.ps Rattle.round_trips.proofs.write_and_read.Kinds.r Rattle.round_trips.proofs.write_and_read.Reads.Post (λ κs s. s .0 .now)
-trip-write-and-read κs a x y s t p q = (same (p .0) (q .0), same (p .1) (q .1))
+pub round-trips-write-and-read : Lent Rattle.round_trips.proofs.write_and_read.Kinds.ps Rattle.round_trips.proofs.write_and_read.Kinds.r Rattle.round_trips.proofs.write_and_read.Reads.Post (λ κs s. s .0 .now)
+round-trips-write-and-read κs a x y s t p q = (same (p .0) (q .0), same (p .1) (q .1))
 
 -- ---- gate
 
-pub gate-instance-refusal : One Rattle.refusals.proofs.instance_refusal.Kinds.ps Rattle.refusals.proofs.instance_refusal.Kinds.r Rattle.refusals.proofs.instance_refusal.Reads.Post
-gate-instance-refusal κs a x y s t = same
+pub refusals-instance-refusal : One Rattle.refusals.proofs.instance_refusal.Kinds.ps Rattle.refusals.proofs.instance_refusal.Kinds.r Rattle.refusals.proofs.instance_refusal.Reads.Post
+refusals-instance-refusal κs a x y s t = same
 
-pub gate-scheduler-refusal : One Rattle.refusals.proofs.scheduler_refusal.Kinds.ps Rattle.refusals.proofs.scheduler_refusal.Kinds.r Rattle.refusals.proofs.scheduler_refusal.Reads.Post
-gate-scheduler-refusal κs a x y s t = same
+pub refusals-scheduler-refusal : One Rattle.refusals.proofs.scheduler_refusal.Kinds.ps Rattle.refusals.proofs.scheduler_refusal.Kinds.r Rattle.refusals.proofs.scheduler_refusal.Reads.Post
+refusals-scheduler-refusal κs a x y s t = same
 
 -- ---- sound
 
@@ -457,3 +457,17 @@ mender-put-told κs a x y s t p q = written-once _ _ _ _ _ _ _ p q
 
 pub mender-size-of : One Rattle.mender.proofs.size_of.Kinds.ps Rattle.mender.proofs.size_of.Kinds.r Rattle.mender.proofs.size_of.Reads.Post
 mender-size-of κs a x y s t p q = same (p .0) (q .0)
+
+-- ---- causes
+
+pub causes-row-of : One Rattle.causes.proofs.row_of.Kinds.ps Rattle.causes.proofs.row_of.Kinds.r Rattle.causes.proofs.row_of.Reads.Post
+causes-row-of κs a x y s t = same
+
+pub causes-passes : One Rattle.causes.proofs.passes.Kinds.ps Rattle.causes.proofs.passes.Kinds.r Rattle.causes.proofs.passes.Reads.Post
+causes-passes κs a x y s t = same
+
+pub causes-cause-of : One Rattle.causes.proofs.cause_of.Kinds.ps Rattle.causes.proofs.cause_of.Kinds.r Rattle.causes.proofs.cause_of.Reads.Post
+causes-cause-of κs a x y s t = same
+
+pub causes-allowed : One Rattle.causes.proofs.allowed.Kinds.ps Rattle.causes.proofs.allowed.Kinds.r Rattle.causes.proofs.allowed.Reads.Post
+causes-allowed κs a x y s t = same

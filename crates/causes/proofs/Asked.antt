@@ -1,0 +1,89 @@
+-- What is asked about a code, a slot and a part holds of every step of theirs: the answer does not depend on what is handed over, as long as it is of the
+-- kind that the code takes. A wait is the one step whose argument counts (`wait-goes`).
+-- Assumes nothing.
+use Prim.Native.Nat.{ℕ, _<_}
+use mathlib.Core.Bool.{Bool, true, false}
+use mathlib.Core.Path.{_≡_, refl, sym, ap, _∙_}
+use native.Mathlib.Decide.{ℕ-discrete}
+use native.Mathlib.Omega.{arith}
+use lib.Dec.{ltb, eqb}
+use Rattle.numbers.specs.Codes.{waitCode}
+use Rattle.laws.specs.Choice.{pick, both, either}
+use Rattle.values.specs.Values.{voidV, numberV, isVoid, isPayload}
+use Rattle.types.specs.Types.{Value, Step, Config, State, Stepped}
+use Rattle.config.specs.Tables.{operationConfIn}
+use Rattle.rules.specs.declared.Row.{Row}
+use Rattle.rules.specs.Rows.{noPart, rowOf}
+use Rattle.rules.specs.Refusals.{argues, formed, instanceRefusal, schedulerRefusal, refusalBy, refusalOf}
+use Rattle.effects.specs.Steps.{requestsFull, isOpen, isSpent, serves, clientOf, answers, writeVariableOf, writeOf, sendOf, callOf, handBackOf}
+use Rattle.effects.specs.Step.{possibleOf}
+use Rattle.effects.proofs.Codes.{Code, coded, actBy, possible-by, possible-barred}
+use Rattle.effects.proofs.Codes as code
+use Rattle.causes.specs.Allowed.{sampleOf, probeOf, allowedOf}
+
+-- the sample is of its kind
+sample-argues : (k : ℕ) → argues k (sampleOf k) ≡ true
+unfolding argues sampleOf isVoid isPayload
+sample-argues k = go (eqb k 0) (eqb k 1)
+  where
+    go : (a b : Bool) → pick a (isVoid (pick a voidV (pick b voidV (numberV 0)))) (pick b (isPayload (pick a voidV (pick b voidV (numberV 0)))) (eqb (pick a voidV (pick b voidV (numberV 0)) .kind) 1)) ≡ true
+    go true b = refl
+    go false true = refl
+    go false false = refl
+
+-- two arguments of the kind are as good as each other
+formed-same : (r : Row) (what : ℕ) (v w : Value) → argues (r .argument) v ≡ true → argues (r .argument) w ≡ true → formed r what v ≡ formed r what w
+unfolding formed
+formed-same r what v w h k = ap (both (either (ltb noPart (r .part)) (eqb what 0))) (h ∙ sym k)
+
+-- a choice between outcomes that answer alike
+answer-pick : (b : Bool) (x y z w : Stepped) → x .answer ≡ z .answer → y .answer ≡ w .answer → pick b x y .answer ≡ pick b z w .answer
+answer-pick true x y z w p q = p
+answer-pick false x y z w p q = q
+
+module _ (cfg : Config) (st : State) where
+  -- what a step answers does not depend on what it hands over, but for a wait
+  act-answers : {n : ℕ} (c : Code n) → n < waitCode → (i k : ℕ) (v w : Value) → actBy c cfg st i k v .answer ≡ actBy c cfg st i k w .answer
+  unfolding writeVariableOf writeOf sendOf callOf handBackOf
+  act-answers code.readVariable l i k v w = refl
+  act-answers code.writeVariable l i k v w = refl
+  act-answers code.enter l i k v w = refl
+  act-answers code.exit l i k v w = refl
+  act-answers code.read l i k v w = refl
+  act-answers code.write l i k v w = refl
+  act-answers code.updated l i k v w = refl
+  act-answers code.invalidate l i k v w = refl
+  act-answers code.receive l i k v w = refl
+  act-answers code.send l i k v w = refl
+  act-answers code.call l i k v w =
+      answer-pick (isOpen st k) _ _ _ _ refl
+      (answer-pick (isSpent st k) _ _ _ _ refl
+      (answer-pick (requestsFull cfg (st .runnables) (operationConfIn (cfg .operations) k .server)) _ _ _ _ refl refl))
+  act-answers code.result l i k v w = refl
+  act-answers code.handBack l i k v w =
+      answer-pick (serves st i) _ _ _ _ (answer-pick (answers (st .operations) (clientOf st i)) _ _ _ _ refl refl) refl
+  act-answers code.end l i k v w = refl
+  act-answers code.spawn l i k v w = refl
+  act-answers code.timeout l i k v w = refl
+  act-answers code.tick l i k v w = refl
+  act-answers code.wait l i k v w = absurd (omega (arith, l))
+
+  module _ (s : Step) (h : argues (rowOf (s .code) .argument) (s .argument) ≡ true) where
+    -- the step that is asked about
+    abbrev asked : Step
+    asked = probeOf (s .code) (s .who) (s .what)
+
+    refused-alike : refusalOf cfg (st .slots) s ≡ refusalOf cfg (st .slots) asked
+    unfolding refusalOf refusalBy instanceRefusal schedulerRefusal probeOf
+    refused-alike = rw (formed-same (rowOf (s .code)) (s .what) (s .argument) (sampleOf (rowOf (s .code) .argument)) h (sample-argues (rowOf (s .code) .argument)))
+
+    -- the answer of any step of codes 1 to 17 whose argument is of its kind is the one that was asked for
+    pub allowed-is-possible : s .code < waitCode → possibleOf cfg st s .answer ≡ allowedOf cfg st (s .code) (s .who) (s .what)
+    unfolding allowedOf probeOf
+    allowed-is-possible l = go (ℕ-discrete (refusalOf cfg (st .slots) s) 0)
+      where
+        go : Dec (refusalOf cfg (st .slots) s ≡ 0) → possibleOf cfg st s .answer ≡ possibleOf cfg st asked .answer
+        go (yes e) =
+            let c = coded cfg (st .slots) s e in
+            rw (possible-by cfg st s c refl e, possible-by cfg st asked c refl (sym refused-alike ∙ e)) (act-answers c l (s .who) (s .what) (s .argument) (sampleOf (rowOf (s .code) .argument)))
+        go (no n) = rw (possible-barred cfg st s n, possible-barred cfg st asked (λ e. n (refused-alike ∙ e)), refused-alike)

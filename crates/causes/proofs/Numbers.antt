@@ -1,0 +1,247 @@
+-- The cause of a refusal stands for the machine's own number: of the step before its claim, with it, and after the test of soundness.
+-- And there is no cause exactly where the step is taken.
+-- Assumes nothing.
+use Prim.Native.Nat.{ℕ}
+use mathlib.Core.Bool.{Bool, true, false}
+use mathlib.Core.Path.{_≡_, refl, sym, ap, _∙_, subst}
+use lib.Dec.{ltb, leb, eqb}
+use Rattle.laws.specs.Choice.{pick, both}
+use Rattle.laws.proofs.Choosing.{pick-has}
+use Rattle.numbers.specs.Refusals.{malformed, notThere, notOwn, barred, areaTaken, notOnTop, queueFull, numbersSpent, stillOpen, notDue, noSlotFree, tooFar, notOver, areasHeld, wrongClient, otherAnswer}
+use Rattle.numbers.specs.Codes.{resultCode, timeoutCode}
+use Rattle.values.specs.Values.{answerRefusal, sameValue}
+use Rattle.types.specs.Types.{Value, Step, Answer, Taken, Refused, Config, RunnableConf, Runnable, Slots, State, Stepped}
+use Rattle.config.specs.Tables.{runnableConfIn}
+use Rattle.entries.specs.Entries.{entryOf}
+use Rattle.state.specs.Tables.{maxSlots, runnableIn, operationIn, slotIn}
+use Rattle.rules.specs.declared.Row.{Row}
+use Rattle.rules.specs.Sound.{componentOf, soundOf}
+use Rattle.rules.specs.Rows.{aSlot, scheduler, noPart, rowOf}
+use Rattle.rules.specs.Refusals.{formed, partThere, partOwn, lifeLets, ownedRefusal, instanceRefusal, schedulerRefusal, refusalBy, refusalOf}
+use Rattle.effects.specs.Steps.{refused}
+use Rattle.effects.specs.Step.{possibleOf, onAnswer, claimedOf, innerOf, stepOf}
+use Rattle.effects.proofs.Codes.{never}
+use Rattle.stays_sound.proofs.Ways.{Barred, shared, enterTaken, exitOther, callSpent, callFull, collectOpen, answerNone, endServing, endHolding, spawnNeed, spawnFull, timeoutEarly, tickEarly, waitFar, Went, bars, goes, went}
+use Rattle.stays_sound.proofs.Refusals.{refused-same}
+use Rattle.causes.specs.declared.Cause.{Cause}
+use Rattle.causes.specs.declared.Cause.the-variants.{NoCause, Differs}
+use Rattle.causes.specs.Passing.{passesOf, operationStop, timerStop}
+use Rattle.causes.specs.Causes.{causeRefusal, formCause, codeCause, thereCause, ownCause, lifeCause, topCause, stillCause, fullCause, openCause, dueCause, spawnCause, stopCause, earlyCause, owedCause, whyOf, claimCause, causeOf}
+
+-- ---- each number's causes have that number
+
+-- a choice between two causes of one number
+either-number : (b : Bool) (x y : Cause) (n : ℕ) → causeRefusal x ≡ n → causeRefusal y ≡ n → causeRefusal (pick b x y) ≡ n
+either-number true x y n p q = p
+either-number false x y n p q = q
+
+form-number : (r : Row) (s : Step) → causeRefusal (formCause r s) ≡ malformed
+unfolding formCause
+form-number r s = either-number (ltb noPart (r .part)) _ _ malformed refl (either-number (ltb 0 (s .what)) _ _ malformed refl refl)
+
+code-number : (r : Row) (s : Step) → causeRefusal (codeCause r s) ≡ malformed
+unfolding codeCause
+code-number r s =
+    either-number (eqb (r .who) aSlot) _ _ malformed (form-number r s)
+    (either-number (eqb (r .who) scheduler) _ _ malformed (either-number (eqb (s .who) 0) _ _ malformed (form-number r s) refl) refl)
+
+there-number : (cfg : Config) (ss : Slots) (r : Row) (s : Step) → causeRefusal (thereCause cfg ss r s) ≡ notThere
+unfolding thereCause
+there-number cfg ss r s =
+    either-number (eqb (r .who) aSlot) _ _ notThere
+    (either-number (leb maxSlots (s .who)) _ _ notThere refl (either-number (slotIn ss (s .who) .used) _ _ notThere refl refl))
+    refl
+
+own-number : (cfg : Config) (ss : Slots) (r : Row) (s : Step) → causeRefusal (ownCause cfg ss r s) ≡ notOwn
+unfolding ownCause
+own-number cfg ss r s =
+    either-number (eqb (entryOf cfg (r .part) (s .what) .first) (componentOf cfg (slotIn ss (s .who) .life .runnable))) _ _ notOwn
+    (either-number (ltb 0 (entryOf cfg (r .part) (s .what) .second)) _ _ notOwn refl refl)
+    refl
+
+life-number : (ss : Slots) (s : Step) → causeRefusal (lifeCause ss s) ≡ barred
+unfolding lifeCause
+life-number ss s =
+    either-number (slotIn ss (s .who) .life .waiting) _ _ barred
+    (either-number (both (eqb (s .code) resultCode) (eqb (slotIn ss (s .who) .life .on) (s .what))) _ _ barred refl refl)
+    (either-number (slotIn ss (s .who) .life .finished) _ _ barred refl refl)
+
+top-number : (ss : Slots) (i : ℕ) → causeRefusal (topCause ss i) ≡ notOnTop
+unfolding topCause
+top-number ss i = either-number (ltb 0 (slotIn ss i .stack .held)) _ _ notOnTop refl refl
+
+full-number : (cfg : Config) (o : ℕ) → causeRefusal (fullCause cfg o) ≡ queueFull
+unfolding fullCause
+full-number cfg o = refl
+
+open-number : (st : State) (o : ℕ) → causeRefusal (openCause st o) ≡ stillOpen
+unfolding openCause
+open-number st o = refl
+
+due-number : (n : ℕ) → causeRefusal (dueCause n) ≡ notDue
+unfolding dueCause
+due-number n = either-number (eqb n 0) _ _ notDue refl refl
+
+spawn-number : (c : RunnableConf) (x : Runnable) → causeRefusal (spawnCause c x) ≡ notDue
+unfolding spawnCause
+spawn-number c x =
+    either-number (ltb 0 (x .interval)) _ _ notDue refl
+    (either-number (c .concurrent) _ _ notDue (due-number (c .capacity))
+    (either-number (ltb 0 (x .instances)) _ _ notDue refl (due-number (c .capacity))))
+
+stop-number : (cfg : Config) (st : State) (t : ℕ) → causeRefusal (stopCause cfg st t) ≡ tooFar
+unfolding stopCause
+stop-number cfg st t =
+    either-number (ltb (operationStop cfg (st .operations) t) (cfg .operations .n)) _ _ tooFar refl
+    (either-number (ltb (timerStop cfg (st .timers) t) (cfg .timers .n)) _ _ tooFar refl refl)
+
+early-number : (st : State) (s : Step) → causeRefusal (earlyCause st s) ≡ notOver
+unfolding earlyCause
+early-number st s =
+    either-number (eqb (s .code) timeoutCode) _ _ notOver (either-number (operationIn (st .operations) (s .what) .calling) _ _ notOver refl refl) refl
+
+still-number : (ss : Slots) (i : ℕ) → causeRefusal (stillCause ss i) ≡ areasHeld
+unfolding stillCause
+still-number ss i = refl
+
+owed-number : (ss : Slots) (i : ℕ) → causeRefusal (owedCause ss i) ≡ wrongClient
+unfolding owedCause
+owed-number ss i = either-number (slotIn ss i .owed .serving) _ _ wrongClient refl refl
+
+-- ---- by the number: 2 to 16 are all that a step before its claim can have
+
+module _ (cfg : Config) (st : State) (s : Step) where
+  abbrev Named : ℕ → Type 0
+  Named n = causeRefusal (whyOf cfg st s n) ≡ n
+
+  named-malformed : Named malformed
+  unfolding whyOf
+  named-malformed = code-number (rowOf (s .code)) s
+
+  named-not-there : Named notThere
+  unfolding whyOf
+  named-not-there = there-number cfg (st .slots) (rowOf (s .code)) s
+
+  named-not-own : Named notOwn
+  unfolding whyOf
+  named-not-own = own-number cfg (st .slots) (rowOf (s .code)) s
+
+  named-barred : Named barred
+  unfolding whyOf
+  named-barred = life-number (st .slots) s
+
+  named-area-taken : Named areaTaken
+  unfolding whyOf
+  named-area-taken = refl
+
+  named-not-on-top : Named notOnTop
+  unfolding whyOf
+  named-not-on-top = top-number (st .slots) (s .who)
+
+  named-queue-full : Named queueFull
+  unfolding whyOf
+  named-queue-full = full-number cfg (s .what)
+
+  named-numbers-spent : Named numbersSpent
+  unfolding whyOf
+  named-numbers-spent = refl
+
+  named-still-open : Named stillOpen
+  unfolding whyOf
+  named-still-open = open-number st (s .what)
+
+  named-not-due : Named notDue
+  unfolding whyOf
+  named-not-due = spawn-number (runnableConfIn (cfg .runnables) (s .what)) (runnableIn (st .runnables) (s .what))
+
+  named-no-slot-free : Named noSlotFree
+  unfolding whyOf
+  named-no-slot-free = refl
+
+  named-too-far : Named tooFar
+  unfolding whyOf
+  named-too-far = stop-number cfg st (passesOf cfg st (s .argument .number))
+
+  named-not-over : Named notOver
+  unfolding whyOf
+  named-not-over = early-number st s
+
+  named-areas-held : Named areasHeld
+  unfolding whyOf
+  named-areas-held = still-number (st .slots) (s .who)
+
+  named-wrong-client : Named wrongClient
+  unfolding whyOf
+  named-wrong-client = owed-number (st .slots) (s .who)
+
+  -- a number that is not 0 is that of its cause
+  abbrev Good : ℕ → Type 0
+  Good n = (n ≡ 0 → ⊥) → Named n
+
+  -- a step's refusal is one of them
+  abbrev Fair : Stepped → Type 0
+  Fair r = (n : ℕ) → r .answer ≡ Refused n → Named n
+
+  -- ---- the refusals that all share
+
+  shared-named : (a b c d : Bool) → (pick a (pick b (pick c (pick d 0 barred) notOwn) notThere) malformed ≡ 0 → ⊥) → Named (pick a (pick b (pick c (pick d 0 barred) notOwn) notThere) malformed)
+  shared-named true true true true e = absurd (e refl)
+  shared-named true true true false e = named-barred
+  shared-named true true false d e = named-not-own
+  shared-named true false c d e = named-not-there
+  shared-named false b c d e = named-malformed
+
+  refusal-named : (r : Row) → (refusalBy cfg (st .slots) r s ≡ 0 → ⊥) → Named (refusalBy cfg (st .slots) r s)
+  unfolding refusalBy instanceRefusal ownedRefusal schedulerRefusal
+  refusal-named r = pick-has Good (eqb (r .who) aSlot) _ _
+      (λ e. shared-named (formed r (s .what) (s .argument)) (both (slotIn (st .slots) (s .who) .used) (partThere cfg (r .part) (s .what)))
+      (partOwn cfg (componentOf cfg (slotIn (st .slots) (s .who) .life .runnable)) r (s .what)) (lifeLets cfg (slotIn (st .slots) (s .who) .life) (s .code) (s .what)))
+      (λ e. pick-has Good (eqb (r .who) scheduler) _ _
+      (λ d. shared-named (both (eqb (s .who) 0) (formed r (s .what) (s .argument))) (partThere cfg (r .part) (s .what)) true true)
+      (λ d n. named-malformed))
+
+  -- ---- each way to be refused
+
+  barred-named : {n k : ℕ} → Barred cfg st s n k → Named k
+  unfolding refusalOf
+  barred-named (shared n) = refusal-named (rowOf (s .code)) n
+  barred-named (enterTaken e) = named-area-taken
+  barred-named (exitOther e) = named-not-on-top
+  barred-named (callSpent a b) = named-numbers-spent
+  barred-named (callFull a b) = named-queue-full
+  barred-named (collectOpen e) = named-still-open
+  barred-named (answerNone e) = named-wrong-client
+  barred-named (endServing e) = named-wrong-client
+  barred-named (endHolding a b) = named-areas-held
+  barred-named (spawnNeed e) = named-not-due
+  barred-named (spawnFull a b) = named-no-slot-free
+  barred-named (timeoutEarly e) = named-not-over
+  barred-named (tickEarly e) = named-not-over
+  barred-named (waitFar e) = named-too-far
+
+  went-fair : {n : ℕ} {r : Stepped} → Went cfg st s n r → Fair r
+  went-fair (bars b) n e = subst Named (refused-same _ n e) (barred-named b)
+  went-fair (goes w) n e = absurd (never (sym e))
+
+  possible-fair : Fair (possibleOf cfg st s)
+  possible-fair = went-fair (went cfg st s)
+
+  -- ---- the theorems
+
+  -- the number of the cause is the number under which the step is refused, and 0 where it is taken
+  pub cause-is-refusal : causeRefusal (causeOf cfg st s) ≡ answerRefusal (innerOf cfg st s .answer)
+  unfolding causeOf innerOf claimedOf claimCause
+  cause-is-refusal = go (possibleOf cfg st s) (possibleOf cfg st s .answer) refl possible-fair
+    where
+      go : (r : Stepped) (a : Answer) → r .answer ≡ a → Fair r → causeRefusal (onAnswer a (λ (v : Value). pick (sameValue v (s .claim)) NoCause (Differs v)) (λ (n : ℕ). whyOf cfg st s n)) ≡ answerRefusal (onAnswer a (λ (v : Value). pick (sameValue v (s .claim)) r (refused otherAnswer st)) (λ (n : ℕ). r) .answer)
+      go r (Taken v) e f = told (sameValue v (s .claim))
+        where
+          told : (b : Bool) → causeRefusal (pick b NoCause (Differs v)) ≡ answerRefusal (pick b r (refused otherAnswer st) .answer)
+          told true = sym (ap answerRefusal e)
+          told false = refl
+      go r (Refused n) e f = f n e ∙ sym (ap answerRefusal e)
+
+  -- the same of the whole step, in a state that is sound
+  pub cause-is-step : soundOf cfg st ≡ true → causeRefusal (causeOf cfg st s) ≡ answerRefusal (stepOf cfg st s .answer)
+  unfolding stepOf
+  cause-is-step h = rw h cause-is-refusal

@@ -1,0 +1,642 @@
+// Why a step is refused, finer than its number: which slot, which need, which count. How far time may go, and what is allowed in a state.
+ghost use mathlib.Core.Path.{_≡_};
+ghost use lib.ListN.{getD};
+ghost use Rattle.config.specs.Tables.{runnableConfIn};
+ghost use Rattle.state.specs.Tables.{runnableIn};
+ghost use Rattle.rules.specs.Rows.{rowOf};
+ghost use Rattle.causes.specs.Passing.{least, operationLeft, runnableLeft, operationsPass, timersPass, runnablesPass, passesOf, operationStops, timerStops, runnableStops, operationStop, timerStop, runnableStop};
+ghost use Rattle.causes.specs.Causes.{formCause, codeCause, thereCause, ownCause, lifeCause, holdsOf, holderOf, topCause, fullCause, openCause, dueCause, spawnCause, stopCause, earlyCause, stillCause, owedCause, whyOf, claimCause, causeOf};
+ghost use Rattle.causes.specs.Allowed.{sampleOf, probeOf, allowedOf};
+use config::AreaConfs;
+use config::Config;
+use config::RunnableConf;
+use rules::Row;
+use state::Operation;
+use state::Operations;
+use state::Runnable;
+use state::Runnables;
+use state::Slots;
+use state::Stack;
+use state::State;
+use state::Timer;
+use state::Timers;
+use values::Answer;
+use values::Step;
+use values::Value;
+
+// Why a step is refused, by the numbers of refusal in brackets, with what tells one case from the next.
+pub enum Cause {
+    // it is not refused
+    NoCause,
+    // (2) the code is none of 1 to 18; the scheduler has no slot; no part is named here; the argument is not of this kind: 0 none, 1 a payload, 2 a Number
+    NoCode,
+    HasWho,
+    HasWhat,
+    BadArgument(u8),
+    // (3) there is no such slot; nothing is in it; there are only so many parts of the kind
+    NoSlot,
+    EmptySlot,
+    NoPart(u8),
+    // (4) the part is of the first component, the instance of the second; the element is queued; it is not
+    Foreign(u8, u8),
+    IsQueued,
+    NotQueued,
+    // (5) the instance waits on this operation; it is finished; it does not wait
+    WaitsOn(u8),
+    IsFinished,
+    NotWaiting,
+    // (6) the area is held by this slot
+    HeldBy(u8),
+    // (7) no area is held; this one is on top
+    NoneHeld,
+    OnTop(u8),
+    // (8) the queue of this server is full, which has room for so many
+    QueueFull(u8, u8),
+    // (9) all numbers are used
+    NumbersUsed,
+    // (10) the call is open, with so many ms left
+    CallOpen(u32),
+    // (11) the start interval has so many ms left; so many instances run; it is not pending; no request waits
+    InInterval(u32),
+    Runs(u8),
+    NotPending,
+    NoRequest,
+    // (12) all slots are in use
+    NoRoom,
+    // (13) the count of this kind of part, by its tag, and of this number, lets no more ms pass than this
+    Stops(u8, u8, u32),
+    // (14) no call is open; the call, or the timer, has so many ms left
+    NotOpen,
+    CallRuns(u32),
+    TimerRuns(u32),
+    // (15) this area is on top of those that are still held
+    StillHeld(u8),
+    // (16) the instance has no client; it has one, of this operation
+    NoClient,
+    HasClient(u8),
+    // (17) this is the right answer
+    Differs(Value),
+}
+
+// Who takes a step.
+const NOBODY: u8 = 0;
+
+const A_SLOT: u8 = 1;
+
+const SCHEDULER: u8 = 2;
+
+// What it names: the tag of the kind of part, or none.
+const NO_PART: u8 = 0;
+
+// Which queueing an element is to have.
+const ANYHOW: u8 = 0;
+
+const UNQUEUED: u8 = 1;
+
+const QUEUED: u8 = 2;
+
+// Its argument.
+const NOTHING: u8 = 0;
+
+const A_PAYLOAD: u8 = 1;
+
+const A_NUMBER: u8 = 2;
+
+// The table of steps, a row for each code from 0 on: who takes it, the part, the queueing, the argument.
+const ROWS: [[u8; 4]; 19] = [
+    [NOBODY, NO_PART, ANYHOW, NOTHING],
+    [A_SLOT, numbers::TAG_VARIABLE, ANYHOW, NOTHING],
+    [A_SLOT, numbers::TAG_VARIABLE, ANYHOW, A_PAYLOAD],
+    [A_SLOT, numbers::TAG_AREA, ANYHOW, NOTHING],
+    [A_SLOT, numbers::TAG_AREA, ANYHOW, NOTHING],
+    [A_SLOT, numbers::TAG_REQUIRED, UNQUEUED, NOTHING],
+    [A_SLOT, numbers::TAG_PROVIDED, UNQUEUED, A_PAYLOAD],
+    [A_SLOT, numbers::TAG_REQUIRED, UNQUEUED, NOTHING],
+    [A_SLOT, numbers::TAG_PROVIDED, UNQUEUED, NOTHING],
+    [A_SLOT, numbers::TAG_REQUIRED, QUEUED, NOTHING],
+    [A_SLOT, numbers::TAG_PROVIDED, QUEUED, A_PAYLOAD],
+    [A_SLOT, numbers::TAG_OPERATION, ANYHOW, A_PAYLOAD],
+    [A_SLOT, numbers::TAG_OPERATION, ANYHOW, NOTHING],
+    [A_SLOT, NO_PART, ANYHOW, A_PAYLOAD],
+    [A_SLOT, NO_PART, ANYHOW, NOTHING],
+    [SCHEDULER, numbers::TAG_RUNNABLE, ANYHOW, NOTHING],
+    [SCHEDULER, numbers::TAG_OPERATION, ANYHOW, NOTHING],
+    [SCHEDULER, numbers::TAG_TIMER, ANYHOW, NOTHING],
+    [SCHEDULER, NO_PART, ANYHOW, A_NUMBER],
+];
+
+const SLOTS: u8 = Slots::MAX as u8;
+
+// The row of a code; a code without one is nobody's.
+pub fn row_of(code: u8) -> Row
+    ensures { λ r. ⌜ r ≡ rowOf code ⌝ }
+{
+    let k = code as usize;
+    if k < 19 {
+        let l = ROWS[k];
+        return Row {
+            who: l[0],
+            part: l[1],
+            queueing: l[2],
+            argument: l[3],
+        };
+    }
+    Row {
+        who: NOBODY,
+        part: NO_PART,
+        queueing: ANYHOW,
+        argument: NOTHING,
+    }
+}
+
+// ---- how far time may go
+
+fn less_of(a: u32, b: u32) -> u32
+    ensures { λ r. ⌜ r ≡ least a b ⌝ }
+{
+    if b < a {
+        return b;
+    }
+    a
+}
+
+fn operation_left(t: u32, x: Operation) -> u32
+    ensures { λ r. ⌜ r ≡ operationLeft t x ⌝ }
+{
+    if x.calling {
+        return x.count;
+    }
+    t
+}
+
+fn runnable_left(t: u32, x: Runnable) -> u32
+    ensures { λ r. ⌜ r ≡ runnableLeft t x ⌝ }
+{
+    if x.interval == 0 {
+        return t;
+    }
+    x.interval
+}
+
+fn operations_pass(cfg: Config, os: Operations, t: u32) -> u32
+    ensures { λ r. ⌜ r ≡ operationsPass cfg os t ⌝ }
+{
+    let confs = cfg.operations;
+    let n = confs.n;
+    let mut u = t;
+    let mut o: u8 = 0;
+    while o < n {
+        u = less_of(u, operation_left(t, os.get(o)));
+        o = o + 1;
+    }
+    u
+}
+
+fn timers_pass(cfg: Config, ts: Timers, t: u32) -> u32
+    ensures { λ r. ⌜ r ≡ timersPass cfg ts t ⌝ }
+{
+    let confs = cfg.timers;
+    let n = confs.n;
+    let mut u = t;
+    let mut k: u8 = 0;
+    while k < n {
+        let x = ts.get(k);
+        u = less_of(u, x.count);
+        k = k + 1;
+    }
+    u
+}
+
+fn runnables_pass(cfg: Config, rs: Runnables, t: u32) -> u32
+    ensures { λ r. ⌜ r ≡ runnablesPass cfg rs t ⌝ }
+{
+    let confs = cfg.runnables;
+    let n = confs.n;
+    let mut u = t;
+    let mut r: u8 = 0;
+    while r < n {
+        u = less_of(u, runnable_left(t, rs.get(r)));
+        r = r + 1;
+    }
+    u
+}
+
+// How much of t milliseconds may pass: all of it, or as much as the least running count lets.
+pub fn passes(cfg: Config, st: State, t: u32) -> u32
+    ensures { λ r. ⌜ r ≡ passesOf cfg st t ⌝ }
+{
+    let os = st.operations;
+    let ts = st.timers;
+    let rs = st.runnables;
+    let a = operations_pass(cfg, os, t);
+    let b = timers_pass(cfg, ts, t);
+    let c = runnables_pass(cfg, rs, t);
+    less_of(less_of(a, b), c)
+}
+
+// Whether a count lets no more than t pass: that of an open call, of a timer, of a start interval that runs.
+fn operation_stops(t: u32, x: Operation) -> bool
+    ensures { λ r. ⌜ r ≡ operationStops t x ⌝ }
+{
+    if x.calling {
+        return x.count <= t;
+    }
+    false
+}
+
+fn timer_stops(t: u32, x: Timer) -> bool
+    ensures { λ r. ⌜ r ≡ timerStops t x ⌝ }
+{
+    x.count <= t
+}
+
+fn runnable_stops(t: u32, x: Runnable) -> bool
+    ensures { λ r. ⌜ r ≡ runnableStops t x ⌝ }
+{
+    if 0 < x.interval {
+        return x.interval <= t;
+    }
+    false
+}
+
+// The first operation whose count lets no more than t pass, or how many operations there are; and so for timers and runnables.
+fn operation_stop(cfg: Config, os: Operations, t: u32) -> u8
+    ensures { λ r. ⌜ r ≡ operationStop cfg os t ⌝ }
+{
+    let confs = cfg.operations;
+    let n = confs.n;
+    let mut o: u8 = 0;
+    while o < n {
+        if operation_stops(t, os.get(o)) {
+            return o;
+        }
+        o = o + 1;
+    }
+    n
+}
+
+fn timer_stop(cfg: Config, ts: Timers, t: u32) -> u8
+    ensures { λ r. ⌜ r ≡ timerStop cfg ts t ⌝ }
+{
+    let confs = cfg.timers;
+    let n = confs.n;
+    let mut k: u8 = 0;
+    while k < n {
+        if timer_stops(t, ts.get(k)) {
+            return k;
+        }
+        k = k + 1;
+    }
+    n
+}
+
+fn runnable_stop(cfg: Config, rs: Runnables, t: u32) -> u8
+    ensures { λ r. ⌜ r ≡ runnableStop cfg rs t ⌝ }
+{
+    let confs = cfg.runnables;
+    let n = confs.n;
+    let mut k: u8 = 0;
+    while k < n {
+        if runnable_stops(t, rs.get(k)) {
+            return k;
+        }
+        k = k + 1;
+    }
+    n
+}
+
+// ---- the cause of a refusal, number by number
+
+// 2: an entry that the code leaves empty is filled, or the argument is not of its kind.
+fn form_cause(row: Row, s: Step) -> Cause
+    ensures { λ r. ⌜ r ≡ formCause row s ⌝ }
+{
+    if NO_PART < row.part {
+        return Cause::BadArgument(row.argument);
+    }
+    if 0 < s.what {
+        return Cause::HasWhat;
+    }
+    Cause::BadArgument(row.argument)
+}
+
+fn code_cause(row: Row, s: Step) -> Cause
+    ensures { λ r. ⌜ r ≡ codeCause row s ⌝ }
+{
+    if row.who == A_SLOT {
+        return form_cause(row, s);
+    }
+    if row.who == SCHEDULER {
+        if s.who == 0 {
+            return form_cause(row, s);
+        }
+        return Cause::HasWho;
+    }
+    Cause::NoCode
+}
+
+// 3: the slot or the part is not there.
+fn there_cause(cfg: Config, slots: Slots, row: Row, s: Step) -> Cause
+    ensures { λ r. ⌜ r ≡ thereCause cfg slots row s ⌝ }
+{
+    if row.who == A_SLOT {
+        if SLOTS <= s.who {
+            return Cause::NoSlot;
+        }
+        let x = slots.get(s.who);
+        if x.used {
+            return Cause::NoPart(entries::count_of(cfg, row.part));
+        }
+        return Cause::EmptySlot;
+    }
+    Cause::NoPart(entries::count_of(cfg, row.part))
+}
+
+// 4: the part is another component's, or an element is queued that should not be, or the other way round.
+fn own_cause(cfg: Config, slots: Slots, row: Row, s: Step) -> Cause
+    ensures { λ r. ⌜ r ≡ ownCause cfg slots row s ⌝ }
+{
+    let x = slots.get(s.who);
+    let l = x.life;
+    let t = cfg.runnables;
+    let c = t.get(l.runnable);
+    let e = entries::entry_of(cfg, row.part, s.what);
+    if e.first == c.component {
+        if 0 < e.second {
+            return Cause::IsQueued;
+        }
+        return Cause::NotQueued;
+    }
+    Cause::Foreign(e.first, c.component)
+}
+
+// 5: the instance waits, is finished, or does not wait.
+fn life_cause(slots: Slots, s: Step) -> Cause
+    ensures { λ r. ⌜ r ≡ lifeCause slots s ⌝ }
+{
+    let x = slots.get(s.who);
+    let l = x.life;
+    if l.waiting {
+        if s.code == numbers::CODE_RESULT {
+            if l.on == s.what {
+                return Cause::IsFinished;
+            }
+        }
+        return Cause::WaitsOn(l.on);
+    }
+    if l.finished {
+        return Cause::IsFinished;
+    }
+    Cause::NotWaiting
+}
+
+fn area_at(s: Stack, j: u8) -> u8
+    ensures { λ r. ⌜ r ≡ getD (s .at) j 0 ⌝ }
+{
+    let k = j as usize;
+    if k < AreaConfs::MAX {
+        return s.at[k];
+    }
+    0
+}
+
+// The area a is in the stack.
+fn holds(a: u8, s: Stack) -> bool
+    ensures { λ r. ⌜ r ≡ holdsOf a s ⌝ }
+{
+    let m = s.held;
+    let mut j: u8 = 0;
+    while j < m {
+        if area_at(s, j) == a {
+            return true;
+        }
+        j = j + 1;
+    }
+    false
+}
+
+// The slot that holds the area a, or how many slots there are.
+fn holder(slots: Slots, a: u8) -> u8
+    ensures { λ r. ⌜ r ≡ holderOf slots a ⌝ }
+{
+    let mut k: u8 = 0;
+    while k < SLOTS {
+        let x = slots.get(k);
+        if holds(a, x.stack) {
+            return k;
+        }
+        k = k + 1;
+    }
+    SLOTS
+}
+
+// 7: another area is on top, or none is held.
+fn top_cause(slots: Slots, i: u8) -> Cause
+    ensures { λ r. ⌜ r ≡ topCause slots i ⌝ }
+{
+    let x = slots.get(i);
+    let t = x.stack;
+    if 0 < t.held {
+        return Cause::OnTop(t.top());
+    }
+    Cause::NoneHeld
+}
+
+// 8: the server's queue is full.
+fn full_cause(cfg: Config, o: u8) -> Cause
+    ensures { λ r. ⌜ r ≡ fullCause cfg o ⌝ }
+{
+    let confs = cfg.operations;
+    let c = confs.get(o);
+    let servers = cfg.runnables;
+    let s = servers.get(c.server);
+    Cause::QueueFull(c.server, s.capacity)
+}
+
+// 11: the first of the three needs that is missing.
+fn spawn_cause(c: RunnableConf, x: Runnable) -> Cause
+    ensures { λ r. ⌜ r ≡ spawnCause c x ⌝ }
+{
+    if 0 < x.interval {
+        return Cause::InInterval(x.interval);
+    }
+    if c.concurrent {
+        return due_cause(c.capacity);
+    }
+    if 0 < x.instances {
+        return Cause::Runs(x.instances);
+    }
+    due_cause(c.capacity)
+}
+
+// The third need: a plain runnable is not pending, a server has no request.
+fn due_cause(capacity: u8) -> Cause
+    ensures { λ r. ⌜ r ≡ dueCause capacity ⌝ }
+{
+    if capacity == 0 {
+        return Cause::NotPending;
+    }
+    Cause::NoRequest
+}
+
+// 13: the first part whose count lets no more than t pass.
+fn stop_cause(cfg: Config, st: State, t: u32) -> Cause
+    ensures { λ r. ⌜ r ≡ stopCause cfg st t ⌝ }
+{
+    let os = st.operations;
+    let o = operation_stop(cfg, os, t);
+    let operations = cfg.operations;
+    if o < operations.n {
+        return Cause::Stops(numbers::TAG_OPERATION, o, t);
+    }
+    let ts = st.timers;
+    let k = timer_stop(cfg, ts, t);
+    let timers = cfg.timers;
+    if k < timers.n {
+        return Cause::Stops(numbers::TAG_TIMER, k, t);
+    }
+    let rs = st.runnables;
+    Cause::Stops(numbers::TAG_RUNNABLE, runnable_stop(cfg, rs, t), t)
+}
+
+// 14: no call is open, or the count has not run out.
+fn early_cause(st: State, s: Step) -> Cause
+    ensures { λ r. ⌜ r ≡ earlyCause st s ⌝ }
+{
+    if s.code == numbers::CODE_TIMEOUT {
+        let os = st.operations;
+        let x = os.get(s.what);
+        if x.calling {
+            return Cause::CallRuns(x.count);
+        }
+        return Cause::NotOpen;
+    }
+    let ts = st.timers;
+    let y = ts.get(s.what);
+    Cause::TimerRuns(y.count)
+}
+
+// 16: no client, or one that is still owed its answer.
+fn owed_cause(slots: Slots, i: u8) -> Cause
+    ensures { λ r. ⌜ r ≡ owedCause slots i ⌝ }
+{
+    let x = slots.get(i);
+    let w = x.owed;
+    if w.serving {
+        let c = w.client;
+        return Cause::HasClient(c.operation);
+    }
+    Cause::NoClient
+}
+
+// 15: the area on top of those that are still held.
+fn still_cause(slots: Slots, i: u8) -> Cause
+    ensures { λ r. ⌜ r ≡ stillCause slots i ⌝ }
+{
+    let x = slots.get(i);
+    let t = x.stack;
+    Cause::StillHeld(t.top())
+}
+
+// 10: how long the open call may last still.
+fn open_cause(st: State, o: u8) -> Cause
+    ensures { λ r. ⌜ r ≡ openCause st o ⌝ }
+{
+    let os = st.operations;
+    let x = os.get(o);
+    Cause::CallOpen(x.count)
+}
+
+fn unspawned_cause(cfg: Config, st: State, r: u8) -> Cause
+    ensures { λ c. ⌜ c ≡ spawnCause (runnableConfIn (cfg .runnables) r) (runnableIn (st .runnables) r) ⌝ }
+{
+    let confs = cfg.runnables;
+    let rs = st.runnables;
+    spawn_cause(confs.get(r), rs.get(r))
+}
+
+// The cause of a refusal with the number n.
+fn why(cfg: Config, st: State, s: Step, n: u8) -> Cause
+    ensures { λ r. ⌜ r ≡ whyOf cfg st s n ⌝ }
+{
+    let slots = st.slots;
+    let v = s.argument;
+    let row = row_of(s.code);
+    match n {
+        numbers::MALFORMED => code_cause(row, s),
+        numbers::NOT_THERE => there_cause(cfg, slots, row, s),
+        numbers::NOT_OWN => own_cause(cfg, slots, row, s),
+        numbers::BARRED => life_cause(slots, s),
+        numbers::AREA_TAKEN => Cause::HeldBy(holder(slots, s.what)),
+        numbers::NOT_ON_TOP => top_cause(slots, s.who),
+        numbers::QUEUE_FULL => full_cause(cfg, s.what),
+        numbers::NUMBERS_SPENT => Cause::NumbersUsed,
+        numbers::STILL_OPEN => open_cause(st, s.what),
+        numbers::NOT_DUE => unspawned_cause(cfg, st, s.what),
+        numbers::NO_SLOT_FREE => Cause::NoRoom,
+        numbers::TOO_FAR => stop_cause(cfg, st, passes(cfg, st, v.number)),
+        numbers::NOT_OVER => early_cause(st, s),
+        numbers::AREAS_HELD => still_cause(slots, s.who),
+        _ => owed_cause(slots, s.who),
+    }
+}
+
+// 17, or no cause: by the answer that the step would have.
+fn claim_cause(v: Value, claim: Value) -> Cause
+    ensures { λ r. ⌜ r ≡ claimCause v claim ⌝ }
+{
+    if v.same(claim) {
+        return Cause::NoCause;
+    }
+    Cause::Differs(v)
+}
+
+// Why the step is refused in this state, or that it is not.
+pub fn cause_of(cfg: Config, st: State, s: Step) -> Cause
+    ensures { λ r. ⌜ r ≡ causeOf cfg st s ⌝ }
+{
+    let r = machine::possible(cfg, st, s);
+    let a = r.answer;
+    match a {
+        Answer::Taken(v) => claim_cause(v, s.claim),
+        Answer::Refused(n) => why(cfg, st, s, n),
+    }
+}
+
+// ---- what is allowed
+
+// A step with this code, by this slot and about this part; its argument is one that the code takes.
+fn probe(code: u8, who: u8, what: u8) -> Step
+    ensures { λ r. ⌜ r ≡ probeOf code who what ⌝ }
+{
+    let row = row_of(code);
+    let v = sample(row.argument);
+    Step {
+        code: code,
+        who: who,
+        what: what,
+        argument: v,
+        claim: Value::VOID,
+    }
+}
+
+// An argument of a kind: a Number where it has to be one, else Void.
+fn sample(kind: u8) -> Value
+    ensures { λ r. ⌜ r ≡ sampleOf kind ⌝ }
+{
+    if kind == NOTHING {
+        return Value::VOID;
+    }
+    if kind == A_PAYLOAD {
+        return Value::VOID;
+    }
+    Value::of(0)
+}
+
+// The answer that a step of this code, slot and part would get, whatever payload it hands over.
+pub fn allowed(cfg: Config, st: State, code: u8, who: u8, what: u8) -> Answer
+    ensures { λ r. ⌜ r ≡ allowedOf cfg st code who what ⌝ }
+{
+    let r = machine::possible(cfg, st, probe(code, who, what));
+    r.answer
+}
