@@ -3,7 +3,6 @@ ghost use mathlib.Core.Path.{_≡_};
 ghost use lib.ListN.{getD};
 ghost use Rattle.config.specs.Tables.{runnableConfIn};
 ghost use Rattle.state.specs.Tables.{runnableIn};
-ghost use Rattle.rules.specs.Rows.{rowOf};
 ghost use Rattle.causes.specs.Passing.{least, operationLeft, runnableLeft, operationsPass, timersPass, runnablesPass, passesOf, operationStops, timerStops, runnableStops, operationStop, timerStop, runnableStop};
 ghost use Rattle.causes.specs.Causes.{formCause, codeCause, thereCause, ownCause, lifeCause, holdsOf, holderOf, topCause, fullCause, openCause, dueCause, spawnCause, stopCause, earlyCause, stillCause, owedCause, whyOf, claimCause, causeOf};
 ghost use Rattle.causes.specs.Allowed.{sampleOf, probeOf, allowedOf};
@@ -78,76 +77,18 @@ pub enum Cause {
     Differs(Value),
 }
 
-// Who takes a step.
-const NOBODY: u8 = 0;
-
+// What a row says: whose step it is, whether it names a part, and what its argument is.
 const A_SLOT: u8 = 1;
 
 const SCHEDULER: u8 = 2;
 
-// What it names: the tag of the kind of part, or none.
 const NO_PART: u8 = 0;
 
-// Which queueing an element is to have.
-const ANYHOW: u8 = 0;
-
-const UNQUEUED: u8 = 1;
-
-const QUEUED: u8 = 2;
-
-// Its argument.
 const NOTHING: u8 = 0;
 
 const A_PAYLOAD: u8 = 1;
 
-const A_NUMBER: u8 = 2;
-
-// The table of steps, a row for each code from 0 on: who takes it, the part, the queueing, the argument.
-const ROWS: [[u8; 4]; 19] = [
-    [NOBODY, NO_PART, ANYHOW, NOTHING],
-    [A_SLOT, numbers::TAG_VARIABLE, ANYHOW, NOTHING],
-    [A_SLOT, numbers::TAG_VARIABLE, ANYHOW, A_PAYLOAD],
-    [A_SLOT, numbers::TAG_AREA, ANYHOW, NOTHING],
-    [A_SLOT, numbers::TAG_AREA, ANYHOW, NOTHING],
-    [A_SLOT, numbers::TAG_REQUIRED, UNQUEUED, NOTHING],
-    [A_SLOT, numbers::TAG_PROVIDED, UNQUEUED, A_PAYLOAD],
-    [A_SLOT, numbers::TAG_REQUIRED, UNQUEUED, NOTHING],
-    [A_SLOT, numbers::TAG_PROVIDED, UNQUEUED, NOTHING],
-    [A_SLOT, numbers::TAG_REQUIRED, QUEUED, NOTHING],
-    [A_SLOT, numbers::TAG_PROVIDED, QUEUED, A_PAYLOAD],
-    [A_SLOT, numbers::TAG_OPERATION, ANYHOW, A_PAYLOAD],
-    [A_SLOT, numbers::TAG_OPERATION, ANYHOW, NOTHING],
-    [A_SLOT, NO_PART, ANYHOW, A_PAYLOAD],
-    [A_SLOT, NO_PART, ANYHOW, NOTHING],
-    [SCHEDULER, numbers::TAG_RUNNABLE, ANYHOW, NOTHING],
-    [SCHEDULER, numbers::TAG_OPERATION, ANYHOW, NOTHING],
-    [SCHEDULER, numbers::TAG_TIMER, ANYHOW, NOTHING],
-    [SCHEDULER, NO_PART, ANYHOW, A_NUMBER],
-];
-
 const SLOTS: u8 = Slots::MAX as u8;
-
-// The row of a code; a code without one is nobody's.
-pub fn row_of(code: u8) -> Row
-    ensures { λ r. ⌜ r ≡ rowOf code ⌝ }
-{
-    let k = code as usize;
-    if k < 19 {
-        let l = ROWS[k];
-        return Row {
-            who: l[0],
-            part: l[1],
-            queueing: l[2],
-            argument: l[3],
-        };
-    }
-    Row {
-        who: NOBODY,
-        part: NO_PART,
-        queueing: ANYHOW,
-        argument: NOTHING,
-    }
-}
 
 // ---- how far time may go
 
@@ -561,7 +502,7 @@ fn why(cfg: Config, st: State, s: Step, n: u8) -> Cause
 {
     let slots = st.slots;
     let v = s.argument;
-    let row = row_of(s.code);
+    let row = refusals::row_of(s.code);
     match n {
         numbers::MALFORMED => code_cause(row, s),
         numbers::NOT_THERE => there_cause(cfg, slots, row, s),
@@ -609,7 +550,7 @@ pub fn cause_of(cfg: Config, st: State, s: Step) -> Cause
 fn probe(code: u8, who: u8, what: u8) -> Step
     ensures { λ r. ⌜ r ≡ probeOf code who what ⌝ }
 {
-    let row = row_of(code);
+    let row = refusals::row_of(code);
     let v = sample(row.argument);
     Step {
         code: code,

@@ -43,7 +43,7 @@ impl Calls {
         of: [Told::BLANK; OPERATIONS],
     };
 
-    pub fn get(self, o: u8) -> Told {
+    pub(crate) fn get(self, o: u8) -> Told {
         let k = o as usize;
         if k < OPERATIONS {
             return self.of[k];
@@ -93,7 +93,7 @@ impl Calls {
     }
 
     // After an accepted step about this operation: a call answered Ok starts one, a timeout and a hand back answered 1 end one, a hand back answered 0 is late.
-    pub fn after(self, o: u8, s: Step, place: usize, ms: u64) -> Calls {
+    pub(crate) fn after(self, o: u8, s: Step, place: usize, ms: u64) -> Calls {
         let code = s.code;
         let claim = s.claim;
         if code == 11 {
@@ -126,7 +126,7 @@ fn operation_of(st: State, s: Step) -> u8 {
 }
 
 // Notes for each accepted step the operation that it is about; the state that they lead to.
-pub fn note_operations(cfg: Config, s: &[u8], steps: usize, ops: &mut [u8]) -> State {
+pub(crate) fn note_operations(cfg: Config, s: &[u8], steps: usize, ops: &mut [u8]) -> State {
     let mut st = State::start(cfg);
     let mut k: usize = 0;
     while k < 4096 {
@@ -146,7 +146,7 @@ pub fn note_operations(cfg: Config, s: &[u8], steps: usize, ops: &mut [u8]) -> S
 }
 
 // The calls after so many steps.
-pub fn calls_until(s: &[u8], steps: usize, ops: &[u8]) -> Calls {
+pub(crate) fn calls_until(s: &[u8], steps: usize, ops: &[u8]) -> Calls {
     let mut t = Calls::NONE;
     let mut k: usize = 0;
     while k < 4096 {
@@ -164,7 +164,7 @@ pub fn calls_until(s: &[u8], steps: usize, ops: &[u8]) -> Calls {
 }
 
 // The operation whose call the instance in a slot serves; 255 where it serves none.
-pub fn served(st: State, i: u8) -> u8 {
+pub(crate) fn served(st: State, i: u8) -> u8 {
     let slots = st.slots;
     let x = slots.get(i);
     let w = x.owed;
@@ -176,7 +176,7 @@ pub fn served(st: State, i: u8) -> u8 {
 }
 
 // The time after a step.
-pub fn later(ms: u64, s: Step) -> u64 {
+pub(crate) fn later(ms: u64, s: Step) -> u64 {
     let v = s.argument;
     if s.code == 18 {
         if ms < 1000000000000000000 {

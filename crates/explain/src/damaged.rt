@@ -127,7 +127,7 @@ fn say_field(s: &[u8], from: usize) {
 }
 
 // The damaged field of a recording behind so many accepted steps.
-pub fn show_recording(s: &[u8], steps: usize, place: usize) {
+pub(crate) fn show_recording(s: &[u8], steps: usize, place: usize) {
     if 4096 < steps {
         return;
     }
@@ -380,7 +380,7 @@ fn put_field(out: &mut [u8], at: usize, s: &[u8], from: usize, end: usize) -> us
 }
 
 // The refused field of a configuration.
-pub fn show_config(s: &[u8], place: usize, k: u8) {
+pub(crate) fn show_config(s: &[u8], place: usize, k: u8) {
     let from = field_start(s, place);
     let end = next_field(s, from);
     let tag = byte_at(s, from);

@@ -26,7 +26,7 @@ fn place_of(tag: u8, number: u8) -> usize
 }
 
 // The name of a part, behind a space and in quotation marks, if it has one.
-pub fn put_name(out: &mut [u8], at: usize, names: &[u8], tag: u8, number: u8) -> usize {
+pub(crate) fn put_name(out: &mut [u8], at: usize, names: &[u8], tag: u8, number: u8) -> usize {
     let p = place_of(tag, number);
     let n = byte_at(names, p) as usize;
     if n == 0 {
@@ -239,7 +239,7 @@ fn next_line(text: &[u8], at: usize) -> usize {
 }
 
 // Takes every name line of the first bytes of a text.
-pub fn take_names(names: &mut [u8], text: &[u8], n: usize, page: bool) {
+pub(crate) fn take_names(names: &mut [u8], text: &[u8], n: usize, page: bool) {
     let mut at: usize = 0;
     let mut left: u32 = 4096;
     while left > 0 {

@@ -19,7 +19,7 @@ use state::State;
 use values::Step;
 
 // The page up to its table.
-pub fn show_top() {
+pub(crate) fn show_top() {
     say(
         b"<!DOCTYPE html>\n<html lang=\"en\"><head><meta charset=\"utf-8\"><meta name=\"viewport\" content=\"width=device-width, initial-scale=1\"><title>What was recorded</title>\n",
     );
@@ -41,16 +41,16 @@ pub fn show_top() {
     say(b"@media(max-width:600px){body{margin:.5em}table{font-size:11px}}</style></head><body>\n");
 }
 
-pub fn show_end() {
+pub(crate) fn show_end() {
     say(b"</body></html>\n");
 }
 
 // Text of the sections stands as it is.
-pub fn open_text() {
+pub(crate) fn open_text() {
     say(b"<pre>");
 }
 
-pub fn close_text() {
+pub(crate) fn close_text() {
     say(b"</pre>\n");
 }
 
@@ -92,7 +92,7 @@ fn put_operation_heads(out: &mut [u8], at: usize, names: &[u8], w: Widths) -> us
     next
 }
 
-pub fn show_head(names: &[u8], w: Widths) {
+pub(crate) fn show_head(names: &[u8], w: Widths) {
     let mut line = [0u8; 8192];
     let mut at = put(
         &mut line,
@@ -105,7 +105,7 @@ pub fn show_head(names: &[u8], w: Widths) {
     show(&line, at);
 }
 
-pub fn show_foot() {
+pub(crate) fn show_foot() {
     say(b"</tbody></table></div>\n");
 }
 
@@ -221,7 +221,15 @@ fn put_front(out: &mut [u8], at: usize, place: usize, ms: u64) -> usize {
     put(out, b, b"<td>")
 }
 
-pub fn show_row(names: &[u8], s: &[u8], w: Widths, after: State, x: Step, place: usize, ms: u64) {
+pub(crate) fn show_row(
+    names: &[u8],
+    s: &[u8],
+    w: Widths,
+    after: State,
+    x: Step,
+    place: usize,
+    ms: u64,
+) {
     let mut line = [0u8; 16384];
     let mut at = put(&mut line, 0, b"<tr>");
     at = put_front(&mut line, at, place, ms);
@@ -240,7 +248,7 @@ fn put_owner(out: &mut [u8], at: usize, x: Step) -> usize {
     put(out, a, b": ")
 }
 
-pub fn show_refused(names: &[u8], x: Step, c: Cause, place: usize, ms: u64) {
+pub(crate) fn show_refused(names: &[u8], x: Step, c: Cause, place: usize, ms: u64) {
     let mut line = [0u8; 2048];
     let mut at = put(&mut line, 0, b"<tr class=x id=x>");
     at = put_with(&mut line, at, b"<td class=n>X ", place as u64);

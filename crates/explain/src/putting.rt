@@ -3,7 +3,7 @@ use libc::STDOUT_FILENO;
 use wire::Wrote;
 
 // The byte at a place, 0 past the end.
-pub fn byte_at(s: &[u8], i: usize) -> u8 {
+pub(crate) fn byte_at(s: &[u8], i: usize) -> u8 {
     if i < s.len() {
         return s[i];
     }
@@ -11,7 +11,7 @@ pub fn byte_at(s: &[u8], i: usize) -> u8 {
 }
 
 // A byte more, where there is room; where the text goes on.
-pub fn put_byte(out: &mut [u8], at: usize, b: u8) -> usize {
+pub(crate) fn put_byte(out: &mut [u8], at: usize, b: u8) -> usize {
     if at < out.len() {
         out[at] = b;
         return at + 1;
@@ -20,7 +20,7 @@ pub fn put_byte(out: &mut [u8], at: usize, b: u8) -> usize {
 }
 
 // The bytes of s, all of them or, without room, none.
-pub fn put(out: &mut [u8], at: usize, s: &[u8]) -> usize {
+pub(crate) fn put(out: &mut [u8], at: usize, s: &[u8]) -> usize {
     let w = wire::write(out, at, s);
     match w {
         Wrote::To(next) => next,
@@ -28,7 +28,7 @@ pub fn put(out: &mut [u8], at: usize, s: &[u8]) -> usize {
     }
 }
 
-pub fn put_number(out: &mut [u8], at: usize, n: u64) -> usize {
+pub(crate) fn put_number(out: &mut [u8], at: usize, n: u64) -> usize {
     let w = lines::put_decimal(out, at, n);
     match w {
         Wrote::To(next) => next,
@@ -37,13 +37,13 @@ pub fn put_number(out: &mut [u8], at: usize, n: u64) -> usize {
 }
 
 // Bytes and a number behind them.
-pub fn put_with(out: &mut [u8], at: usize, s: &[u8], n: u64) -> usize {
+pub(crate) fn put_with(out: &mut [u8], at: usize, s: &[u8], n: u64) -> usize {
     let next = put(out, at, s);
     put_number(out, next, n)
 }
 
 // How many letters stand from one place to another, and no more than 65,535: a byte that goes on with a letter does not count.
-pub fn letters(out: &[u8], from: usize, to: usize) -> u16 {
+pub(crate) fn letters(out: &[u8], from: usize, to: usize) -> u16 {
     let mut n: u16 = 0;
     let mut i = from;
     while i < to {
@@ -66,7 +66,7 @@ fn one_more(n: u16, b: u8) -> u16 {
 }
 
 // Spaces behind what stands from a place on, until it is as wide as is said.
-pub fn pad(out: &mut [u8], from: usize, at: usize, width: u16) -> usize {
+pub(crate) fn pad(out: &mut [u8], from: usize, at: usize, width: u16) -> usize {
     let mut n = letters(out, from, at);
     let mut next = at;
     while n < width {
@@ -77,7 +77,7 @@ pub fn pad(out: &mut [u8], from: usize, at: usize, width: u16) -> usize {
 }
 
 // A number at the right end of so many letters.
-pub fn put_right(out: &mut [u8], at: usize, n: u64, width: u16) -> usize {
+pub(crate) fn put_right(out: &mut [u8], at: usize, n: u64, width: u16) -> usize {
     let mut digits = [0u8; 32];
     let size = put_number(&mut digits, 0, n);
     let wide = letters(&digits, 0, size);
@@ -119,7 +119,7 @@ fn put_hex(out: &mut [u8], at: usize, b: u8) -> usize {
 }
 
 // The bytes of s from one place up to another, 20 at most.
-pub fn put_bytes(out: &mut [u8], at: usize, s: &[u8], from: usize, to: usize) -> usize {
+pub(crate) fn put_bytes(out: &mut [u8], at: usize, s: &[u8], from: usize, to: usize) -> usize {
     let mut next = at;
     let mut i = from;
     let mut left: u8 = 20;
@@ -135,7 +135,7 @@ pub fn put_bytes(out: &mut [u8], at: usize, s: &[u8], from: usize, to: usize) ->
 }
 
 // Shows a line in one write.
-pub fn show(out: &[u8], at: usize) {
+pub(crate) fn show(out: &[u8], at: usize) {
     if at <= out.len() {
         io::write_all(STDOUT_FILENO, &out[..at]);
     }
@@ -154,13 +154,13 @@ fn trimmed(out: &[u8], at: usize) -> usize {
 }
 
 // Shows a line without the spaces at its end, and with its line feed.
-pub fn show_trimmed(out: &mut [u8], at: usize) {
+pub(crate) fn show_trimmed(out: &mut [u8], at: usize) {
     let n = trimmed(out, at);
     let m = put(out, n, b"\n");
     show(out, m);
 }
 
 // Shows fixed words in one write.
-pub fn say(s: &[u8]) {
+pub(crate) fn say(s: &[u8]) {
     io::write_all(STDOUT_FILENO, s);
 }

@@ -13,7 +13,7 @@ use values::Step;
 use values::Value;
 
 // What a rule is about, in a few words.
-pub fn put_rule(out: &mut [u8], at: usize, k: u8) -> usize {
+pub(crate) fn put_rule(out: &mut [u8], at: usize, k: u8) -> usize {
     match k {
         2 => put(out, at, b"no such step"),
         3 => put(out, at, b"something that is not there"),
@@ -38,7 +38,7 @@ pub fn put_rule(out: &mut [u8], at: usize, k: u8) -> usize {
 
 // The part that a step names.
 fn put_named(out: &mut [u8], at: usize, names: &[u8], s: Step) -> usize {
-    let row = causes::row_of(s.code);
+    let row = refusals::row_of(s.code);
     put_part(out, at, names, row.part, s.what)
 }
 
@@ -103,7 +103,7 @@ fn put_empty_slot(out: &mut [u8], at: usize, s: Step) -> usize {
 }
 
 fn put_no_part(out: &mut [u8], at: usize, n: u8, s: Step) -> usize {
-    let row = causes::row_of(s.code);
+    let row = refusals::row_of(s.code);
     let tag = row.part;
     let a = put(out, at, b"the configuration has no ");
     let b = put_kind(out, a, tag);
@@ -356,7 +356,7 @@ fn put_first(out: &mut [u8], at: usize, names: &[u8], s: Step, c: Cause) -> usiz
 }
 
 // The cause of a refusal, as a sentence.
-pub fn put_cause(out: &mut [u8], at: usize, names: &[u8], s: Step, c: Cause) -> usize {
+pub(crate) fn put_cause(out: &mut [u8], at: usize, names: &[u8], s: Step, c: Cause) -> usize {
     match c {
         Cause::QueueFull(r, n) => put_full(out, at, names, r, n),
         Cause::NumbersUsed => put_numbers_used(out, at, names, s),

@@ -70,7 +70,7 @@ fn put_allowed(
 
 // How many parts a code can name; one try where it names none.
 fn tries_of(cfg: Config, code: u8) -> u8 {
-    let row = causes::row_of(code);
+    let row = refusals::row_of(code);
     let tag = row.part;
     if tag == 0 {
         return 1;
@@ -161,7 +161,7 @@ fn put_wait(out: &mut [u8], at: usize, most: u32) -> usize {
 }
 
 // What may happen in a state.
-pub fn show_allowed(cfg: Config, st: State, names: &[u8]) {
+pub(crate) fn show_allowed(cfg: Config, st: State, names: &[u8]) {
     say(b"\nAllowed here (what is handed over is left open):\n");
     show_scheduler(cfg, st, names);
     let mut i: u8 = 0;
@@ -173,7 +173,7 @@ pub fn show_allowed(cfg: Config, st: State, names: &[u8]) {
 
 // ---- where it stands
 
-pub fn show_place(s: &[u8], place: usize) {
+pub(crate) fn show_place(s: &[u8], place: usize) {
     if 4096 < place {
         return;
     }
@@ -191,7 +191,7 @@ pub fn show_place(s: &[u8], place: usize) {
     show(&line, at);
 }
 
-pub fn show_rest(s: &[u8], place: usize) {
+pub(crate) fn show_rest(s: &[u8], place: usize) {
     let all = s.len() / 16;
     let mut line = [0u8; 256];
     if place < all {
@@ -252,7 +252,7 @@ fn show_fill(names: &[u8], text: &[u8], steps: usize) {
 }
 
 // The fill of the gap before a step, if there is one: a recording of this step alone is mended from the state reached.
-pub fn show_guess(cfg: Config, st: State, names: &[u8], x: Step) {
+pub(crate) fn show_guess(cfg: Config, st: State, names: &[u8], x: Step) {
     let mut one = [0u8; 19];
     recording::write_step(&mut one, 0, x);
     recording::write_end(&mut one, 16);
@@ -282,7 +282,7 @@ fn put_how(out: &mut [u8], at: usize, t: Told) -> usize {
 }
 
 // What the latest call of an operation came to.
-pub fn put_story(out: &mut [u8], at: usize, names: &[u8], calls: Calls, o: u8) -> usize {
+pub(crate) fn put_story(out: &mut [u8], at: usize, names: &[u8], calls: Calls, o: u8) -> usize {
     if 7 < o {
         return at;
     }
@@ -449,7 +449,7 @@ fn show_operation(names: &[u8], s: &[u8], steps: usize, ops: &[u8], o: u8, all: 
 }
 
 // Every operation and its calls.
-pub fn show_calls(cfg: Config, names: &[u8], s: &[u8], steps: usize, ops: &[u8], all: bool) {
+pub(crate) fn show_calls(cfg: Config, names: &[u8], s: &[u8], steps: usize, ops: &[u8], all: bool) {
     let operations = cfg.operations;
     let n = operations.n;
     let mut o: u8 = 0;

@@ -112,7 +112,7 @@ fn counted(n: usize, b: bool) -> usize {
 }
 
 // How many of the accepted steps bear on the focus.
-pub fn bearing_of(s: &[u8], p: Plan, ops: &[u8]) -> usize {
+pub(crate) fn bearing_of(s: &[u8], p: Plan, ops: &[u8]) -> usize {
     let mut n: usize = 0;
     let mut k: usize = 0;
     while k < 4096 {
@@ -162,7 +162,7 @@ fn starts_call(x: Step, o: u8) -> bool {
 }
 
 // What a new instance is for.
-pub fn put_start(out: &mut [u8], at: usize, s: &[u8], after: State, i: u8) -> usize {
+pub(crate) fn put_start(out: &mut [u8], at: usize, s: &[u8], after: State, i: u8) -> usize {
     let slots = after.slots;
     let x = slots.get(i);
     let w = x.owed;
@@ -187,14 +187,14 @@ fn put_remark(out: &mut [u8], at: usize, x: Step) -> usize {
 }
 
 // An accepted step in its lane or in the scheduler's column.
-pub fn put_done(out: &mut [u8], at: usize, names: &[u8], x: Step) -> usize {
+pub(crate) fn put_done(out: &mut [u8], at: usize, names: &[u8], x: Step) -> usize {
     let a = put_deed(out, at, names, x);
     let b = put_answer(out, a, x.claim);
     put_remark(out, b, x)
 }
 
 // The refused step there: what was recorded and what is right, or that it is not possible.
-pub fn put_refused(out: &mut [u8], at: usize, names: &[u8], x: Step, c: Cause) -> usize {
+pub(crate) fn put_refused(out: &mut [u8], at: usize, names: &[u8], x: Step, c: Cause) -> usize {
     let a = put_deed(out, at, names, x);
     match c {
         Cause::Differs(v) => {
@@ -237,7 +237,7 @@ fn put_lane(
 }
 
 // An operation after a step.
-pub fn put_operation(out: &mut [u8], at: usize, st: State, o: u8) -> usize {
+pub(crate) fn put_operation(out: &mut [u8], at: usize, st: State, o: u8) -> usize {
     let t = st.operations;
     let x = t.get(o);
     if x.calling {
@@ -290,7 +290,7 @@ fn scheduler_width(names: &[u8], x: Step) -> u16 {
 }
 
 // The columns with room for one more row.
-pub fn widened(w: Widths, names: &[u8], s: &[u8], o: u8, after: State, x: Step) -> Widths {
+pub(crate) fn widened(w: Widths, names: &[u8], s: &[u8], o: u8, after: State, x: Step) -> Widths {
     let mut u = w;
     let v = x.claim;
     let n = cell_width(names, s, after, x);
@@ -315,7 +315,7 @@ fn end_cell(out: &mut [u8], from: usize, at: usize, width: u16) -> usize {
     put(out, a, b"  ")
 }
 
-pub fn width_of(w: Widths, i: u8) -> u16 {
+pub(crate) fn width_of(w: Widths, i: u8) -> u16 {
     if i < 32 {
         let k = i as usize;
         return w.lanes[k];
@@ -323,7 +323,7 @@ pub fn width_of(w: Widths, i: u8) -> u16 {
     0
 }
 
-pub fn operation_width(w: Widths, o: u8) -> u16 {
+pub(crate) fn operation_width(w: Widths, o: u8) -> u16 {
     if o < 8 {
         let k = o as usize;
         return w.operations[k];
@@ -427,7 +427,7 @@ fn put_slots(
 }
 
 // The scheduler's step, if it is one.
-pub fn put_scheduled(out: &mut [u8], at: usize, names: &[u8], x: Step) -> usize {
+pub(crate) fn put_scheduled(out: &mut [u8], at: usize, names: &[u8], x: Step) -> usize {
     if x.code < 15 {
         return at;
     }
@@ -435,14 +435,14 @@ pub fn put_scheduled(out: &mut [u8], at: usize, names: &[u8], x: Step) -> usize 
 }
 
 // The front of a row: its mark, the step and the time.
-pub fn put_front(out: &mut [u8], mark: u8, place: usize, ms: u64) -> usize {
+pub(crate) fn put_front(out: &mut [u8], mark: u8, place: usize, ms: u64) -> usize {
     let a = put_byte(out, 0, mark);
     let b = put_right(out, a, place as u64, 5);
     let c = put_right(out, b, ms, 8);
     put(out, c, b"  ")
 }
 
-pub fn show_row(
+pub(crate) fn show_row(
     names: &[u8],
     s: &[u8],
     p: Plan,
@@ -505,7 +505,7 @@ fn put_slot_heads(out: &mut [u8], at: usize, p: Plan, w: Widths) -> usize {
     put_lane_heads(out, at, w)
 }
 
-pub fn show_head(names: &[u8], p: Plan, w: Widths) {
+pub(crate) fn show_head(names: &[u8], p: Plan, w: Widths) {
     let mut line = [0u8; 8192];
     let from = put(&mut line, 0, b"  step      ms  ");
     let mut at = put(&mut line, from, b"scheduler");
@@ -550,7 +550,15 @@ fn put_margin(out: &mut [u8], at: usize, p: Plan, w: Widths, x: Step) -> usize {
 }
 
 // The refused step's row, where it would stand.
-pub fn show_refused(names: &[u8], p: Plan, w: Widths, x: Step, c: Cause, place: usize, ms: u64) {
+pub(crate) fn show_refused(
+    names: &[u8],
+    p: Plan,
+    w: Widths,
+    x: Step,
+    c: Cause,
+    place: usize,
+    ms: u64,
+) {
     let mut line = [0u8; 8192];
     let mut at = put_front(&mut line, b'X', place, ms);
     at = put_margin(&mut line, at, p, w, x);
@@ -571,7 +579,7 @@ fn show_skipped(n: usize) {
 
 // ---- walks
 
-pub fn new_walk(cfg: Config, shows: bool, w: Widths) -> Walk {
+pub(crate) fn new_walk(cfg: Config, shows: bool, w: Widths) -> Walk {
     Walk {
         shows: shows,
         state: State::start(cfg),
@@ -643,7 +651,14 @@ fn pass(
 }
 
 // The accepted steps from the start on.
-pub fn go_through(cfg: Config, names: &[u8], s: &[u8], p: Plan, ops: &[u8], first: Walk) -> Walk {
+pub(crate) fn go_through(
+    cfg: Config,
+    names: &[u8],
+    s: &[u8],
+    p: Plan,
+    ops: &[u8],
+    first: Walk,
+) -> Walk {
     let mut t = first;
     let mut k: usize = 0;
     while k < 4096 {
@@ -667,7 +682,7 @@ pub const NO_WIDTHS: Widths = Widths {
 };
 
 // How many lanes are shown.
-pub fn lanes_of(w: Widths) -> u8 {
+pub(crate) fn lanes_of(w: Widths) -> u8 {
     let mut n: u8 = 0;
     let mut i: u8 = 0;
     while i < 32 {

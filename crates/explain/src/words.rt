@@ -6,7 +6,7 @@ use crate::putting::put_with;
 use values::Step;
 use values::Value;
 
-pub fn put_value(out: &mut [u8], at: usize, v: Value) -> usize {
+pub(crate) fn put_value(out: &mut [u8], at: usize, v: Value) -> usize {
     let kind = v.kind;
     match kind {
         0 => put(out, at, b"Void"),
@@ -22,7 +22,7 @@ pub fn put_value(out: &mut [u8], at: usize, v: Value) -> usize {
 }
 
 // The word for a kind of part, by its tag.
-pub fn put_kind(out: &mut [u8], at: usize, tag: u8) -> usize {
+pub(crate) fn put_kind(out: &mut [u8], at: usize, tag: u8) -> usize {
     match tag {
         0x01 => put(out, at, b"edition"),
         0x10 => put(out, at, b"runnable"),
@@ -41,13 +41,13 @@ pub fn put_kind(out: &mut [u8], at: usize, tag: u8) -> usize {
 }
 
 // A part: its kind, its number and its name.
-pub fn put_part(out: &mut [u8], at: usize, names: &[u8], tag: u8, number: u8) -> usize {
+pub(crate) fn put_part(out: &mut [u8], at: usize, names: &[u8], tag: u8, number: u8) -> usize {
     let a = put_kind(out, at, tag);
     let b = put_with(out, a, b" ", number as u64);
     put_name(out, b, names, tag, number)
 }
 
-pub fn put_slot(out: &mut [u8], at: usize, i: u8) -> usize {
+pub(crate) fn put_slot(out: &mut [u8], at: usize, i: u8) -> usize {
     put_with(out, at, b"slot ", i as u64)
 }
 
@@ -75,7 +75,7 @@ fn put_verb(out: &mut [u8], at: usize, code: u8) -> usize {
 }
 
 // What a step does, without who and without its answer.
-pub fn put_deed(out: &mut [u8], at: usize, names: &[u8], s: Step) -> usize {
+pub(crate) fn put_deed(out: &mut [u8], at: usize, names: &[u8], s: Step) -> usize {
     let a = put_option(out, at, names, s);
     put_argument(out, a, s)
 }
@@ -86,7 +86,7 @@ fn put_argument(out: &mut [u8], at: usize, s: Step) -> usize {
         let a = put(out, at, b" ");
         return put_number(out, a, v.number as u64);
     }
-    let row = causes::row_of(s.code);
+    let row = refusals::row_of(s.code);
     if row.argument == 1 {
         let a = put(out, at, b" ");
         return put_value(out, a, v);
@@ -95,7 +95,7 @@ fn put_argument(out: &mut [u8], at: usize, s: Step) -> usize {
 }
 
 // An answer behind an arrow; Void goes without saying.
-pub fn put_answer(out: &mut [u8], at: usize, v: Value) -> usize {
+pub(crate) fn put_answer(out: &mut [u8], at: usize, v: Value) -> usize {
     if v.is_void() {
         return at;
     }
@@ -104,7 +104,7 @@ pub fn put_answer(out: &mut [u8], at: usize, v: Value) -> usize {
 }
 
 // Who takes a step.
-pub fn put_who(out: &mut [u8], at: usize, s: Step) -> usize {
+pub(crate) fn put_who(out: &mut [u8], at: usize, s: Step) -> usize {
     if s.code < 15 {
         return put_slot(out, at, s.who);
     }
@@ -112,7 +112,7 @@ pub fn put_who(out: &mut [u8], at: usize, s: Step) -> usize {
 }
 
 // So many things of a name, which ends in s where there are several.
-pub fn put_count(out: &mut [u8], at: usize, n: u64, name: &[u8]) -> usize {
+pub(crate) fn put_count(out: &mut [u8], at: usize, n: u64, name: &[u8]) -> usize {
     let a = put_number(out, at, n);
     let b = put(out, a, b" ");
     let c = put(out, b, name);
@@ -123,10 +123,10 @@ pub fn put_count(out: &mut [u8], at: usize, n: u64, name: &[u8]) -> usize {
 }
 
 // What a step does, with what it hands over left open.
-pub fn put_option(out: &mut [u8], at: usize, names: &[u8], s: Step) -> usize {
+pub(crate) fn put_option(out: &mut [u8], at: usize, names: &[u8], s: Step) -> usize {
     let code = s.code;
     let a = put_verb(out, at, code);
-    let row = causes::row_of(code);
+    let row = refusals::row_of(code);
     let tag = row.part;
     if 0 < tag {
         let b = put(out, a, b" ");

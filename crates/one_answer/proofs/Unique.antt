@@ -327,6 +327,9 @@ round-trips-write-and-read κs a x y s t p q = (same (p .0) (q .0), same (p .1) 
 
 -- ---- gate
 
+pub refusals-row-of : One Rattle.refusals.proofs.row_of.Kinds.ps Rattle.refusals.proofs.row_of.Kinds.r Rattle.refusals.proofs.row_of.Reads.Post
+refusals-row-of κs a x y s t = same
+
 pub refusals-instance-refusal : One Rattle.refusals.proofs.instance_refusal.Kinds.ps Rattle.refusals.proofs.instance_refusal.Kinds.r Rattle.refusals.proofs.instance_refusal.Reads.Post
 refusals-instance-refusal κs a x y s t = same
 
@@ -459,9 +462,6 @@ pub mender-size-of : One Rattle.mender.proofs.size_of.Kinds.ps Rattle.mender.p
 mender-size-of κs a x y s t p q = same (p .0) (q .0)
 
 -- ---- causes
-
-pub causes-row-of : One Rattle.causes.proofs.row_of.Kinds.ps Rattle.causes.proofs.row_of.Kinds.r Rattle.causes.proofs.row_of.Reads.Post
-causes-row-of κs a x y s t = same
 
 pub causes-passes : One Rattle.causes.proofs.passes.Kinds.ps Rattle.causes.proofs.passes.Kinds.r Rattle.causes.proofs.passes.Reads.Post
 causes-passes κs a x y s t = same

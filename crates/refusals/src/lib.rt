@@ -61,7 +61,7 @@ const ROWS: [[u8; 4]; 19] = [
 ];
 
 // The row of a code; a code without one is nobody's.
-fn row_of(code: u8) -> Row
+pub fn row_of(code: u8) -> Row
     ensures { λ r. ⌜ r ≡ rowOf code ⌝ }
 {
     let k = code as usize;
