@@ -1,11 +1,12 @@
-// Steps 11 to 14 and 16 as code, once refusals 2 to 5 have let them through: a call and its result, the two ways in which a call ends with the return events, and the end of an instance. Each does what its definition in crate effects says, test for test.
+// Steps 11 to 14, 16 and 19 as code, once refusals 2 to 5 have let them through: a call and its result, the two ways in which a call ends with the return events, the end of an instance and its failure. Each does what its definition in crate effects says, test for test.
 ghost use mathlib.Core.Path.{_≡_};
 ghost use Prim.Native.Nat.{ℕ};
 ghost use lib.Dec.{eqb, leb};
 ghost use Rattle.laws.specs.Choice.{pick, both};
 ghost use Rattle.laws.specs.Loop.{anyBelow};
+ghost use Rattle.values.specs.Values.{serverErrV, isNumber};
 ghost use Rattle.config.specs.Tables.{returnEventIn};
-ghost use Rattle.effects.specs.Steps.{opening, asking, waitingOn, callOf, runningOn, pollOf, collectOf, resultOf, closing, returnedRunnables, answers, finishing, handBackOf, timeoutOf, leaving, endOf};
+ghost use Rattle.effects.specs.Steps.{opening, asking, waitingOn, callOf, runningOn, pollOf, collectOf, resultOf, closing, returnedRunnables, answers, finishing, handBackOf, timeoutOf, leaving, endOf, failing, failOf};
 use config::Config;
 use config::OperationConf;
 use config::ReturnEvent;
@@ -13,6 +14,7 @@ use config::ReturnEvents;
 use config::RunnableConf;
 use config::RunnableConfs;
 use state::Client;
+use state::Life;
 use state::Operation;
 use state::Operations;
 use state::Owed;
@@ -234,12 +236,33 @@ fn finishing(x: Slot) -> Slot
     y
 }
 
+// An instance that has failed hands back a Number, where it may hand back Void alone.
+fn hands_number(l: Life, v: Value) -> bool
+    ensures { λ r. ⌜ r ≡ both (l .failed) (isNumber v) ⌝ }
+{
+    l.failed && v.kind == 1
+}
+
+// What a hand back delivers: ServerErr for an instance that has failed, its argument for any other.
+fn handed_back(l: Life, v: Value) -> Value
+    ensures { λ r. ⌜ r ≡ pick (l .failed) serverErrV v ⌝ }
+{
+    if l.failed {
+        return Value::SERVER_ERR;
+    }
+    v
+}
+
 // Number 1 if that ends the client's call, else Number 0, and the operation is untouched.
 pub fn hand_back(cfg: Config, st: State, i: u8, v: Value) -> Stepped
     ensures { λ r. ⌜ r ≡ handBackOf cfg st i v ⌝ }
 {
     let slots = st.slots;
     let x = slots.get(i);
+    let l = x.life;
+    if hands_number(l, v) {
+        return shared_steps::refuse(numbers::MALFORMED, st);
+    }
     let w = x.owed;
     if w.serving {
         let c = w.client;
@@ -248,7 +271,7 @@ pub fn hand_back(cfg: Config, st: State, i: u8, v: Value) -> Stepped
             let o = c.operation;
             let runnables = st.runnables;
             let mut next = st;
-            next.operations = operations.with(o, closing(v, operations.get(o)));
+            next.operations = operations.with(o, closing(handed_back(l, v), operations.get(o)));
             next.runnables = returned_runnables(cfg, o, runnables);
             next.slots = slots.with(i, finishing(x));
             return shared_steps::take(Value::of(1), next);
@@ -309,5 +332,27 @@ pub fn end(st: State, i: u8) -> Stepped
     let mut next = st;
     next.runnables = runnables.with(r, leaving(runnables.get(r)));
     next.slots = slots.with(i, Slot::BLANK);
+    shared_steps::take(Value::VOID, next)
+}
+
+// ---- 19: fail
+
+fn failing(x: Slot) -> Slot
+    ensures { λ r. ⌜ r ≡ failing x ⌝ }
+{
+    let mut life = x.life;
+    life.failed = true;
+    let mut y = x;
+    y.life = life;
+    y
+}
+
+// What the instance owes and holds stays with it.
+pub fn fail(st: State, i: u8) -> Stepped
+    ensures { λ r. ⌜ r ≡ failOf st i ⌝ }
+{
+    let slots = st.slots;
+    let mut next = st;
+    next.slots = slots.with(i, failing(slots.get(i)));
     shared_steps::take(Value::VOID, next)
 }

@@ -1,21 +1,22 @@
 -- What is asked about a code, a slot and a part holds of every step of theirs: the answer does not depend on what is handed over, as long as it is of the
--- kind that the code takes. A wait is the one step whose argument counts (`wait-goes`).
+-- kind that the code takes. Two steps have an argument that counts: a wait (`wait-goes`), and a hand back by an instance that has failed, of a Number
+-- (`failed-number`).
 -- Assumes nothing.
-use Prim.Native.Nat.{ℕ, _<_}
+use Prim.Native.Nat.{ℕ}
 use mathlib.Core.Bool.{Bool, true, false}
 use mathlib.Core.Path.{_≡_, refl, sym, ap, _∙_}
 use native.Mathlib.Decide.{ℕ-discrete}
-use native.Mathlib.Omega.{arith}
 use lib.Dec.{ltb, eqb}
-use Rattle.numbers.specs.Codes.{waitCode}
+use Rattle.numbers.specs.Refusals.{malformed}
+use Rattle.numbers.specs.Codes.{handBackCode, waitCode}
 use Rattle.laws.specs.Choice.{pick, both, either}
 use Rattle.values.specs.Values.{voidV, numberV, isVoid, isPayload}
-use Rattle.types.specs.Types.{Value, Step, Config, State, Stepped}
+use Rattle.types.specs.Types.{Value, Step, Refused, Config, State, Stepped}
 use Rattle.config.specs.Tables.{operationConfIn}
 use Rattle.rules.specs.declared.Row.{Row}
-use Rattle.rules.specs.Rows.{noPart, rowOf}
+use Rattle.rules.specs.Rows.{noPart, rowOf, rows}
 use Rattle.rules.specs.Refusals.{argues, formed, instanceRefusal, schedulerRefusal, refusalBy, refusalOf}
-use Rattle.effects.specs.Steps.{requestsFull, isOpen, isSpent, serves, clientOf, answers, writeVariableOf, writeOf, sendOf, callOf, handBackOf}
+use Rattle.effects.specs.Steps.{requestsFull, isOpen, isSpent, serves, clientOf, answers, hasFailed, handsNumber, writeVariableOf, writeOf, sendOf, callOf, handBackOf}
 use Rattle.effects.specs.Step.{possibleOf}
 use Rattle.effects.proofs.Codes.{Code, coded, actBy, possible-by, possible-barred}
 use Rattle.effects.proofs.Codes as code
@@ -41,32 +42,42 @@ answer-pick : (b : Bool) (x y z w : Stepped) → x .answer ≡ z .answer → y .
 answer-pick true x y z w p q = p
 answer-pick false x y z w p q = q
 
+-- both tests fail if the second does
+both-fails : (b c : Bool) → c ≡ false → both b c ≡ false
+both-fails true c e = e
+both-fails false c e = refl
+
 module _ (cfg : Config) (st : State) where
-  -- what a step answers does not depend on what it hands over, but for a wait
-  act-answers : {n : ℕ} (c : Code n) → n < waitCode → (i k : ℕ) (v w : Value) → actBy c cfg st i k v .answer ≡ actBy c cfg st i k w .answer
+  -- the code n does not hand back a Number v from an instance i that has failed
+  abbrev Spoken : ℕ → ℕ → Value → Type 0
+  Spoken n i v = n ≡ handBackCode → handsNumber st i v ≡ false
+
+  -- what a step answers does not depend on what it hands over, but for a wait, and for a Number from an instance that has failed
+  act-answers : {n : ℕ} (c : Code n) → (n ≡ waitCode → ⊥) → (i k : ℕ) (v w : Value) → Spoken n i v → Spoken n i w → actBy c cfg st i k v .answer ≡ actBy c cfg st i k w .answer
   unfolding writeVariableOf writeOf sendOf callOf handBackOf
-  act-answers code.readVariable l i k v w = refl
-  act-answers code.writeVariable l i k v w = refl
-  act-answers code.enter l i k v w = refl
-  act-answers code.exit l i k v w = refl
-  act-answers code.read l i k v w = refl
-  act-answers code.write l i k v w = refl
-  act-answers code.updated l i k v w = refl
-  act-answers code.invalidate l i k v w = refl
-  act-answers code.receive l i k v w = refl
-  act-answers code.send l i k v w = refl
-  act-answers code.call l i k v w =
+  act-answers code.readVariable l i k v w p q = refl
+  act-answers code.writeVariable l i k v w p q = refl
+  act-answers code.enter l i k v w p q = refl
+  act-answers code.exit l i k v w p q = refl
+  act-answers code.read l i k v w p q = refl
+  act-answers code.write l i k v w p q = refl
+  act-answers code.updated l i k v w p q = refl
+  act-answers code.invalidate l i k v w p q = refl
+  act-answers code.receive l i k v w p q = refl
+  act-answers code.send l i k v w p q = refl
+  act-answers code.call l i k v w p q =
       answer-pick (isOpen st k) _ _ _ _ refl
       (answer-pick (isSpent st k) _ _ _ _ refl
       (answer-pick (requestsFull cfg (st .runnables) (operationConfIn (cfg .operations) k .server)) _ _ _ _ refl refl))
-  act-answers code.result l i k v w = refl
-  act-answers code.handBack l i k v w =
-      answer-pick (serves st i) _ _ _ _ (answer-pick (answers (st .operations) (clientOf st i)) _ _ _ _ refl refl) refl
-  act-answers code.end l i k v w = refl
-  act-answers code.spawn l i k v w = refl
-  act-answers code.timeout l i k v w = refl
-  act-answers code.tick l i k v w = refl
-  act-answers code.wait l i k v w = absurd (omega (arith, l))
+  act-answers code.result l i k v w p q = refl
+  act-answers code.handBack l i k v w p q =
+      rw (p refl, q refl) (answer-pick (serves st i) _ _ _ _ (answer-pick (answers (st .operations) (clientOf st i)) _ _ _ _ refl refl) refl)
+  act-answers code.end l i k v w p q = refl
+  act-answers code.spawn l i k v w p q = refl
+  act-answers code.timeout l i k v w p q = refl
+  act-answers code.tick l i k v w p q = refl
+  act-answers code.wait l i k v w p q = absurd (l refl)
+  act-answers code.fail l i k v w p q = refl
 
   module _ (s : Step) (h : argues (rowOf (s .code) .argument) (s .argument) ≡ true) where
     -- the step that is asked about
@@ -77,13 +88,23 @@ module _ (cfg : Config) (st : State) where
     unfolding refusalOf refusalBy instanceRefusal schedulerRefusal probeOf
     refused-alike = rw (formed-same (rowOf (s .code)) (s .what) (s .argument) (sampleOf (rowOf (s .code) .argument)) h (sample-argues (rowOf (s .code) .argument)))
 
-    -- the answer of any step of codes 1 to 17 whose argument is of its kind is the one that was asked for
-    pub allowed-is-possible : s .code < waitCode → possibleOf cfg st s .answer ≡ allowedOf cfg st (s .code) (s .who) (s .what)
+    -- what is asked about hands back Void
+    asked-spoken : Spoken (s .code) (s .who) (sampleOf (rowOf (s .code) .argument))
+    unfolding sampleOf rowOf rows
+    asked-spoken e = rw e (both-fails (hasFailed st (s .who)) _ refl)
+
+    -- the answer of any step whose argument is of its kind is the one that was asked for, unless it is a wait, or hands back a Number from an instance that has failed
+    pub allowed-is-possible : (s .code ≡ waitCode → ⊥) → (s .code ≡ handBackCode → handsNumber st (s .who) (s .argument) ≡ false) → possibleOf cfg st s .answer ≡ allowedOf cfg st (s .code) (s .who) (s .what)
     unfolding allowedOf probeOf
-    allowed-is-possible l = go (ℕ-discrete (refusalOf cfg (st .slots) s) 0)
+    allowed-is-possible l p = go (ℕ-discrete (refusalOf cfg (st .slots) s) 0)
       where
         go : Dec (refusalOf cfg (st .slots) s ≡ 0) → possibleOf cfg st s .answer ≡ possibleOf cfg st asked .answer
         go (yes e) =
             let c = coded cfg (st .slots) s e in
-            rw (possible-by cfg st s c refl e, possible-by cfg st asked c refl (sym refused-alike ∙ e)) (act-answers c l (s .who) (s .what) (s .argument) (sampleOf (rowOf (s .code) .argument)))
+            rw (possible-by cfg st s c refl e, possible-by cfg st asked c refl (sym refused-alike ∙ e)) (act-answers c l (s .who) (s .what) (s .argument) (sampleOf (rowOf (s .code) .argument)) p asked-spoken)
         go (no n) = rw (possible-barred cfg st s n, possible-barred cfg st asked (λ e. n (refused-alike ∙ e)), refused-alike)
+
+  -- and such a hand back is refused with 2, where 2 to 5 would let it through
+  pub failed-number : (s : Step) → s .code ≡ handBackCode → handsNumber st (s .who) (s .argument) ≡ true → refusalOf cfg (st .slots) s ≡ 0 → possibleOf cfg st s .answer ≡ Refused malformed
+  unfolding handBackOf
+  failed-number s e h z = rw (possible-by cfg st s code.handBack e z, h)

@@ -8,9 +8,9 @@ use lib.Dec.{ltb, leb, eqb}
 use Rattle.laws.specs.Choice.{pick, both}
 use Rattle.laws.proofs.Choosing.{pick-has}
 use Rattle.numbers.specs.Refusals.{malformed, notThere, notOwn, barred, areaTaken, notOnTop, queueFull, numbersSpent, stillOpen, notDue, noSlotFree, tooFar, notOver, areasHeld, wrongClient, otherAnswer}
-use Rattle.numbers.specs.Codes.{resultCode, timeoutCode}
+use Rattle.numbers.specs.Codes.{timeoutCode}
 use Rattle.values.specs.Values.{answerRefusal, sameValue}
-use Rattle.types.specs.Types.{Value, Step, Answer, Taken, Refused, Config, RunnableConf, Runnable, Slots, State, Stepped}
+use Rattle.types.specs.Types.{Value, Step, Answer, Taken, Refused, Config, RunnableConf, Life, Runnable, Slots, State, Stepped}
 use Rattle.config.specs.Tables.{runnableConfIn}
 use Rattle.entries.specs.Entries.{entryOf}
 use Rattle.state.specs.Tables.{maxSlots, runnableIn, operationIn, slotIn}
@@ -21,12 +21,12 @@ use Rattle.rules.specs.Refusals.{formed, partThere, partOwn, lifeLets, ownedRef
 use Rattle.effects.specs.Steps.{refused}
 use Rattle.effects.specs.Step.{possibleOf, onAnswer, claimedOf, innerOf, stepOf}
 use Rattle.effects.proofs.Codes.{never}
-use Rattle.stays_sound.proofs.Ways.{Barred, shared, enterTaken, exitOther, callSpent, callFull, collectOpen, answerNone, endServing, endHolding, spawnNeed, spawnFull, timeoutEarly, tickEarly, waitFar, Went, bars, goes, went}
+use Rattle.stays_sound.proofs.Ways.{Barred, shared, enterTaken, exitOther, callSpent, callFull, collectOpen, answerNumber, answerNone, endServing, endHolding, spawnNeed, spawnFull, timeoutEarly, tickEarly, waitFar, Went, bars, goes, went}
 use Rattle.stays_sound.proofs.Refusals.{refused-same}
 use Rattle.causes.specs.declared.Cause.{Cause}
 use Rattle.causes.specs.declared.Cause.the-variants.{NoCause, Differs}
 use Rattle.causes.specs.Passing.{passesOf, operationStop, timerStop}
-use Rattle.causes.specs.Causes.{causeRefusal, formCause, codeCause, thereCause, ownCause, lifeCause, topCause, stillCause, fullCause, openCause, dueCause, spawnCause, stopCause, earlyCause, owedCause, whyOf, claimCause, causeOf}
+use Rattle.causes.specs.Causes.{causeRefusal, formCause, slotCause, codeCause, thereCause, ownCause, waitsElse, lifeCause, topCause, stillCause, fullCause, openCause, dueCause, spawnCause, stopCause, earlyCause, owedCause, whyOf, claimCause, causeOf}
 
 -- ---- each number's causes have that number
 
@@ -39,10 +39,14 @@ form-number : (r : Row) (s : Step) → causeRefusal (formCause r s) ≡ malforme
 unfolding formCause
 form-number r s = either-number (ltb noPart (r .part)) _ _ malformed refl (either-number (ltb 0 (s .what)) _ _ malformed refl refl)
 
+slot-number : (r : Row) (s : Step) → causeRefusal (slotCause r s) ≡ malformed
+unfolding slotCause
+slot-number r s = either-number (formed r (s .what) (s .argument)) _ _ malformed refl (form-number r s)
+
 code-number : (r : Row) (s : Step) → causeRefusal (codeCause r s) ≡ malformed
 unfolding codeCause
 code-number r s =
-    either-number (eqb (r .who) aSlot) _ _ malformed (form-number r s)
+    either-number (eqb (r .who) aSlot) _ _ malformed (slot-number r s)
     (either-number (eqb (r .who) scheduler) _ _ malformed (either-number (eqb (s .who) 0) _ _ malformed (form-number r s) refl) refl)
 
 there-number : (cfg : Config) (ss : Slots) (r : Row) (s : Step) → causeRefusal (thereCause cfg ss r s) ≡ notThere
@@ -59,12 +63,12 @@ own-number cfg ss r s =
     (either-number (ltb 0 (entryOf cfg (r .part) (s .what) .second)) _ _ notOwn refl refl)
     refl
 
-life-number : (ss : Slots) (s : Step) → causeRefusal (lifeCause ss s) ≡ barred
+life-number : (l : Life) (s : Step) → causeRefusal (lifeCause l s) ≡ barred
 unfolding lifeCause
-life-number ss s =
-    either-number (slotIn ss (s .who) .life .waiting) _ _ barred
-    (either-number (both (eqb (s .code) resultCode) (eqb (slotIn ss (s .who) .life .on) (s .what))) _ _ barred refl refl)
-    (either-number (slotIn ss (s .who) .life .finished) _ _ barred refl refl)
+life-number l s =
+    either-number (waitsElse l s) _ _ barred refl
+    (either-number (l .failed) _ _ barred (either-number (l .finished) _ _ barred refl refl)
+    (either-number (l .finished) _ _ barred refl refl))
 
 top-number : (ss : Slots) (i : ℕ) → causeRefusal (topCause ss i) ≡ notOnTop
 unfolding topCause
@@ -128,7 +132,7 @@ module _ (cfg : Config) (st : State) (s : Step) where
 
   named-barred : Named barred
   unfolding whyOf
-  named-barred = life-number (st .slots) s
+  named-barred = life-number (slotIn (st .slots) (s .who) .life) s
 
   named-area-taken : Named areaTaken
   unfolding whyOf
@@ -210,6 +214,7 @@ module _ (cfg : Config) (st : State) (s : Step) where
   barred-named (callSpent a b) = named-numbers-spent
   barred-named (callFull a b) = named-queue-full
   barred-named (collectOpen e) = named-still-open
+  barred-named (answerNumber e) = named-malformed
   barred-named (answerNone e) = named-wrong-client
   barred-named (endServing e) = named-wrong-client
   barred-named (endHolding a b) = named-areas-held

@@ -1,7 +1,7 @@
 -- Why a step is refused, finer than its number: for each number the cases that it stands for, and what tells them apart ("Numbers of refusal").
 -- Assumes nothing.
 use Prim.Native.Nat.{ℕ}
-use mathlib.Core.Bool.{Bool}
+use mathlib.Core.Bool.{Bool, not}
 use lib.Dec.{ltb, leb, eqb}
 use lib.ListN.{getD}
 use Rattle.laws.specs.Choice.{pick, both}
@@ -10,7 +10,7 @@ use Rattle.values.specs.Values.{sameValue}
 use Rattle.numbers.specs.Refusals.{malformed, notThere, notOwn, barred, areaTaken, notOnTop, queueFull, numbersSpent, stillOpen, notDue, noSlotFree, tooFar, notOver, areasHeld, wrongClient, otherAnswer}
 use Rattle.numbers.specs.Codes.{resultCode, timeoutCode}
 use Rattle.numbers.specs.Tags.{runnableTag, operationTag, timerTag}
-use Rattle.types.specs.Types.{Value, Step, Config, RunnableConf, Stack, Runnable, Slots, State}
+use Rattle.types.specs.Types.{Value, Step, Config, RunnableConf, Life, Stack, Runnable, Slots, State}
 use Rattle.config.specs.Tables.{runnableConfIn, operationConfIn}
 use Rattle.entries.specs.Entries.{countOf, entryOf}
 use Rattle.state.specs.Tables.{maxSlots, runnableIn, operationIn, timerIn, slotIn}
@@ -18,9 +18,10 @@ use Rattle.state.specs.Queues.{topArea}
 use Rattle.rules.specs.declared.Row.{Row}
 use Rattle.rules.specs.Sound.{componentOf}
 use Rattle.rules.specs.Rows.{aSlot, scheduler, noPart, rowOf}
+use Rattle.rules.specs.Refusals.{formed}
 use Rattle.effects.specs.Step.{possibleOf, onAnswer}
 use Rattle.causes.specs.declared.Cause.{Cause}
-use Rattle.causes.specs.declared.Cause.the-variants.{NoCause, NoCode, HasWho, HasWhat, BadArgument, NoSlot, EmptySlot, NoPart, Foreign, IsQueued, NotQueued, WaitsOn, IsFinished, NotWaiting, HeldBy, NoneHeld, OnTop, QueueFull, NumbersUsed, CallOpen, InInterval, Runs, NotPending, NoRequest, NoRoom, Stops, NotOpen, CallRuns, TimerRuns, StillHeld, NoClient, HasClient, Differs}
+use Rattle.causes.specs.declared.Cause.the-variants.{NoCause, NoCode, HasWho, HasWhat, BadArgument, HandsNumber, NoSlot, EmptySlot, NoPart, Foreign, IsQueued, NotQueued, WaitsOn, IsFinished, HasFailed, FailedBack, NotWaiting, HeldBy, NoneHeld, OnTop, QueueFull, NumbersUsed, CallOpen, InInterval, Runs, NotPending, NoRequest, NoRoom, Stops, NotOpen, CallRuns, TimerRuns, StillHeld, NoClient, HasClient, Differs}
 use Rattle.causes.specs.Passing.{passesOf, operationStop, timerStop, runnableStop}
 
 -- the number of refusal that a cause stands for; 0 for none ("Numbers of refusal")
@@ -30,6 +31,7 @@ causeRefusal NoCode = malformed
 causeRefusal HasWho = malformed
 causeRefusal HasWhat = malformed
 causeRefusal (BadArgument k) = malformed
+causeRefusal HandsNumber = malformed
 causeRefusal NoSlot = notThere
 causeRefusal EmptySlot = notThere
 causeRefusal (NoPart n) = notThere
@@ -38,6 +40,8 @@ causeRefusal IsQueued = notOwn
 causeRefusal NotQueued = notOwn
 causeRefusal (WaitsOn o) = barred
 causeRefusal IsFinished = barred
+causeRefusal HasFailed = barred
+causeRefusal FailedBack = barred
 causeRefusal NotWaiting = barred
 causeRefusal (HeldBy i) = areaTaken
 causeRefusal NoneHeld = notOnTop
@@ -68,10 +72,14 @@ formCause r s =
     (pick (ltb 0 (s .what)) HasWhat
     (BadArgument (r .argument)))
 
+-- a slot's step whose entries are as they should be is refused with 2 for one thing alone: an instance that has failed hands back a Number; else it is its entries ("Numbers of refusal", 2; W-205)
+unfoldable pub slotCause : Row → Step → Cause
+slotCause r s = pick (formed r (s .what) (s .argument)) HandsNumber (formCause r s)
+
 -- no such code; a slot named in a step of the scheduler; else the entries ("Numbers of refusal", 2)
 unfoldable pub codeCause : Row → Step → Cause
 codeCause r s =
-    pick (eqb (r .who) aSlot) (formCause r s)
+    pick (eqb (r .who) aSlot) (slotCause r s)
     (pick (eqb (r .who) scheduler) (pick (eqb (s .who) 0) (formCause r s) HasWho)
     NoCode)
 
@@ -97,12 +105,16 @@ ownCause cfg ss r s =
 
 -- ---- 5
 
--- it waits, and for something else; it is finished; or it asks without waiting ("Numbers of refusal", 5)
-unfoldable pub lifeCause : Slots → Step → Cause
-lifeCause ss s =
-    pick (slotIn ss (s .who) .life .waiting)
-    (pick (both (eqb (s .code) resultCode) (eqb (slotIn ss (s .who) .life .on) (s .what))) IsFinished (WaitsOn (slotIn ss (s .who) .life .on)))
-    (pick (slotIn ss (s .who) .life .finished) IsFinished NotWaiting)
+-- it waits, and for something else ("Numbers of refusal", 5)
+unfoldable pub waitsElse : Life → Step → Bool
+waitsElse l s = both (l .waiting) (not (both (eqb (s .code) resultCode) (eqb (l .on) (s .what))))
+
+-- it waits, and for something else; it has failed, and handed back or not yet; it is finished; or it asks without waiting ("Numbers of refusal", 5; W-205)
+unfoldable pub lifeCause : Life → Step → Cause
+lifeCause l s =
+    pick (waitsElse l s) (WaitsOn (l .on))
+    (pick (l .failed) (pick (l .finished) FailedBack HasFailed)
+    (pick (l .finished) IsFinished NotWaiting))
 
 -- ---- 6, 7, 15: areas
 
@@ -176,7 +188,7 @@ whyOf cfg st s n =
     pick (eqb n malformed) (codeCause (rowOf (s .code)) s)
     (pick (eqb n notThere) (thereCause cfg (st .slots) (rowOf (s .code)) s)
     (pick (eqb n notOwn) (ownCause cfg (st .slots) (rowOf (s .code)) s)
-    (pick (eqb n barred) (lifeCause (st .slots) s)
+    (pick (eqb n barred) (lifeCause (slotIn (st .slots) (s .who) .life) s)
     (pick (eqb n areaTaken) (HeldBy (holderOf (st .slots) (s .what)))
     (pick (eqb n notOnTop) (topCause (st .slots) (s .who))
     (pick (eqb n queueFull) (fullCause cfg (s .what))

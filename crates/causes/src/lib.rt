@@ -4,12 +4,13 @@ ghost use lib.ListN.{getD};
 ghost use Rattle.config.specs.Tables.{runnableConfIn};
 ghost use Rattle.state.specs.Tables.{runnableIn};
 ghost use Rattle.causes.specs.Passing.{least, operationLeft, runnableLeft, operationsPass, timersPass, runnablesPass, passesOf, operationStops, timerStops, runnableStops, operationStop, timerStop, runnableStop};
-ghost use Rattle.causes.specs.Causes.{formCause, codeCause, thereCause, ownCause, lifeCause, holdsOf, holderOf, topCause, fullCause, openCause, dueCause, spawnCause, stopCause, earlyCause, stillCause, owedCause, whyOf, claimCause, causeOf};
+ghost use Rattle.causes.specs.Causes.{formCause, slotCause, codeCause, thereCause, ownCause, waitsElse, lifeCause, holdsOf, holderOf, topCause, fullCause, openCause, dueCause, spawnCause, stopCause, earlyCause, stillCause, owedCause, whyOf, claimCause, causeOf};
 ghost use Rattle.causes.specs.Allowed.{sampleOf, probeOf, allowedOf};
 use config::AreaConfs;
 use config::Config;
 use config::RunnableConf;
 use rules::Row;
+use state::Life;
 use state::Operation;
 use state::Operations;
 use state::Runnable;
@@ -27,11 +28,12 @@ use values::Value;
 pub enum Cause {
     // it is not refused
     NoCause,
-    // (2) the code is none of 1 to 18; the scheduler has no slot; no part is named here; the argument is not of this kind: 0 none, 1 a payload, 2 a Number
+    // (2) the code is none of 1 to 19; the scheduler has no slot; no part is named here; the argument is not of this kind: 0 none, 1 a payload, 2 a Number; an instance that has failed hands back a Number
     NoCode,
     HasWho,
     HasWhat,
     BadArgument(u8),
+    HandsNumber,
     // (3) there is no such slot; nothing is in it; there are only so many parts of the kind
     NoSlot,
     EmptySlot,
@@ -40,9 +42,11 @@ pub enum Cause {
     Foreign(u8, u8),
     IsQueued,
     NotQueued,
-    // (5) the instance waits on this operation; it is finished; it does not wait
+    // (5) the instance waits on this operation; it is finished; it has failed, and not handed back; it has failed, and handed back; it does not wait
     WaitsOn(u8),
     IsFinished,
+    HasFailed,
+    FailedBack,
     NotWaiting,
     // (6) the area is held by this slot
     HeldBy(u8),
@@ -261,11 +265,21 @@ fn form_cause(row: Row, s: Step) -> Cause
     Cause::BadArgument(row.argument)
 }
 
+// 2 of a slot's step: its entries, or a Number handed back by an instance that has failed.
+fn slot_cause(row: Row, s: Step) -> Cause
+    ensures { λ r. ⌜ r ≡ slotCause row s ⌝ }
+{
+    if refusals::formed(row, s.what, s.argument) {
+        return Cause::HandsNumber;
+    }
+    form_cause(row, s)
+}
+
 fn code_cause(row: Row, s: Step) -> Cause
     ensures { λ r. ⌜ r ≡ codeCause row s ⌝ }
 {
     if row.who == A_SLOT {
-        return form_cause(row, s);
+        return slot_cause(row, s);
     }
     if row.who == SCHEDULER {
         if s.who == 0 {
@@ -311,19 +325,31 @@ fn own_cause(cfg: Config, slots: Slots, row: Row, s: Step) -> Cause
     Cause::Foreign(e.first, c.component)
 }
 
-// 5: the instance waits, is finished, or does not wait.
-fn life_cause(slots: Slots, s: Step) -> Cause
-    ensures { λ r. ⌜ r ≡ lifeCause slots s ⌝ }
+// It waits, and for something else.
+fn waits_else(l: Life, s: Step) -> bool
+    ensures { λ r. ⌜ r ≡ waitsElse l s ⌝ }
 {
-    let x = slots.get(s.who);
-    let l = x.life;
     if l.waiting {
         if s.code == numbers::CODE_RESULT {
-            if l.on == s.what {
-                return Cause::IsFinished;
-            }
+            return l.on != s.what;
         }
+        return true;
+    }
+    false
+}
+
+// 5: the instance waits, has failed, is finished, or does not wait.
+fn life_cause(l: Life, s: Step) -> Cause
+    ensures { λ r. ⌜ r ≡ lifeCause l s ⌝ }
+{
+    if waits_else(l, s) {
         return Cause::WaitsOn(l.on);
+    }
+    if l.failed {
+        if l.finished {
+            return Cause::FailedBack;
+        }
+        return Cause::HasFailed;
     }
     if l.finished {
         return Cause::IsFinished;
@@ -501,13 +527,15 @@ fn why(cfg: Config, st: State, s: Step, n: u8) -> Cause
     ensures { λ r. ⌜ r ≡ whyOf cfg st s n ⌝ }
 {
     let slots = st.slots;
+    let x = slots.get(s.who);
+    let l = x.life;
     let v = s.argument;
     let row = refusals::row_of(s.code);
     match n {
         numbers::MALFORMED => code_cause(row, s),
         numbers::NOT_THERE => there_cause(cfg, slots, row, s),
         numbers::NOT_OWN => own_cause(cfg, slots, row, s),
-        numbers::BARRED => life_cause(slots, s),
+        numbers::BARRED => life_cause(l, s),
         numbers::AREA_TAKEN => Cause::HeldBy(holder(slots, s.what)),
         numbers::NOT_ON_TOP => top_cause(slots, s.who),
         numbers::QUEUE_FULL => full_cause(cfg, s.what),

@@ -8,12 +8,12 @@ use native.Mathlib.Decide.{ℕ-discrete}
 use native.Mathlib.Omega.{arith}
 use lib.ListN.{getD}
 use borrow.Author.Tests.{ne-eqb}
-use Rattle.numbers.specs.Codes.{readVariableCode, writeVariableCode, enterCode, exitCode, readCode, writeCode, updatedCode, invalidateCode, receiveCode, sendCode, callCode, resultCode, handBackCode, endCode, spawnCode, timeoutCode, tickCode, waitCode}
+use Rattle.numbers.specs.Codes.{readVariableCode, writeVariableCode, enterCode, exitCode, readCode, writeCode, updatedCode, invalidateCode, receiveCode, sendCode, callCode, resultCode, handBackCode, endCode, spawnCode, timeoutCode, tickCode, waitCode, failCode}
 use Rattle.types.specs.Types.{Value, Step, Taken, Refused, Config, Slots, State, Stepped}
 use Rattle.rules.specs.declared.Row.{Row}
 use Rattle.rules.specs.Rows.{nobody, noRow, rows, rowOf}
 use Rattle.rules.specs.Refusals.{refusalBy, refusalOf}
-use Rattle.effects.specs.Steps.{refused, readVariableOf, writeVariableOf, enterOf, exitOf, readOf, writeOf, updatedOf, invalidateOf, receiveOf, sendOf, callOf, resultOf, handBackOf, endOf, spawnOf, timeoutOf, tickOf, waitOf}
+use Rattle.effects.specs.Steps.{refused, readVariableOf, writeVariableOf, enterOf, exitOf, readOf, writeOf, updatedOf, invalidateOf, receiveOf, sendOf, callOf, resultOf, handBackOf, endOf, spawnOf, timeoutOf, tickOf, waitOf, failOf}
 use Rattle.effects.specs.Step.{actOf, possibleOf}
 
 -- a refusal is no answer
@@ -42,6 +42,7 @@ pub data Code : ℕ → Type 0 where
   timeout : Code timeoutCode
   tick : Code tickCode
   wait : Code waitCode
+  fail : Code failCode
 
 -- what holds of each code of a table that somebody takes, from its first row on
 infixr 5 _⨾_
@@ -63,7 +64,7 @@ unfolding rowOf rows
 by-code n h = each-taken table n h
   where
     table : EachTaken Code rows
-    table = skip refl (readVariable ⨾ writeVariable ⨾ enter ⨾ exit ⨾ read ⨾ write ⨾ updated ⨾ invalidate ⨾ receive ⨾ send ⨾ call ⨾ result ⨾ handBack ⨾ end ⨾ spawn ⨾ timeout ⨾ tick ⨾ wait ⨾ done)
+    table = skip refl (readVariable ⨾ writeVariable ⨾ enter ⨾ exit ⨾ read ⨾ write ⨾ updated ⨾ invalidate ⨾ receive ⨾ send ⨾ call ⨾ result ⨾ handBack ⨾ end ⨾ spawn ⨾ timeout ⨾ tick ⨾ wait ⨾ fail ⨾ done)
 
 -- a step that refusals 2 to 5 let through has one
 pub coded : (cfg : Config) (ss : Slots) (s : Step) → refusalOf cfg ss s ≡ 0 → Code (s .code)
@@ -92,6 +93,7 @@ actBy spawn cfg st i k v = spawnOf cfg st k
 actBy timeout cfg st i k v = timeoutOf cfg st k
 actBy tick cfg st i k v = tickOf cfg st k
 actBy wait cfg st i k v = waitOf cfg st (v .number)
+actBy fail cfg st i k v = failOf st i
 
 -- it is what the match over codes does
 act-by : {n : ℕ} (c : Code n) (cfg : Config) (st : State) (i k : ℕ) (v : Value) → actOf cfg st n i k v ≡ actBy c cfg st i k v
@@ -114,6 +116,7 @@ act-by spawn cfg st i k v = refl
 act-by timeout cfg st i k v = refl
 act-by tick cfg st i k v = refl
 act-by wait cfg st i k v = refl
+act-by fail cfg st i k v = refl
 
 module _ (cfg : Config) (st : State) (s : Step) where
   -- a step that they let through does what its code says

@@ -3,15 +3,15 @@
 use Prim.Native.Nat.{ℕ}
 use lib.Dec.{eqb}
 use Rattle.numbers.specs.Refusals.{notSound, otherAnswer}
-use Rattle.numbers.specs.Codes.{readVariableCode, writeVariableCode, enterCode, exitCode, readCode, writeCode, updatedCode, invalidateCode, receiveCode, sendCode, callCode, resultCode, handBackCode, endCode, spawnCode, timeoutCode, tickCode}
+use Rattle.numbers.specs.Codes.{readVariableCode, writeVariableCode, enterCode, exitCode, readCode, writeCode, updatedCode, invalidateCode, receiveCode, sendCode, callCode, resultCode, handBackCode, endCode, spawnCode, timeoutCode, tickCode, waitCode}
 use Rattle.laws.specs.Choice.{pick}
 use Rattle.values.specs.Values.{sameValue}
 use Rattle.types.specs.Types.{Value, Step, Answer, Taken, Refused, Config, State, Stepped}
 use Rattle.rules.specs.Sound.{soundOf}
 use Rattle.rules.specs.Refusals.{refusalOf}
-use Rattle.effects.specs.Steps.{refused, readVariableOf, writeVariableOf, enterOf, exitOf, readOf, writeOf, updatedOf, invalidateOf, receiveOf, sendOf, callOf, resultOf, handBackOf, endOf, spawnOf, timeoutOf, tickOf, waitOf}
+use Rattle.effects.specs.Steps.{refused, readVariableOf, writeVariableOf, enterOf, exitOf, readOf, writeOf, updatedOf, invalidateOf, receiveOf, sendOf, callOf, resultOf, handBackOf, endOf, spawnOf, timeoutOf, tickOf, waitOf, failOf}
 
--- what a step does by its code: i is the slot, k the part, v the argument ("The eighteen steps", the table)
+-- what a step does by its code: i is the slot, k the part, v the argument ("The eighteen steps", the table; W-205)
 unfoldable pub actOf : Config → State → ℕ → ℕ → ℕ → Value → Stepped
 actOf cfg st code i k v =
     pick (eqb code readVariableCode) (readVariableOf st k)
@@ -31,7 +31,8 @@ actOf cfg st code i k v =
     (pick (eqb code spawnCode) (spawnOf cfg st k)
     (pick (eqb code timeoutCode) (timeoutOf cfg st k)
     (pick (eqb code tickCode) (tickOf cfg st k)
-    (waitOf cfg st (v .number))))))))))))))))))
+    (pick (eqb code waitCode) (waitOf cfg st (v .number))
+    (failOf st i))))))))))))))))))
 
 -- the step before its claim is looked at: refusals 2 to 5 first, then what it does ("Numbers of refusal", 2 to 16)
 unfoldable pub possibleOf : Config → State → Step → Stepped

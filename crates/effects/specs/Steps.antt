@@ -1,18 +1,18 @@
--- The eighteen steps, once refusals 2 to 5 have let them through: each with its own refusals, its answer and the state after it ("The eighteen steps" and the paragraphs below its table).
+-- The eighteen steps and fail, once refusals 2 to 5 have let them through: each with its own refusals, its answer and the state after it ("The eighteen steps" and the paragraphs below its table; W-205).
 -- Assumes nothing.
 use Prim.Native.Nat.{ℕ, _+_, _-_, _%_}
 use mathlib.Core.Bool.{Bool, true, false, not}
 use lib.Dec.{ltb, leb, eqb}
-use Rattle.numbers.specs.Refusals.{areaTaken, notOnTop, queueFull, numbersSpent, stillOpen, notDue, noSlotFree, tooFar, notOver, areasHeld, wrongClient}
+use Rattle.numbers.specs.Refusals.{malformed, areaTaken, notOnTop, queueFull, numbersSpent, stillOpen, notDue, noSlotFree, tooFar, notOver, areasHeld, wrongClient}
 use Rattle.laws.specs.Choice.{pick, both, either, bit}
 use Rattle.laws.specs.Loop.{allBelow, anyBelow, firstBelow}
 use Rattle.laws.specs.Row.{eachBelow}
-use Rattle.values.specs.Values.{voidV, numberV, okV, limitV, noDataV, timeoutV, invalidV}
+use Rattle.values.specs.Values.{voidV, numberV, okV, limitV, noDataV, timeoutV, invalidV, serverErrV, isNumber}
 use Rattle.types.specs.Types.{Value, Taken, Refused, Config, RunnableConf, Link, Client, Runnable, Runnables, Element, Elements, Operation, Operations, Timer, Timers, Owed, Slot, Slots, State, Stepped}
 use Rattle.config.specs.Tables.{runnableConfIn, requiredConfIn, linkIn, operationConfIn, timerConfIn, dataEventIn, returnEventIn}
 use Rattle.entries.specs.Faults.{isQueued}
 use Rattle.state.specs.Parts.{lastNumber, noOwed, noStack, noSlot, noRunnable, noElement, noOperation, noTimer}
-use Rattle.state.specs.Fields.{withInterval, withPending, withInstances, withRequests, withValue, withUpdated, withQueue, withCount, lifeWaiting, lifeRunning, lifeFinished, lifeOf, withLife, withOwed, withStack}
+use Rattle.state.specs.Fields.{withInterval, withPending, withInstances, withRequests, withValue, withUpdated, withQueue, withCount, lifeWaiting, lifeRunning, lifeFinished, lifeFailed, lifeOf, withLife, withOwed, withStack}
 use Rattle.state.specs.Tables.{maxSlots, runnableIn, variableIn, areaIn, elementIn, operationIn, timerIn, slotIn, withRunnable, withVariable, withArea, withElement, withOperation, withTimer, withSlot, withRunnables, withVariables, withAreas, withElements, withOperations, withTimers, withSlots}
 use Rattle.state.specs.Queues.{upOne, pushRequest, firstRequest, restRequests, pushValue, firstValue, restValues, pushArea, topArea, popArea}
 use Rattle.effects.specs.declared.Found.{Found}
@@ -307,12 +307,25 @@ finished st next i = withSlots next (withSlot (st .slots) i (finishing (slotIn (
 abbrev pub answered : Config → State → ℕ → Value → State
 answered cfg st i v = finished st (closed cfg st (clientOf st i .operation) v) i
 
--- Number 1 if that ends the client's call, else Number 0 and the operation as it was; 16 without a client ("The eighteen steps", Hand back)
+-- the instance i has failed (W-205)
+abbrev pub hasFailed : State → ℕ → Bool
+hasFailed st i = slotIn (st .slots) i .life .failed
+
+-- an instance that has failed hands back a Number, where it may hand back Void alone (W-205)
+abbrev pub handsNumber : State → ℕ → Value → Bool
+handsNumber st i v = both (hasFailed st i) (isNumber v)
+
+-- what a hand back delivers: ServerErr for an instance that has failed, its argument for any other ("The eighteen steps", Hand back; W-205)
+abbrev pub handedBack : State → ℕ → Value → Value
+handedBack st i v = pick (hasFailed st i) serverErrV v
+
+-- Number 1 if that ends the client's call, else Number 0 and the operation as it was; 2 for a Number from an instance that has failed, then 16 without a client ("The eighteen steps", Hand back; W-205)
 unfoldable pub handBackOf : Config → State → ℕ → Value → Stepped
 handBackOf cfg st i v =
-    pick (serves st i)
-    (pick (answers (st .operations) (clientOf st i)) (took (numberV 1) (answered cfg st i v)) (took (numberV 0) (finished st st i)))
-    (refused wrongClient st)
+    pick (handsNumber st i v) (refused malformed st)
+    (pick (serves st i)
+    (pick (answers (st .operations) (clientOf st i)) (took (numberV 1) (answered cfg st i (handedBack st i v))) (took (numberV 0) (finished st st i)))
+    (refused wrongClient st))
 
 -- a call is open, and its count has run out ("The eighteen steps", 16)
 abbrev pub isOver : State → ℕ → Bool
@@ -476,3 +489,17 @@ waited cfg st t =
 -- t passes if every running count lets it, else 13 ("The eighteen steps", Wait)
 unfoldable pub waitOf : Config → State → ℕ → Stepped
 waitOf cfg st t = pick (allLet cfg st t) (took voidV (waited cfg st t)) (refused tooFar st)
+
+-- ---- 19: fail
+
+-- a slot whose instance has failed; what it owes and holds stays with it (W-205)
+abbrev pub failing : Slot → Slot
+failing x = withLife x (lifeFailed (x .life))
+
+-- the state after the instance i has failed (W-205)
+abbrev pub failed : State → ℕ → State
+failed st i = withSlots st (withSlot (st .slots) i (failing (slotIn (st .slots) i)))
+
+-- an instance fails; 5 has stopped one that waits, is finished or has failed before (W-205)
+unfoldable pub failOf : State → ℕ → Stepped
+failOf st i = took voidV (failed st i)

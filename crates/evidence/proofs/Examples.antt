@@ -1,4 +1,4 @@
--- One state that is sound and not trivial, and near ones that are unsound, each for one clause alone: the test of soundness neither lets all pass nor bars what it should not.
+-- One state that is sound and not trivial, near ones that are unsound, each for one clause alone, and near ones that are sound: the test of soundness neither lets all pass nor bars what it should not.
 -- Assumes nothing.
 use Prim.Native.Nat.{ℕ}
 use mathlib.Core.Bool.{Bool, true, false}
@@ -8,7 +8,7 @@ use lib.ListN.{replicate, set}
 use Rattle.laws.specs.Choice.{allOf}
 use Rattle.laws.specs.Loop.{allBelow, anyBelow, sumBelow, firstBelow}
 use Rattle.laws.specs.Row.{eachBelow, shifted, placeFilled, filled}
-use Rattle.values.specs.Values.{isVoid, isPayload, isGood, sameValue, voidV, numberV, okV}
+use Rattle.values.specs.Values.{isVoid, isPayload, isKind, isGood, sameValue, voidV, numberV, okV, serverErrV}
 use Rattle.config.specs.Tables.{runnableConfIn, addRunnableConf, variableConfIn, addVariableConf, areaConfIn, addAreaConf, requiredConfIn, addRequiredConf, providedConfIn, addProvidedConf, linkIn, addLink, operationConfIn, addOperationConf, timerConfIn, addTimerConf, dataEventIn, addDataEvent, returnEventIn, addReturnEvent, noConfig, noRunnableConf, noAreaConf, noRequiredConf, noOperationConf, noVariableConfs, noProvidedConfs, noLinks, noTimerConfs, noDataEvents, noReturnEvents}
 use Rattle.state.specs.Parts.{noRequests, noRunnable, noValues, noElement, noStack, noSlot, noClient, noOwed, noVariable, noArea, noOperation, noTimer}
 use Rattle.state.specs.Tables.{withRunnables, withVariables, withAreas, withElements, withOperations, withTimers, withSlots, noRunnables, runnableIn, withRunnable, noVariables, variableIn, withVariable, noAreas, areaIn, withArea, noElements, elementIn, withElement, noOperations, operationIn, withOperation, noTimers, timerIn, withTimer, noSlots, slotIn, withSlot}
@@ -17,6 +17,7 @@ use Rattle.state.specs.Start.{startVariable, startElement, startRunnables, star
 use Rattle.entries.specs.Entries.{maxOf, countOf, placesOf, entryOf, placed}
 use Rattle.entries.specs.Faults.{inRange, namesThere, isServer, isQueued, rises, risesAt, pairsWell, entryFault, isNoEntry, placeSound, kindSound, configSound}
 use Rattle.rules.specs.Sound.{isNoClient, clientFits, requestsSound, valuesSound, runnableSound, variableSound, isStored, elementSound, isOutcome, callingSound, doneSound, operationSound, timerSound, waitsWell, lifeSound, owedSound, areaFits, stackSound, isNoSlot, slotSound, ofRunnable, slotsOf, countSound, timesIn, holders, areaSound, isClient, queuedAs, servedAs, clientsAs, numbered, clientSound, queuedSound, servedSound, calledSound, runnablesSound, variablesSound, elementsSound, operationsSound, timersSound, slotsSound, countsSound, areasSound, clientsSound, shaped, soundOf}
+use Rattle.effects.specs.Steps.{failing}
 use Rattle.types.specs.Types.{Value, Config, Client, Requests, Runnables, Elements, Operations, Life, Stack, Slot, Slots, State}
 
 -- ---- the configuration: a client and a server component with two runnables each, a synchronous and two asynchronous operations of the one on the other, two areas, a queued element
@@ -58,7 +59,7 @@ config = configWith 10
 
 -- an instance of the client, with the operation that it waits on, whether it is finished, and its stack
 pub caller : ℕ → Bool → Stack → Slot
-caller on finished stack = record { used = true; life = record { runnable = 0; waiting = true; on = on; finished = finished }; owed = noOwed; stack = stack }
+caller on finished stack = record { used = true; life = record { runnable = 0; waiting = true; on = on; finished = finished; failed = false }; owed = noOwed; stack = stack }
 
 -- both areas, the second at the bottom
 pub nested : Stack
@@ -74,11 +75,11 @@ served o m life stack = record { used = true; life = life; owed = record { servi
 
 -- the life of a server's instance: at work, or finished, or waiting
 pub life : Bool → Bool → Life
-life waiting finished = record { runnable = 1; waiting = waiting; on = 0; finished = finished }
+life waiting finished = record { runnable = 1; waiting = waiting; on = 0; finished = finished; failed = false }
 
 -- an instance of the runnable r that neither waits nor serves
 pub idle : ℕ → Stack → Slot
-idle r stack = record { used = true; life = record { runnable = r; waiting = false; on = 0; finished = false }; owed = noOwed; stack = stack }
+idle r stack = record { used = true; life = record { runnable = r; waiting = false; on = 0; finished = false; failed = false }; owed = noOwed; stack = stack }
 
 pub first : Slot
 first = caller 0 false nested
@@ -119,6 +120,10 @@ operationsWith count number past = record {
       2 (record { number = past; calling = false; count = 0; done = voidV });
 }
 
+-- the same with what the third is Done with
+pub doneWith : Value → Operations
+doneWith v = withOperation (operationsWith 50 3 0) 2 (record { number = 0; calling = false; count = 0; done = v })
+
 -- one element, with a queue of values
 pub elementsWith : ℕ → List Value → Elements
 elementsWith queued at = record { at = set (replicate 16 noElement) 0 (record { value = voidV; updated = false; queue = record { queued = queued; at = at } }) }
@@ -156,7 +161,7 @@ unfolding soundOf clauses
 clauses-are cfg st = refl
 
 pub state-sound : soundOf config state ≡ true
-unfolding allOf allBelow anyBelow sumBelow firstBelow eachBelow shifted placeFilled filled isVoid isPayload isGood sameValue runnableConfIn addRunnableConf variableConfIn addVariableConf areaConfIn addAreaConf requiredConfIn addRequiredConf providedConfIn addProvidedConf linkIn addLink operationConfIn addOperationConf timerConfIn addTimerConf dataEventIn addDataEvent returnEventIn addReturnEvent noConfig noRequests noRunnable noValues noElement noStack noSlot noRunnables runnableIn withRunnable noVariables variableIn withVariable noAreas areaIn withArea noElements elementIn withElement noOperations operationIn withOperation noTimers timerIn withTimer noSlots slotIn withSlot pushRequest firstRequest restRequests pushValue firstValue restValues pushArea topArea popArea startVariable startElement startRunnables startVariables startElements startOf maxOf countOf placesOf entryOf placed inRange namesThere isServer isQueued rises risesAt pairsWell entryFault isNoEntry placeSound kindSound configSound isNoClient clientFits requestsSound valuesSound runnableSound variableSound isStored elementSound isOutcome callingSound doneSound operationSound timerSound waitsWell lifeSound owedSound areaFits stackSound isNoSlot slotSound ofRunnable slotsOf countSound timesIn holders areaSound isClient queuedAs servedAs clientsAs numbered clientSound queuedSound servedSound calledSound runnablesSound variablesSound elementsSound operationsSound timersSound slotsSound countsSound areasSound clientsSound shaped soundOf configWith config caller nested one served life idle first second slotsWith runnablesWith asked queueOne queueTwo operationsWith elementsWith state
+unfolding allOf allBelow anyBelow sumBelow firstBelow eachBelow shifted placeFilled filled isVoid isPayload isKind isGood sameValue runnableConfIn addRunnableConf variableConfIn addVariableConf areaConfIn addAreaConf requiredConfIn addRequiredConf providedConfIn addProvidedConf linkIn addLink operationConfIn addOperationConf timerConfIn addTimerConf dataEventIn addDataEvent returnEventIn addReturnEvent noConfig noRequests noRunnable noValues noElement noStack noSlot noRunnables runnableIn withRunnable noVariables variableIn withVariable noAreas areaIn withArea noElements elementIn withElement noOperations operationIn withOperation noTimers timerIn withTimer noSlots slotIn withSlot pushRequest firstRequest restRequests pushValue firstValue restValues pushArea topArea popArea startVariable startElement startRunnables startVariables startElements startOf maxOf countOf placesOf entryOf placed inRange namesThere isServer isQueued rises risesAt pairsWell entryFault isNoEntry placeSound kindSound configSound isNoClient clientFits requestsSound valuesSound runnableSound variableSound isStored elementSound isOutcome callingSound doneSound operationSound timerSound waitsWell lifeSound owedSound areaFits stackSound isNoSlot slotSound ofRunnable slotsOf countSound timesIn holders areaSound isClient queuedAs servedAs clientsAs numbered clientSound queuedSound servedSound calledSound runnablesSound variablesSound elementsSound operationsSound timersSound slotsSound countsSound areasSound clientsSound shaped soundOf configWith config caller nested one served life idle first second slotsWith runnablesWith asked queueOne queueTwo operationsWith doneWith elementsWith state
 state-sound = refl
 
 -- ---- near it, and unsound for one clause alone
@@ -215,6 +220,10 @@ countAbove = record { config = config; state = withOperations state (operationsW
 numberTop : Near
 numberTop = record { config = config; state = withOperations (withRunnables state (runnablesWith 1 false (queueOne (asked 65535)) 0)) (operationsWith 50 65535 0); fails = 5 }
 
+-- ServerErr with a number beside it
+errNumbered : Near
+errNumbered = record { config = config; state = withOperations state (doneWith (record { kind = 9; number = 1 })); fails = 5 }
+
 -- a timer that is not there runs
 timerUnused : Near
 timerUnused = record { config = config; state = withTimers state (record { at = set (replicate 8 noTimer) 0 (record { count = 1 }) }); fails = 6 }
@@ -242,6 +251,10 @@ foreignArea = record { config = config; state = withSlots state (slotsWith (call
 -- a place of an empty slot is not blank
 emptyUsed : Near
 emptyUsed = record { config = config; state = withSlots state (slotsWith first second (record { used = false; life = life false false; owed = noOwed; stack = noStack })); fails = 7 }
+
+-- an empty slot has failed
+emptyFailed : Near
+emptyFailed = record { config = config; state = withSlots state (slotsWith first second (failing noSlot)); fails = 7 }
 
 -- a runnable counts fewer instances than it has
 noInstance : Near
@@ -280,6 +293,7 @@ near =
     ∷ behindQueue
     ∷ countAbove
     ∷ numberTop
+    ∷ errNumbered
     ∷ timerUnused
     ∷ waitsAsync
     ∷ waitsForeign
@@ -287,6 +301,7 @@ near =
     ∷ finishedPlain
     ∷ foreignArea
     ∷ emptyUsed
+    ∷ emptyFailed
     ∷ noInstance
     ∷ heldFree
     ∷ heldTwice
@@ -297,5 +312,19 @@ near =
 
 -- of each, the clauses hold as it says: all but one
 pub near-unsound : map (λ (x : Near). clauses (x .config) (x .state)) near ≡ map (λ (x : Near). allBut (x .fails)) near
-unfolding allOf allBelow anyBelow sumBelow firstBelow eachBelow shifted placeFilled filled isVoid isPayload isGood sameValue runnableConfIn addRunnableConf variableConfIn addVariableConf areaConfIn addAreaConf requiredConfIn addRequiredConf providedConfIn addProvidedConf linkIn addLink operationConfIn addOperationConf timerConfIn addTimerConf dataEventIn addDataEvent returnEventIn addReturnEvent noConfig noRequests noRunnable noValues noElement noStack noSlot noRunnables runnableIn withRunnable noVariables variableIn withVariable noAreas areaIn withArea noElements elementIn withElement noOperations operationIn withOperation noTimers timerIn withTimer noSlots slotIn withSlot pushRequest firstRequest restRequests pushValue firstValue restValues pushArea topArea popArea startVariable startElement startRunnables startVariables startElements startOf maxOf countOf placesOf entryOf placed inRange namesThere isServer isQueued rises risesAt pairsWell entryFault isNoEntry placeSound kindSound configSound isNoClient clientFits requestsSound valuesSound runnableSound variableSound isStored elementSound isOutcome callingSound doneSound operationSound timerSound waitsWell lifeSound owedSound areaFits stackSound isNoSlot slotSound ofRunnable slotsOf countSound timesIn holders areaSound isClient queuedAs servedAs clientsAs numbered clientSound queuedSound servedSound calledSound runnablesSound variablesSound elementsSound operationsSound timersSound slotsSound countsSound areasSound clientsSound shaped soundOf configWith config caller nested one served life idle first second slotsWith runnablesWith asked queueOne queueTwo operationsWith elementsWith state clauses near allBut unconfigured slotsMore serverPending twiceWithout otherServer variableUnused queueLong queueOk behindQueue countAbove numberTop timerUnused waitsAsync waitsForeign owesFinished finishedPlain foreignArea emptyUsed noInstance heldFree heldTwice callAlone numberAbove clientTwice
+unfolding allOf allBelow anyBelow sumBelow firstBelow eachBelow shifted placeFilled filled isVoid isPayload isKind isGood sameValue runnableConfIn addRunnableConf variableConfIn addVariableConf areaConfIn addAreaConf requiredConfIn addRequiredConf providedConfIn addProvidedConf linkIn addLink operationConfIn addOperationConf timerConfIn addTimerConf dataEventIn addDataEvent returnEventIn addReturnEvent noConfig noRequests noRunnable noValues noElement noStack noSlot noRunnables runnableIn withRunnable noVariables variableIn withVariable noAreas areaIn withArea noElements elementIn withElement noOperations operationIn withOperation noTimers timerIn withTimer noSlots slotIn withSlot pushRequest firstRequest restRequests pushValue firstValue restValues pushArea topArea popArea startVariable startElement startRunnables startVariables startElements startOf maxOf countOf placesOf entryOf placed inRange namesThere isServer isQueued rises risesAt pairsWell entryFault isNoEntry placeSound kindSound configSound isNoClient clientFits requestsSound valuesSound runnableSound variableSound isStored elementSound isOutcome callingSound doneSound operationSound timerSound waitsWell lifeSound owedSound areaFits stackSound isNoSlot slotSound ofRunnable slotsOf countSound timesIn holders areaSound isClient queuedAs servedAs clientsAs numbered clientSound queuedSound servedSound calledSound runnablesSound variablesSound elementsSound operationsSound timersSound slotsSound countsSound areasSound clientsSound shaped soundOf configWith config caller nested one served life idle first second slotsWith runnablesWith asked queueOne queueTwo operationsWith doneWith elementsWith state clauses near allBut unconfigured slotsMore serverPending twiceWithout otherServer variableUnused queueLong queueOk behindQueue countAbove numberTop errNumbered timerUnused waitsAsync waitsForeign owesFinished finishedPlain foreignArea emptyUsed emptyFailed noInstance heldFree heldTwice callAlone numberAbove clientTwice
 near-unsound = refl
+
+-- ---- near it, and sound
+
+-- an operation is Done with ServerErr; an instance that waits has failed; a server's instance has failed and has its client
+pub soundToo : List State
+soundToo =
+    withOperations state (doneWith serverErrV)
+    ∷ withSlots state (slotsWith (failing first) second noSlot)
+    ∷ withSlots state (slotsWith first (failing second) noSlot)
+    ∷ []
+
+pub near-sound : map (λ (x : State). soundOf config x) soundToo ≡ true ∷ true ∷ true ∷ []
+unfolding allOf allBelow anyBelow sumBelow firstBelow eachBelow shifted placeFilled filled isVoid isPayload isKind isGood sameValue runnableConfIn addRunnableConf variableConfIn addVariableConf areaConfIn addAreaConf requiredConfIn addRequiredConf providedConfIn addProvidedConf linkIn addLink operationConfIn addOperationConf timerConfIn addTimerConf dataEventIn addDataEvent returnEventIn addReturnEvent noConfig noRequests noRunnable noValues noElement noStack noSlot noRunnables runnableIn withRunnable noVariables variableIn withVariable noAreas areaIn withArea noElements elementIn withElement noOperations operationIn withOperation noTimers timerIn withTimer noSlots slotIn withSlot pushRequest firstRequest restRequests pushValue firstValue restValues pushArea topArea popArea startVariable startElement startRunnables startVariables startElements startOf maxOf countOf placesOf entryOf placed inRange namesThere isServer isQueued rises risesAt pairsWell entryFault isNoEntry placeSound kindSound configSound isNoClient clientFits requestsSound valuesSound runnableSound variableSound isStored elementSound isOutcome callingSound doneSound operationSound timerSound waitsWell lifeSound owedSound areaFits stackSound isNoSlot slotSound ofRunnable slotsOf countSound timesIn holders areaSound isClient queuedAs servedAs clientsAs numbered clientSound queuedSound servedSound calledSound runnablesSound variablesSound elementsSound operationsSound timersSound slotsSound countsSound areasSound clientsSound shaped soundOf configWith config caller nested one served life idle first second slotsWith runnablesWith asked queueOne queueTwo operationsWith doneWith elementsWith state soundToo
+near-sound = refl

@@ -1,14 +1,15 @@
 -- The late plan's table: eight pairs of files, from their bytes to the line that is printed, in one claim over the definition that the program's contract cites;
--- and the history of two of them, in which the call is followed to its end.
+-- and the history of two of them, in which the call is followed to its end. The same of a crane that fails inside two areas, in time and after the timeout, and of two steps that it may not take then (`failing-cranes`).
 -- Assumes nothing.
 use Prim.Native.Nat.{ℕ}
+use mathlib.Core.Bool.{false}
 use mathlib.Core.List.{List, [], _∷_, _++_, map}
 use mathlib.Core.Path.{_≡_, refl}
 use lib.ListN.{take, set, replicate}
 use Rattle.laws.specs.Choice.{allOf}
 use Rattle.laws.specs.Loop.{allBelow, anyBelow, sumBelow, firstBelow}
 use Rattle.laws.specs.Row.{eachBelow, shifted, placeFilled, filled}
-use Rattle.values.specs.Values.{isVoid, isPayload, isGood, sameValue, numberV}
+use Rattle.values.specs.Values.{isVoid, isPayload, isKind, isGood, sameValue, numberV}
 use Rattle.config.specs.Tables.{runnableConfIn, addRunnableConf, variableConfIn, addVariableConf, areaConfIn, addAreaConf, requiredConfIn, addRequiredConf, providedConfIn, addProvidedConf, linkIn, addLink, operationConfIn, addOperationConf, timerConfIn, addTimerConf, dataEventIn, addDataEvent, returnEventIn, addReturnEvent, noConfig}
 use Rattle.state.specs.Parts.{noRequests, noRunnable, noValues, noElement, noStack, noSlot}
 use Rattle.state.specs.Tables.{noRunnables, runnableIn, withRunnable, noVariables, variableIn, withVariable, noAreas, areaIn, withArea, noElements, elementIn, withElement, noOperations, operationIn, withOperation, noTimers, timerIn, withTimer, noSlots, slotIn, withSlot}
@@ -18,8 +19,8 @@ use Rattle.entries.specs.Entries.{maxOf, countOf, placesOf, entryOf, placed}
 use Rattle.entries.specs.Faults.{inRange, namesThere, isServer, isQueued, rises, risesAt, pairsWell, entryFault, isNoEntry, placeSound, kindSound, configSound}
 use Rattle.rules.specs.Sound.{isNoClient, clientFits, requestsSound, valuesSound, runnableSound, variableSound, isStored, elementSound, isOutcome, callingSound, doneSound, operationSound, timerSound, waitsWell, lifeSound, owedSound, areaFits, stackSound, isNoSlot, slotSound, ofRunnable, slotsOf, countSound, timesIn, holders, areaSound, isClient, queuedAs, servedAs, clientsAs, numbered, clientSound, queuedSound, servedSound, calledSound, runnablesSound, variablesSound, elementsSound, operationsSound, timersSound, slotsSound, countsSound, areasSound, clientsSound, shaped, soundOf}
 use Rattle.rules.specs.Rows.{rows, rowOf}
-use Rattle.rules.specs.Refusals.{argues, formed, partThere, queuesAs, partOwn, asksSynchronous, lifeLets, ownedRefusal, instanceRefusal, schedulerRefusal, refusalBy, refusalOf}
-use Rattle.effects.specs.Steps.{readVariableOf, writeVariableOf, enterOf, onTop, exitOf, readOf, updatedOf, linked, accepts, fedElement, fedElements, feeds, isFed, fedRunnables, fed, writeOf, invalidateOf, isFull, anyFull, sendOf, receiveOf, requestsFull, callerAfter, called, callOf, pollOf, collectOf, resultOf, closing, returns, isReturned, returnedRunnables, closed, answers, handBackOf, timeoutOf, endOf, isDue, maySpawn, starting, instanceOf, isEmptyAt, lowestEmpty, foundEmpty, spawned, spawnOf, tickOf, operationLets, timerLets, runnableLets, operationsLet, timersLet, runnablesLet, operationAfter, operationsAfter, timersAfter, runnablesAfter, allLet, waited, waitOf}
+use Rattle.rules.specs.Refusals.{argues, formed, partThere, queuesAs, partOwn, asksSynchronous, finishedLets, failedLets, lifeLets, ownedRefusal, instanceRefusal, schedulerRefusal, refusalBy, refusalOf}
+use Rattle.effects.specs.Steps.{readVariableOf, writeVariableOf, enterOf, onTop, exitOf, readOf, updatedOf, linked, accepts, fedElement, fedElements, feeds, isFed, fedRunnables, fed, writeOf, invalidateOf, isFull, anyFull, sendOf, receiveOf, requestsFull, callerAfter, called, callOf, pollOf, collectOf, resultOf, closing, returns, isReturned, returnedRunnables, closed, answers, handBackOf, timeoutOf, endOf, isDue, maySpawn, starting, instanceOf, isEmptyAt, lowestEmpty, foundEmpty, spawned, spawnOf, tickOf, operationLets, timerLets, runnableLets, operationsLet, timersLet, runnablesLet, operationAfter, operationsAfter, timersAfter, runnablesAfter, allLet, waited, waitOf, failOf}
 use Rattle.effects.specs.Step.{actOf, possibleOf, claimedOf, innerOf, stepOf}
 use Rattle.recording.specs.Whole.{wholeFrom, wholeOf, stepsIn}
 use Rattle.recording.specs.Recording.{valuesGood, tested, stepIn, endIn, fieldOf}
@@ -28,7 +29,7 @@ use Rattle.judging.specs.Judging.{judgeFrom, judgeOf, restOf}
 use Rattle.judging.specs.Line.{judgedLine, readLine, lineOf}
 use Rattle.judging.specs.declared.Line.{Line}
 use Rattle.judging.specs.declared.Line.the-variants.{Accepted, Refused}
-use Rattle.history.specs.History.{noRequest, byTimeout, byInstance, History, nothing, observe, historyFrom, historyOf, timeOf, timeIn, timeSince}
+use Rattle.history.specs.History.{noRequest, byTimeout, byInstance, byFailure, History, nothing, observe, historyFrom, historyOf, timeOf, timeIn, timeSince}
 
 -- ---- the fields, byte by byte
 
@@ -152,6 +153,46 @@ receiveTwo = 0x40 ∷ 0x00 ∷ 0x0d ∷ 0x09 ∷ 0x00 ∷ 0x00 ∷ 0x00 ∷ 0x00
 receiveNone : List ℕ
 receiveNone = 0x40 ∷ 0x00 ∷ 0x0d ∷ 0x09 ∷ 0x00 ∷ 0x00 ∷ 0x00 ∷ 0x00 ∷ 0x00 ∷ 0x00 ∷ 0x00 ∷ 0x04 ∷ 0x00 ∷ 0x00 ∷ 0x00 ∷ 0x00 ∷ []
 
+-- an area of component 1
+craneArea : List ℕ
+craneArea = 0x12 ∷ 0x00 ∷ 0x01 ∷ 0x01 ∷ []
+
+-- slot 1 enters area 0
+craneEntersFirst : List ℕ
+craneEntersFirst = 0x40 ∷ 0x00 ∷ 0x0d ∷ 0x03 ∷ 0x01 ∷ 0x00 ∷ 0x00 ∷ 0x00 ∷ 0x00 ∷ 0x00 ∷ 0x00 ∷ 0x00 ∷ 0x00 ∷ 0x00 ∷ 0x00 ∷ 0x00 ∷ []
+
+-- slot 1 enters area 1
+craneEntersSecond : List ℕ
+craneEntersSecond = 0x40 ∷ 0x00 ∷ 0x0d ∷ 0x03 ∷ 0x01 ∷ 0x01 ∷ 0x00 ∷ 0x00 ∷ 0x00 ∷ 0x00 ∷ 0x00 ∷ 0x00 ∷ 0x00 ∷ 0x00 ∷ 0x00 ∷ 0x00 ∷ []
+
+-- the instance in slot 1 fails
+craneFails : List ℕ
+craneFails = 0x40 ∷ 0x00 ∷ 0x0d ∷ 0x13 ∷ 0x01 ∷ 0x00 ∷ 0x00 ∷ 0x00 ∷ 0x00 ∷ 0x00 ∷ 0x00 ∷ 0x00 ∷ 0x00 ∷ 0x00 ∷ 0x00 ∷ 0x00 ∷ []
+
+-- slot 1 hands back Void in time: Number 1
+craneBack : List ℕ
+craneBack = 0x40 ∷ 0x00 ∷ 0x0d ∷ 0x0d ∷ 0x01 ∷ 0x00 ∷ 0x00 ∷ 0x00 ∷ 0x00 ∷ 0x00 ∷ 0x00 ∷ 0x01 ∷ 0x00 ∷ 0x00 ∷ 0x00 ∷ 0x01 ∷ []
+
+-- slot 1 hands back Void too late: Number 0
+craneBackLate : List ℕ
+craneBackLate = 0x40 ∷ 0x00 ∷ 0x0d ∷ 0x0d ∷ 0x01 ∷ 0x00 ∷ 0x00 ∷ 0x00 ∷ 0x00 ∷ 0x00 ∷ 0x00 ∷ 0x01 ∷ 0x00 ∷ 0x00 ∷ 0x00 ∷ 0x00 ∷ []
+
+-- slot 1 exits area 1
+craneExitsSecond : List ℕ
+craneExitsSecond = 0x40 ∷ 0x00 ∷ 0x0d ∷ 0x04 ∷ 0x01 ∷ 0x01 ∷ 0x00 ∷ 0x00 ∷ 0x00 ∷ 0x00 ∷ 0x00 ∷ 0x00 ∷ 0x00 ∷ 0x00 ∷ 0x00 ∷ 0x00 ∷ []
+
+-- slot 1 exits area 0
+craneExitsFirst : List ℕ
+craneExitsFirst = 0x40 ∷ 0x00 ∷ 0x0d ∷ 0x04 ∷ 0x01 ∷ 0x00 ∷ 0x00 ∷ 0x00 ∷ 0x00 ∷ 0x00 ∷ 0x00 ∷ 0x00 ∷ 0x00 ∷ 0x00 ∷ 0x00 ∷ 0x00 ∷ []
+
+-- slot 1 ends
+craneEnds : List ℕ
+craneEnds = 0x40 ∷ 0x00 ∷ 0x0d ∷ 0x0e ∷ 0x01 ∷ 0x00 ∷ 0x00 ∷ 0x00 ∷ 0x00 ∷ 0x00 ∷ 0x00 ∷ 0x00 ∷ 0x00 ∷ 0x00 ∷ 0x00 ∷ 0x00 ∷ []
+
+-- slot 0 asks for the result, ServerErr
+askServerErr : List ℕ
+askServerErr = 0x40 ∷ 0x00 ∷ 0x0d ∷ 0x0c ∷ 0x00 ∷ 0x00 ∷ 0x00 ∷ 0x00 ∷ 0x00 ∷ 0x00 ∷ 0x00 ∷ 0x09 ∷ 0x00 ∷ 0x00 ∷ 0x00 ∷ 0x00 ∷ []
+
 -- ---- the files
 
 joined : List (List ℕ) → List ℕ
@@ -170,6 +211,10 @@ areasConfig = file (firstField ∷ client ∷ area ∷ area ∷ [])
 
 queueConfig : List ℕ
 queueConfig = file (firstField ∷ client ∷ queue ∷ sender ∷ link ∷ [])
+
+-- a server with two areas
+craneConfig : List ℕ
+craneConfig = file (firstField ∷ client ∷ server ∷ craneArea ∷ craneArea ∷ operation ∷ [])
 
 -- ---- the table
 
@@ -215,7 +260,7 @@ pub table : List Row
 table = late ∷ falseClaim ∷ waitTooLong ∷ inTime ∷ noCall ∷ callTwice ∷ exitBelow ∷ sendThird ∷ []
 
 pub late-plans : map (λ (x : Row). lineOf (x .config) (x .recording)) table ≡ map (λ (x : Row). x .line) table
-unfolding allOf allBelow anyBelow sumBelow firstBelow eachBelow shifted placeFilled filled isVoid isPayload isGood sameValue runnableConfIn addRunnableConf variableConfIn addVariableConf areaConfIn addAreaConf requiredConfIn addRequiredConf providedConfIn addProvidedConf linkIn addLink operationConfIn addOperationConf timerConfIn addTimerConf dataEventIn addDataEvent returnEventIn addReturnEvent noConfig noRequests noRunnable noValues noElement noStack noSlot noRunnables runnableIn withRunnable noVariables variableIn withVariable noAreas areaIn withArea noElements elementIn withElement noOperations operationIn withOperation noTimers timerIn withTimer noSlots slotIn withSlot pushRequest firstRequest restRequests pushValue firstValue restValues pushArea topArea popArea startVariable startElement startRunnables startVariables startElements startOf maxOf countOf placesOf entryOf placed inRange namesThere isServer isQueued rises risesAt pairsWell entryFault isNoEntry placeSound kindSound configSound isNoClient clientFits requestsSound valuesSound runnableSound variableSound isStored elementSound isOutcome callingSound doneSound operationSound timerSound waitsWell lifeSound owedSound areaFits stackSound isNoSlot slotSound ofRunnable slotsOf countSound timesIn holders areaSound isClient queuedAs servedAs clientsAs numbered clientSound queuedSound servedSound calledSound runnablesSound variablesSound elementsSound operationsSound timersSound slotsSound countsSound areasSound clientsSound shaped soundOf rows rowOf argues formed partThere queuesAs partOwn asksSynchronous lifeLets ownedRefusal instanceRefusal schedulerRefusal refusalBy refusalOf readVariableOf writeVariableOf enterOf onTop exitOf readOf updatedOf linked accepts fedElement fedElements feeds isFed fedRunnables fed writeOf invalidateOf isFull anyFull sendOf receiveOf requestsFull callerAfter called callOf pollOf collectOf resultOf closing returns isReturned returnedRunnables closed answers handBackOf timeoutOf endOf isDue maySpawn starting instanceOf isEmptyAt lowestEmpty foundEmpty spawned spawnOf tickOf operationLets timerLets runnableLets operationsLet timersLet runnablesLet operationAfter operationsAfter timersAfter runnablesAfter allLet waited waitOf actOf possibleOf claimedOf innerOf stepOf valuesGood tested stepIn endIn fieldOf sizeOf entryRead inOrder headOf bodyFault refusedAt readFrom configOf judgeFrom judgeOf restOf judgedLine readLine lineOf firstField lastField client server operation area queue sender link spawnClient spawnServer callSeven callAgain waitFifty waitLonger timesOut backLate backInTime askTimeout askNine askVoid enterFirst enterSecond exitFirst sendOne sendTwo sendThree receiveOne receiveTwo receiveNone joined file lateConfig areasConfig queueConfig late falseClaim waitTooLong inTime noCall callTwice exitBelow sendThird table
+unfolding allOf allBelow anyBelow sumBelow firstBelow eachBelow shifted placeFilled filled isVoid isPayload isKind isGood sameValue runnableConfIn addRunnableConf variableConfIn addVariableConf areaConfIn addAreaConf requiredConfIn addRequiredConf providedConfIn addProvidedConf linkIn addLink operationConfIn addOperationConf timerConfIn addTimerConf dataEventIn addDataEvent returnEventIn addReturnEvent noConfig noRequests noRunnable noValues noElement noStack noSlot noRunnables runnableIn withRunnable noVariables variableIn withVariable noAreas areaIn withArea noElements elementIn withElement noOperations operationIn withOperation noTimers timerIn withTimer noSlots slotIn withSlot pushRequest firstRequest restRequests pushValue firstValue restValues pushArea topArea popArea startVariable startElement startRunnables startVariables startElements startOf maxOf countOf placesOf entryOf placed inRange namesThere isServer isQueued rises risesAt pairsWell entryFault isNoEntry placeSound kindSound configSound isNoClient clientFits requestsSound valuesSound runnableSound variableSound isStored elementSound isOutcome callingSound doneSound operationSound timerSound waitsWell lifeSound owedSound areaFits stackSound isNoSlot slotSound ofRunnable slotsOf countSound timesIn holders areaSound isClient queuedAs servedAs clientsAs numbered clientSound queuedSound servedSound calledSound runnablesSound variablesSound elementsSound operationsSound timersSound slotsSound countsSound areasSound clientsSound shaped soundOf rows rowOf argues formed partThere queuesAs partOwn asksSynchronous finishedLets failedLets lifeLets ownedRefusal instanceRefusal schedulerRefusal refusalBy refusalOf readVariableOf writeVariableOf enterOf onTop exitOf readOf updatedOf linked accepts fedElement fedElements feeds isFed fedRunnables fed writeOf invalidateOf isFull anyFull sendOf receiveOf requestsFull callerAfter called callOf pollOf collectOf resultOf closing returns isReturned returnedRunnables closed answers handBackOf timeoutOf endOf isDue maySpawn starting instanceOf isEmptyAt lowestEmpty foundEmpty spawned spawnOf tickOf operationLets timerLets runnableLets operationsLet timersLet runnablesLet operationAfter operationsAfter timersAfter runnablesAfter allLet waited waitOf failOf actOf possibleOf claimedOf innerOf stepOf valuesGood tested stepIn endIn fieldOf sizeOf entryRead inOrder headOf bodyFault refusedAt readFrom configOf judgeFrom judgeOf restOf judgedLine readLine lineOf firstField lastField client server operation area queue sender link spawnClient spawnServer callSeven callAgain waitFifty waitLonger timesOut backLate backInTime askTimeout askNine askVoid enterFirst enterSecond exitFirst sendOne sendTwo sendThree receiveOne receiveTwo receiveNone joined file lateConfig areasConfig queueConfig late falseClaim waitTooLong inTime noCall callTwice exitBelow sendThird table
 late-plans = refl
 
 -- ---- the calls of two rows, followed
@@ -230,6 +275,7 @@ pub histories : map followed (late ∷ inTime ∷ []) ≡
       place = 7;
       queued = replicate 16 [];
       taken = set (replicate 32 noRequest) 1 (record { at = 2; on = 0; argument = numberV 7 });
+      failed = replicate 32 false;
       latest = set (replicate 8 0) 0 2;
       endings = record { on = 0; call = 2; at = 5; how = byTimeout } ∷ [];
     }
@@ -237,14 +283,70 @@ pub histories : map followed (late ∷ inTime ∷ []) ≡
       place = 5;
       queued = replicate 16 [];
       taken = set (replicate 32 noRequest) 1 (record { at = 2; on = 0; argument = numberV 7 });
+      failed = replicate 32 false;
       latest = set (replicate 8 0) 0 2;
       endings = record { on = 0; call = 2; at = 4; how = byInstance 2 (numberV 9) } ∷ [];
     }
     ∷ []
-unfolding allOf allBelow anyBelow sumBelow firstBelow eachBelow shifted placeFilled filled isVoid isPayload isGood sameValue runnableConfIn addRunnableConf variableConfIn addVariableConf areaConfIn addAreaConf requiredConfIn addRequiredConf providedConfIn addProvidedConf linkIn addLink operationConfIn addOperationConf timerConfIn addTimerConf dataEventIn addDataEvent returnEventIn addReturnEvent noConfig noRequests noRunnable noValues noElement noStack noSlot noRunnables runnableIn withRunnable noVariables variableIn withVariable noAreas areaIn withArea noElements elementIn withElement noOperations operationIn withOperation noTimers timerIn withTimer noSlots slotIn withSlot pushRequest firstRequest restRequests pushValue firstValue restValues pushArea topArea popArea startVariable startElement startRunnables startVariables startElements startOf maxOf countOf placesOf entryOf placed inRange namesThere isServer isQueued rises risesAt pairsWell entryFault isNoEntry placeSound kindSound configSound isNoClient clientFits requestsSound valuesSound runnableSound variableSound isStored elementSound isOutcome callingSound doneSound operationSound timerSound waitsWell lifeSound owedSound areaFits stackSound isNoSlot slotSound ofRunnable slotsOf countSound timesIn holders areaSound isClient queuedAs servedAs clientsAs numbered clientSound queuedSound servedSound calledSound runnablesSound variablesSound elementsSound operationsSound timersSound slotsSound countsSound areasSound clientsSound shaped soundOf rows rowOf argues formed partThere queuesAs partOwn asksSynchronous lifeLets ownedRefusal instanceRefusal schedulerRefusal refusalBy refusalOf readVariableOf writeVariableOf enterOf onTop exitOf readOf updatedOf linked accepts fedElement fedElements feeds isFed fedRunnables fed writeOf invalidateOf isFull anyFull sendOf receiveOf requestsFull callerAfter called callOf pollOf collectOf resultOf closing returns isReturned returnedRunnables closed answers handBackOf timeoutOf endOf isDue maySpawn starting instanceOf isEmptyAt lowestEmpty foundEmpty spawned spawnOf tickOf operationLets timerLets runnableLets operationsLet timersLet runnablesLet operationAfter operationsAfter timersAfter runnablesAfter allLet waited waitOf actOf possibleOf claimedOf innerOf stepOf valuesGood tested stepIn endIn fieldOf sizeOf entryRead inOrder headOf bodyFault refusedAt readFrom configOf judgeFrom judgeOf restOf judgedLine readLine lineOf firstField lastField client server operation area queue sender link spawnClient spawnServer callSeven callAgain waitFifty waitLonger timesOut backLate backInTime askTimeout askNine askVoid enterFirst enterSecond exitFirst sendOne sendTwo sendThree receiveOne receiveTwo receiveNone joined file lateConfig areasConfig queueConfig late falseClaim waitTooLong inTime noCall callTwice exitBelow sendThird table wholeFrom wholeOf nothing observe historyFrom historyOf followed
+unfolding allOf allBelow anyBelow sumBelow firstBelow eachBelow shifted placeFilled filled isVoid isPayload isKind isGood sameValue runnableConfIn addRunnableConf variableConfIn addVariableConf areaConfIn addAreaConf requiredConfIn addRequiredConf providedConfIn addProvidedConf linkIn addLink operationConfIn addOperationConf timerConfIn addTimerConf dataEventIn addDataEvent returnEventIn addReturnEvent noConfig noRequests noRunnable noValues noElement noStack noSlot noRunnables runnableIn withRunnable noVariables variableIn withVariable noAreas areaIn withArea noElements elementIn withElement noOperations operationIn withOperation noTimers timerIn withTimer noSlots slotIn withSlot pushRequest firstRequest restRequests pushValue firstValue restValues pushArea topArea popArea startVariable startElement startRunnables startVariables startElements startOf maxOf countOf placesOf entryOf placed inRange namesThere isServer isQueued rises risesAt pairsWell entryFault isNoEntry placeSound kindSound configSound isNoClient clientFits requestsSound valuesSound runnableSound variableSound isStored elementSound isOutcome callingSound doneSound operationSound timerSound waitsWell lifeSound owedSound areaFits stackSound isNoSlot slotSound ofRunnable slotsOf countSound timesIn holders areaSound isClient queuedAs servedAs clientsAs numbered clientSound queuedSound servedSound calledSound runnablesSound variablesSound elementsSound operationsSound timersSound slotsSound countsSound areasSound clientsSound shaped soundOf rows rowOf argues formed partThere queuesAs partOwn asksSynchronous finishedLets failedLets lifeLets ownedRefusal instanceRefusal schedulerRefusal refusalBy refusalOf readVariableOf writeVariableOf enterOf onTop exitOf readOf updatedOf linked accepts fedElement fedElements feeds isFed fedRunnables fed writeOf invalidateOf isFull anyFull sendOf receiveOf requestsFull callerAfter called callOf pollOf collectOf resultOf closing returns isReturned returnedRunnables closed answers handBackOf timeoutOf endOf isDue maySpawn starting instanceOf isEmptyAt lowestEmpty foundEmpty spawned spawnOf tickOf operationLets timerLets runnableLets operationsLet timersLet runnablesLet operationAfter operationsAfter timersAfter runnablesAfter allLet waited waitOf failOf actOf possibleOf claimedOf innerOf stepOf valuesGood tested stepIn endIn fieldOf sizeOf entryRead inOrder headOf bodyFault refusedAt readFrom configOf judgeFrom judgeOf restOf judgedLine readLine lineOf firstField lastField client server operation area queue sender link spawnClient spawnServer callSeven callAgain waitFifty waitLonger timesOut backLate backInTime askTimeout askNine askVoid enterFirst enterSecond exitFirst sendOne sendTwo sendThree receiveOne receiveTwo receiveNone joined file lateConfig areasConfig queueConfig late falseClaim waitTooLong inTime noCall callTwice exitBelow sendThird table wholeFrom wholeOf nothing observe historyFrom historyOf followed
 histories = refl
 
 -- (a) the waits from the call at place 2 to the timeout add up to 50
 pub fifty-waited : timeSince 2 (take 4 (stepsIn (late .recording))) ≡ 50
-unfolding allOf allBelow anyBelow sumBelow firstBelow eachBelow shifted placeFilled filled isVoid isPayload isGood sameValue runnableConfIn addRunnableConf variableConfIn addVariableConf areaConfIn addAreaConf requiredConfIn addRequiredConf providedConfIn addProvidedConf linkIn addLink operationConfIn addOperationConf timerConfIn addTimerConf dataEventIn addDataEvent returnEventIn addReturnEvent noConfig noRequests noRunnable noValues noElement noStack noSlot noRunnables runnableIn withRunnable noVariables variableIn withVariable noAreas areaIn withArea noElements elementIn withElement noOperations operationIn withOperation noTimers timerIn withTimer noSlots slotIn withSlot pushRequest firstRequest restRequests pushValue firstValue restValues pushArea topArea popArea startVariable startElement startRunnables startVariables startElements startOf maxOf countOf placesOf entryOf placed inRange namesThere isServer isQueued rises risesAt pairsWell entryFault isNoEntry placeSound kindSound configSound isNoClient clientFits requestsSound valuesSound runnableSound variableSound isStored elementSound isOutcome callingSound doneSound operationSound timerSound waitsWell lifeSound owedSound areaFits stackSound isNoSlot slotSound ofRunnable slotsOf countSound timesIn holders areaSound isClient queuedAs servedAs clientsAs numbered clientSound queuedSound servedSound calledSound runnablesSound variablesSound elementsSound operationsSound timersSound slotsSound countsSound areasSound clientsSound shaped soundOf rows rowOf argues formed partThere queuesAs partOwn asksSynchronous lifeLets ownedRefusal instanceRefusal schedulerRefusal refusalBy refusalOf readVariableOf writeVariableOf enterOf onTop exitOf readOf updatedOf linked accepts fedElement fedElements feeds isFed fedRunnables fed writeOf invalidateOf isFull anyFull sendOf receiveOf requestsFull callerAfter called callOf pollOf collectOf resultOf closing returns isReturned returnedRunnables closed answers handBackOf timeoutOf endOf isDue maySpawn starting instanceOf isEmptyAt lowestEmpty foundEmpty spawned spawnOf tickOf operationLets timerLets runnableLets operationsLet timersLet runnablesLet operationAfter operationsAfter timersAfter runnablesAfter allLet waited waitOf actOf possibleOf claimedOf innerOf stepOf valuesGood tested stepIn endIn fieldOf sizeOf entryRead inOrder headOf bodyFault refusedAt readFrom configOf judgeFrom judgeOf restOf judgedLine readLine lineOf firstField lastField client server operation area queue sender link spawnClient spawnServer callSeven callAgain waitFifty waitLonger timesOut backLate backInTime askTimeout askNine askVoid enterFirst enterSecond exitFirst sendOne sendTwo sendThree receiveOne receiveTwo receiveNone joined file lateConfig areasConfig queueConfig late falseClaim waitTooLong inTime noCall callTwice exitBelow sendThird table wholeFrom wholeOf timeOf timeIn
+unfolding allOf allBelow anyBelow sumBelow firstBelow eachBelow shifted placeFilled filled isVoid isPayload isKind isGood sameValue runnableConfIn addRunnableConf variableConfIn addVariableConf areaConfIn addAreaConf requiredConfIn addRequiredConf providedConfIn addProvidedConf linkIn addLink operationConfIn addOperationConf timerConfIn addTimerConf dataEventIn addDataEvent returnEventIn addReturnEvent noConfig noRequests noRunnable noValues noElement noStack noSlot noRunnables runnableIn withRunnable noVariables variableIn withVariable noAreas areaIn withArea noElements elementIn withElement noOperations operationIn withOperation noTimers timerIn withTimer noSlots slotIn withSlot pushRequest firstRequest restRequests pushValue firstValue restValues pushArea topArea popArea startVariable startElement startRunnables startVariables startElements startOf maxOf countOf placesOf entryOf placed inRange namesThere isServer isQueued rises risesAt pairsWell entryFault isNoEntry placeSound kindSound configSound isNoClient clientFits requestsSound valuesSound runnableSound variableSound isStored elementSound isOutcome callingSound doneSound operationSound timerSound waitsWell lifeSound owedSound areaFits stackSound isNoSlot slotSound ofRunnable slotsOf countSound timesIn holders areaSound isClient queuedAs servedAs clientsAs numbered clientSound queuedSound servedSound calledSound runnablesSound variablesSound elementsSound operationsSound timersSound slotsSound countsSound areasSound clientsSound shaped soundOf rows rowOf argues formed partThere queuesAs partOwn asksSynchronous finishedLets failedLets lifeLets ownedRefusal instanceRefusal schedulerRefusal refusalBy refusalOf readVariableOf writeVariableOf enterOf onTop exitOf readOf updatedOf linked accepts fedElement fedElements feeds isFed fedRunnables fed writeOf invalidateOf isFull anyFull sendOf receiveOf requestsFull callerAfter called callOf pollOf collectOf resultOf closing returns isReturned returnedRunnables closed answers handBackOf timeoutOf endOf isDue maySpawn starting instanceOf isEmptyAt lowestEmpty foundEmpty spawned spawnOf tickOf operationLets timerLets runnableLets operationsLet timersLet runnablesLet operationAfter operationsAfter timersAfter runnablesAfter allLet waited waitOf failOf actOf possibleOf claimedOf innerOf stepOf valuesGood tested stepIn endIn fieldOf sizeOf entryRead inOrder headOf bodyFault refusedAt readFrom configOf judgeFrom judgeOf restOf judgedLine readLine lineOf firstField lastField client server operation area queue sender link spawnClient spawnServer callSeven callAgain waitFifty waitLonger timesOut backLate backInTime askTimeout askNine askVoid enterFirst enterSecond exitFirst sendOne sendTwo sendThree receiveOne receiveTwo receiveNone joined file lateConfig areasConfig queueConfig late falseClaim waitTooLong inTime noCall callTwice exitBelow sendThird table wholeFrom wholeOf timeOf timeIn
 fifty-waited = refl
+
+-- ---- a crane that fails
+
+-- (i) in time: the crane fails inside two areas, hands back Void, answered 1, exits both from the top and ends; the client gets ServerErr
+pub craneInTime : Row
+craneInTime = record {
+  config = craneConfig;
+  recording = file (spawnClient ∷ callSeven ∷ spawnServer ∷ craneEntersFirst ∷ craneEntersSecond ∷ craneFails ∷ craneBack ∷ craneExitsSecond ∷ craneExitsFirst ∷ craneEnds ∷ askServerErr ∷ []);
+  line = Accepted 11;
+}
+
+-- (j) the same after the timeout: its hand back is answered 0, and the client gets Timeout
+pub craneTooLate : Row
+craneTooLate = record {
+  config = craneConfig;
+  recording = file (spawnClient ∷ callSeven ∷ spawnServer ∷ craneEntersFirst ∷ craneEntersSecond ∷ craneFails ∷ waitFifty ∷ timesOut ∷ craneBackLate ∷ craneExitsSecond ∷ craneExitsFirst ∷ craneEnds ∷ askTimeout ∷ []);
+  line = Accepted 13;
+}
+
+-- (k) a crane that has failed hands no Number back: 2
+craneNumber : Row
+craneNumber = record { config = craneConfig; recording = file (spawnClient ∷ callSeven ∷ spawnServer ∷ craneFails ∷ backInTime ∷ []); line = Refused 5 2 }
+
+-- (l) and enters no area: 5
+craneEntersFailed : Row
+craneEntersFailed = record { config = craneConfig; recording = file (spawnClient ∷ callSeven ∷ spawnServer ∷ craneEntersFirst ∷ craneFails ∷ craneEntersSecond ∷ []); line = Refused 6 5 }
+
+pub craneTable : List Row
+craneTable = craneInTime ∷ craneTooLate ∷ craneNumber ∷ craneEntersFailed ∷ []
+
+pub failing-cranes : map (λ (x : Row). lineOf (x .config) (x .recording)) craneTable ≡ map (λ (x : Row). x .line) craneTable
+unfolding allOf allBelow anyBelow sumBelow firstBelow eachBelow shifted placeFilled filled isVoid isPayload isKind isGood sameValue runnableConfIn addRunnableConf variableConfIn addVariableConf areaConfIn addAreaConf requiredConfIn addRequiredConf providedConfIn addProvidedConf linkIn addLink operationConfIn addOperationConf timerConfIn addTimerConf dataEventIn addDataEvent returnEventIn addReturnEvent noConfig noRequests noRunnable noValues noElement noStack noSlot noRunnables runnableIn withRunnable noVariables variableIn withVariable noAreas areaIn withArea noElements elementIn withElement noOperations operationIn withOperation noTimers timerIn withTimer noSlots slotIn withSlot pushRequest firstRequest restRequests pushValue firstValue restValues pushArea topArea popArea startVariable startElement startRunnables startVariables startElements startOf maxOf countOf placesOf entryOf placed inRange namesThere isServer isQueued rises risesAt pairsWell entryFault isNoEntry placeSound kindSound configSound isNoClient clientFits requestsSound valuesSound runnableSound variableSound isStored elementSound isOutcome callingSound doneSound operationSound timerSound waitsWell lifeSound owedSound areaFits stackSound isNoSlot slotSound ofRunnable slotsOf countSound timesIn holders areaSound isClient queuedAs servedAs clientsAs numbered clientSound queuedSound servedSound calledSound runnablesSound variablesSound elementsSound operationsSound timersSound slotsSound countsSound areasSound clientsSound shaped soundOf rows rowOf argues formed partThere queuesAs partOwn asksSynchronous finishedLets failedLets lifeLets ownedRefusal instanceRefusal schedulerRefusal refusalBy refusalOf readVariableOf writeVariableOf enterOf onTop exitOf readOf updatedOf linked accepts fedElement fedElements feeds isFed fedRunnables fed writeOf invalidateOf isFull anyFull sendOf receiveOf requestsFull callerAfter called callOf pollOf collectOf resultOf closing returns isReturned returnedRunnables closed answers handBackOf timeoutOf endOf isDue maySpawn starting instanceOf isEmptyAt lowestEmpty foundEmpty spawned spawnOf tickOf operationLets timerLets runnableLets operationsLet timersLet runnablesLet operationAfter operationsAfter timersAfter runnablesAfter allLet waited waitOf failOf actOf possibleOf claimedOf innerOf stepOf valuesGood tested stepIn endIn fieldOf sizeOf entryRead inOrder headOf bodyFault refusedAt readFrom configOf judgeFrom judgeOf restOf judgedLine readLine lineOf firstField lastField client server operation area queue sender link spawnClient spawnServer callSeven callAgain waitFifty waitLonger timesOut backLate backInTime askTimeout askNine askVoid enterFirst enterSecond exitFirst sendOne sendTwo sendThree receiveOne receiveTwo receiveNone craneArea craneEntersFirst craneEntersSecond craneFails craneBack craneBackLate craneExitsSecond craneExitsFirst craneEnds askServerErr joined file lateConfig areasConfig queueConfig craneConfig craneInTime craneTooLate craneNumber craneEntersFailed craneTable
+failing-cranes = refl
+
+-- (i) the call at place 2 was ended at place 7 by the failure of the instance spawned for it. (j) it was ended by the timeout at place 8, and by nothing else
+pub failing-histories : map followed (craneInTime ∷ craneTooLate ∷ []) ≡
+    record {
+      place = 11;
+      queued = replicate 16 [];
+      taken = replicate 32 noRequest;
+      failed = replicate 32 false;
+      latest = set (replicate 8 0) 0 2;
+      endings = record { on = 0; call = 2; at = 7; how = byFailure 2 } ∷ [];
+    }
+    ∷ record {
+      place = 13;
+      queued = replicate 16 [];
+      taken = replicate 32 noRequest;
+      failed = replicate 32 false;
+      latest = set (replicate 8 0) 0 2;
+      endings = record { on = 0; call = 2; at = 8; how = byTimeout } ∷ [];
+    }
+    ∷ []
+unfolding allOf allBelow anyBelow sumBelow firstBelow eachBelow shifted placeFilled filled isVoid isPayload isKind isGood sameValue runnableConfIn addRunnableConf variableConfIn addVariableConf areaConfIn addAreaConf requiredConfIn addRequiredConf providedConfIn addProvidedConf linkIn addLink operationConfIn addOperationConf timerConfIn addTimerConf dataEventIn addDataEvent returnEventIn addReturnEvent noConfig noRequests noRunnable noValues noElement noStack noSlot noRunnables runnableIn withRunnable noVariables variableIn withVariable noAreas areaIn withArea noElements elementIn withElement noOperations operationIn withOperation noTimers timerIn withTimer noSlots slotIn withSlot pushRequest firstRequest restRequests pushValue firstValue restValues pushArea topArea popArea startVariable startElement startRunnables startVariables startElements startOf maxOf countOf placesOf entryOf placed inRange namesThere isServer isQueued rises risesAt pairsWell entryFault isNoEntry placeSound kindSound configSound isNoClient clientFits requestsSound valuesSound runnableSound variableSound isStored elementSound isOutcome callingSound doneSound operationSound timerSound waitsWell lifeSound owedSound areaFits stackSound isNoSlot slotSound ofRunnable slotsOf countSound timesIn holders areaSound isClient queuedAs servedAs clientsAs numbered clientSound queuedSound servedSound calledSound runnablesSound variablesSound elementsSound operationsSound timersSound slotsSound countsSound areasSound clientsSound shaped soundOf rows rowOf argues formed partThere queuesAs partOwn asksSynchronous finishedLets failedLets lifeLets ownedRefusal instanceRefusal schedulerRefusal refusalBy refusalOf readVariableOf writeVariableOf enterOf onTop exitOf readOf updatedOf linked accepts fedElement fedElements feeds isFed fedRunnables fed writeOf invalidateOf isFull anyFull sendOf receiveOf requestsFull callerAfter called callOf pollOf collectOf resultOf closing returns isReturned returnedRunnables closed answers handBackOf timeoutOf endOf isDue maySpawn starting instanceOf isEmptyAt lowestEmpty foundEmpty spawned spawnOf tickOf operationLets timerLets runnableLets operationsLet timersLet runnablesLet operationAfter operationsAfter timersAfter runnablesAfter allLet waited waitOf failOf actOf possibleOf claimedOf innerOf stepOf valuesGood tested stepIn endIn fieldOf sizeOf entryRead inOrder headOf bodyFault refusedAt readFrom configOf judgeFrom judgeOf restOf judgedLine readLine lineOf firstField lastField client server operation area queue sender link spawnClient spawnServer callSeven callAgain waitFifty waitLonger timesOut backLate backInTime askTimeout askNine askVoid enterFirst enterSecond exitFirst sendOne sendTwo sendThree receiveOne receiveTwo receiveNone craneArea craneEntersFirst craneEntersSecond craneFails craneBack craneBackLate craneExitsSecond craneExitsFirst craneEnds askServerErr joined file lateConfig areasConfig queueConfig craneConfig craneInTime craneTooLate craneNumber craneEntersFailed craneTable wholeFrom wholeOf nothing observe historyFrom historyOf followed
+failing-histories = refl

@@ -1,4 +1,5 @@
-// The calls of a recording as its steps go by: for each operation where the latest call stands, where it ended and how, and what came too late.
+// The calls of a recording as its steps go by: for each operation where the latest call stands, where it ended and how, and what came too late; and for
+// each slot whether its instance has failed.
 use crate::putting::byte_at;
 use crate::putting::put_byte;
 use config::Config;
@@ -9,7 +10,10 @@ use values::Value;
 
 const OPERATIONS: usize = 8;
 
-// One operation. Places count from 1, and 0 is none. It ended by its timeout (1), or by the instance in a slot (2), which handed something back.
+const SLOTS: usize = 32;
+
+// One operation. Places count from 1, and 0 is none. It ended by its timeout (1), or by the instance in a slot, which handed something back (2) or had
+// failed (3).
 pub struct Told {
     pub called: usize,
     pub caller: u8,
@@ -36,11 +40,13 @@ impl Told {
 
 pub struct Calls {
     pub of: [Told; OPERATIONS],
+    pub failed: [bool; SLOTS],
 }
 
 impl Calls {
     pub const NONE: Calls = Calls {
         of: [Told::BLANK; OPERATIONS],
+        failed: [false; SLOTS],
     };
 
     pub(crate) fn get(self, o: u8) -> Told {
@@ -56,6 +62,25 @@ impl Calls {
         let mut next = self;
         if k < OPERATIONS {
             next.of[k] = x;
+            return next;
+        }
+        next
+    }
+
+    fn has_failed(self, i: u8) -> bool {
+        let k = i as usize;
+        if k < SLOTS {
+            return self.failed[k];
+        }
+        false
+    }
+
+    // The instance in a slot fails, or a new one starts there.
+    fn marked(self, i: u32, failed: bool) -> Calls {
+        let k = i as usize;
+        let mut next = self;
+        if k < SLOTS {
+            next.failed[k] = failed;
             return next;
         }
         next
@@ -77,10 +102,18 @@ impl Calls {
         self.with(o, x)
     }
 
+    // An instance that has failed ends its call with ServerErr, whatever it hands back.
     fn handed_back(self, o: u8, place: usize, by: u8, v: Value) -> Calls {
+        if self.has_failed(by) {
+            return self.ended_by(o, place, by, 3, Value::SERVER_ERR);
+        }
+        self.ended_by(o, place, by, 2, v)
+    }
+
+    fn ended_by(self, o: u8, place: usize, by: u8, how: u8, v: Value) -> Calls {
         let mut x = self.get(o);
         x.ended = place;
-        x.how = 2;
+        x.how = how;
         x.by = by;
         x.back = v;
         self.with(o, x)
@@ -92,7 +125,8 @@ impl Calls {
         self.with(o, x)
     }
 
-    // After an accepted step about this operation: a call answered Ok starts one, a timeout and a hand back answered 1 end one, a hand back answered 0 is late.
+    // After an accepted step about this operation: a call answered Ok starts one, a timeout and a hand back answered 1 end one, a hand back answered 0 is
+    // late; a fail marks its slot, and a spawn takes the mark away.
     pub(crate) fn after(self, o: u8, s: Step, place: usize, ms: u64) -> Calls {
         let code = s.code;
         let claim = s.claim;
@@ -110,6 +144,12 @@ impl Calls {
                 return self.handed_back(o, place, s.who, s.argument);
             }
             return self.came_late(o, place);
+        }
+        if code == 15 {
+            return self.marked(claim.number, false);
+        }
+        if code == 19 {
+            return self.marked(s.who as u32, true);
         }
         self
     }

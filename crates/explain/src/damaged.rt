@@ -7,6 +7,7 @@ use crate::putting::put_with;
 use crate::putting::say;
 use crate::putting::show;
 use crate::words::put_kind;
+use values::Value;
 
 // ---- a recording
 
@@ -18,21 +19,19 @@ fn put_whose(out: &mut [u8], at: usize, argument: bool) -> usize {
 }
 
 fn put_bad(out: &mut [u8], at: usize, kind: u8, number: u32) -> usize {
-    if 7 < kind {
-        return put(out, at, b"; the kinds of values are 0 to 7.\n");
+    if is_bad(kind, 0) {
+        return put(out, at, b"; the kinds of values are 0 to 7 and 9.\n");
     }
     let a = put_with(out, at, b" and has the number ", number as u64);
     put(out, a, b"; only a Number, kind 1, has one.\n")
 }
 
 fn is_bad(kind: u8, number: u32) -> bool {
-    if kind == 1 {
-        return false;
-    }
-    if 7 < kind {
-        return true;
-    }
-    0 < number
+    let v = Value {
+        kind: kind,
+        number: number,
+    };
+    !v.is_good()
 }
 
 fn say_value(kind: u8, number: u32, argument: bool) {

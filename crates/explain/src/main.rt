@@ -47,7 +47,7 @@ fn focus_of(st: State, s: Step) -> Focus {
         timer: 255,
     };
     let code = s.code;
-    if code < 15 {
+    if words::is_slots(code) {
         f.slot = s.who;
     }
     match code {
@@ -57,7 +57,7 @@ fn focus_of(st: State, s: Step) -> Focus {
         11 | 12 | 16 => {
             f.operation = s.what;
         }
-        13 | 14 => {
+        13 | 14 | 19 => {
             f.operation = calls::served(st, s.who);
         }
         15 => {
@@ -123,7 +123,7 @@ fn show_verdict(s: &[u8], names: &[u8], x: Step, c: Cause, place: usize, k: u8) 
 
 // Who says or does what it can't.
 fn put_headline(out: &mut [u8], at: usize, names: &[u8], x: Step, c: Cause) -> usize {
-    if x.code < 15 {
+    if words::is_slots(x.code) {
         let a = put_with(out, at, b"Slot ", x.who as u64);
         return put_claimed(out, a, names, x, c);
     }

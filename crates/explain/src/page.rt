@@ -12,6 +12,7 @@ use crate::table::put_refused;
 use crate::table::put_scheduled;
 use crate::table::put_start;
 use crate::table::width_of;
+use crate::words::is_slots;
 use crate::words::put_part;
 use crate::words::put_slot;
 use causes::Cause;
@@ -30,7 +31,7 @@ pub(crate) fn show_top() {
         b"div{overflow-x:auto}table{border-collapse:collapse;font:12px/1.35 ui-monospace,monospace}td,th{padding:1px 8px;text-align:left;vertical-align:top;white-space:nowrap}",
     );
     say(
-        b"th{border-bottom:2px solid #555;background:#fff}td.n{text-align:right;color:#555}td.l{background:#eef4fb;border-left:3px solid #4a7ebb}td.o{background:#fdf0d5;border-left:6px solid #d98e04}",
+        b"th{border-bottom:2px solid #555;background:#fff}td.n{text-align:right;color:#555}td.l{background:#eef4fb;border-left:3px solid #4a7ebb}td.f{background:#f3e3ee;border-left:3px dashed #8a2f6b}td.o{background:#fdf0d5;border-left:6px solid #d98e04}",
     );
     say(
         b"td.d{color:#666;border-left:1px solid #ccc}tr.x td{background:#fbdcdc;border-top:2px solid #b00;border-bottom:2px solid #b00;font-weight:bold}tr.g td{color:#666}",
@@ -109,7 +110,7 @@ pub(crate) fn show_foot() {
     say(b"</tbody></table></div>\n");
 }
 
-// A lane's cell: a step, a start, or only that an instance lives there.
+// A lane's cell: a step, a start, or only that an instance lives there, or has failed.
 fn put_lane(
     out: &mut [u8],
     at: usize,
@@ -120,7 +121,7 @@ fn put_lane(
     i: u8,
 ) -> usize {
     let v = x.claim;
-    if x.code < 15 {
+    if is_slots(x.code) {
         if x.who == i {
             let a = put(out, at, b"<td class=l>");
             return put_done(out, a, names, x);
@@ -134,6 +135,10 @@ fn put_lane(
     }
     let slots = after.slots;
     let y = slots.get(i);
+    let l = y.life;
+    if l.failed {
+        return put(out, at, b"<td class=f>");
+    }
     if y.used {
         return put(out, at, b"<td class=l>");
     }
@@ -241,11 +246,11 @@ pub(crate) fn show_row(
 }
 
 fn put_owner(out: &mut [u8], at: usize, x: Step) -> usize {
-    if 14 < x.code {
-        return at;
+    if is_slots(x.code) {
+        let a = put_slot(out, at, x.who);
+        return put(out, a, b": ");
     }
-    let a = put_slot(out, at, x.who);
-    put(out, a, b": ")
+    at
 }
 
 pub(crate) fn show_refused(names: &[u8], x: Step, c: Cause, place: usize, ms: u64) {

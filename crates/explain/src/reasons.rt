@@ -15,7 +15,7 @@ use values::Value;
 // What a rule is about, in a few words.
 pub(crate) fn put_rule(out: &mut [u8], at: usize, k: u8) -> usize {
     match k {
-        2 => put(out, at, b"no such step"),
+        2 => put(out, at, b"no step of this form"),
         3 => put(out, at, b"something that is not there"),
         4 => put(out, at, b"a part that it may not use so"),
         5 => put(out, at, b"not in this phase of its life"),
@@ -83,7 +83,19 @@ fn put_what_filled(out: &mut [u8], at: usize, s: Step) -> usize {
 
 fn put_no_code(out: &mut [u8], at: usize, s: Step) -> usize {
     let a = put_with(out, at, b"there is no step of code ", s.code as u64);
-    put(out, a, b": the codes are 1 to 18.")
+    put(out, a, b": the codes are 1 to 19.")
+}
+
+fn put_hands_number(out: &mut [u8], at: usize, s: Step) -> usize {
+    let a = put(out, at, b"the instance in ");
+    let b = put_slot(out, a, s.who);
+    let c = put(
+        out,
+        b,
+        b" has failed: it may hand back Void alone, which its client gets as ServerErr, and here is ",
+    );
+    let d = put_value(out, c, s.argument);
+    put(out, d, b".")
 }
 
 // 3: what is not there.
@@ -161,6 +173,26 @@ fn put_finished(out: &mut [u8], at: usize, s: Step) -> usize {
         out,
         b,
         b" has handed back and is finished: it may only end.",
+    )
+}
+
+fn put_failed(out: &mut [u8], at: usize, s: Step) -> usize {
+    let a = put(out, at, b"the instance in ");
+    let b = put_slot(out, a, s.who);
+    put(
+        out,
+        b,
+        b" has failed: it may only hand back Void, exit what it entered, and end.",
+    )
+}
+
+fn put_failed_back(out: &mut [u8], at: usize, s: Step) -> usize {
+    let a = put(out, at, b"the instance in ");
+    let b = put_slot(out, a, s.who);
+    put(
+        out,
+        b,
+        b" has failed and has handed back: it may only exit what it entered, and end.",
     )
 }
 
@@ -338,6 +370,7 @@ fn put_first(out: &mut [u8], at: usize, names: &[u8], s: Step, c: Cause) -> usiz
         Cause::HasWho => put_who_filled(out, at, s),
         Cause::HasWhat => put_what_filled(out, at, s),
         Cause::BadArgument(k) => put_argued(out, at, k, s),
+        Cause::HandsNumber => put_hands_number(out, at, s),
         Cause::NoSlot => put_no_slot(out, at, s),
         Cause::EmptySlot => put_empty_slot(out, at, s),
         Cause::NoPart(n) => put_no_part(out, at, n, s),
@@ -346,6 +379,8 @@ fn put_first(out: &mut [u8], at: usize, names: &[u8], s: Step, c: Cause) -> usiz
         Cause::NotQueued => put_queued(out, at, names, s, false),
         Cause::WaitsOn(o) => put_waits(out, at, names, o, s),
         Cause::IsFinished => put_finished(out, at, s),
+        Cause::HasFailed => put_failed(out, at, s),
+        Cause::FailedBack => put_failed_back(out, at, s),
         Cause::NotWaiting => put_not_waiting(out, at, names, s),
         Cause::HeldBy(i) => put_held(out, at, names, i, s),
         Cause::NoneHeld => put_none_held(out, at, s),

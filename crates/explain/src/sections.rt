@@ -10,6 +10,7 @@ use crate::putting::put_number;
 use crate::putting::put_with;
 use crate::putting::say;
 use crate::putting::show;
+use crate::words::is_slots;
 use crate::words::put_answer;
 use crate::words::put_count;
 use crate::words::put_deed;
@@ -36,10 +37,24 @@ fn probe(code: u8, who: u8, what: u8) -> Step {
     }
 }
 
+// An instance that has failed may hand back Void alone.
+fn put_void(out: &mut [u8], at: usize, st: State, code: u8, who: u8) -> usize {
+    let slots = st.slots;
+    let x = slots.get(who);
+    let l = x.life;
+    if code == 13 {
+        if l.failed {
+            return put(out, at, b" Void");
+        }
+    }
+    at
+}
+
 // A step that would be taken, behind a comma: the payload is left open.
 fn put_option(
     out: &mut [u8],
     at: usize,
+    st: State,
     names: &[u8],
     code: u8,
     who: u8,
@@ -48,7 +63,8 @@ fn put_option(
 ) -> usize {
     let a = put(out, at, b"; ");
     let b = crate::words::put_option(out, a, names, probe(code, who, what));
-    put_answer(out, b, v)
+    let c = put_void(out, b, st, code, who);
+    put_answer(out, c, v)
 }
 
 fn put_allowed(
@@ -63,7 +79,7 @@ fn put_allowed(
 ) -> usize {
     let r = causes::allowed(cfg, st, code, who, what);
     match r {
-        Answer::Taken(v) => put_option(out, at, names, code, who, what, v),
+        Answer::Taken(v) => put_option(out, at, st, names, code, who, what, v),
         Answer::Refused(_) => at,
     }
 }
@@ -102,12 +118,28 @@ fn put_code(
     next
 }
 
+// The same, if it is a slot's code.
+fn put_own(
+    out: &mut [u8],
+    at: usize,
+    cfg: Config,
+    st: State,
+    names: &[u8],
+    code: u8,
+    i: u8,
+) -> usize {
+    if is_slots(code) {
+        return put_code(out, at, cfg, st, names, code, i);
+    }
+    at
+}
+
 // The steps of a slot.
 fn put_codes(out: &mut [u8], at: usize, cfg: Config, st: State, names: &[u8], i: u8) -> usize {
     let mut next = at;
-    let mut code: u8 = 1;
-    while code < 15 {
-        next = put_code(out, next, cfg, st, names, code, i);
+    let mut code: u8 = 0;
+    while code < 255 {
+        next = put_own(out, next, cfg, st, names, code, i);
         code = code + 1;
     }
     next
@@ -124,10 +156,18 @@ fn show_slot(cfg: Config, st: State, names: &[u8], i: u8) {
     let mut at = put(&mut line, 0, b"  ");
     at = put_slot(&mut line, at, i);
     at = put(&mut line, at, b", an instance of ");
-    let from = put_part(&mut line, at, names, 0x10, l.runnable);
+    at = put_part(&mut line, at, names, 0x10, l.runnable);
+    let from = put_failed(&mut line, at, l.failed);
     at = put_codes(&mut line, from, cfg, st, names, i);
     at = end_options(&mut line, from, at);
     show(&line, at);
+}
+
+fn put_failed(out: &mut [u8], at: usize, failed: bool) -> usize {
+    if failed {
+        return put(out, at, b" that has failed");
+    }
+    at
 }
 
 // A colon before the first, or there is none.
@@ -277,6 +317,9 @@ fn put_how(out: &mut [u8], at: usize, t: Told) -> usize {
     }
     let b = put(out, a, b" by ");
     let c = put_slot(out, b, t.by);
+    if t.how == 3 {
+        return put(out, c, b", which had failed, with ServerErr");
+    }
     let d = put(out, c, b", which handed back ");
     put_value(out, d, t.back)
 }
@@ -328,13 +371,15 @@ fn put_lasted(out: &mut [u8], at: usize, from: u64, to: u64) -> usize {
     put(out, a, b" ms")
 }
 
-// How often calls of an operation were started, ended by an instance, ended by the timeout, and handed back too late; and what a walk has seen.
+// How often calls of an operation were started, ended by an instance, ended by the timeout, ended by an instance that had failed, and handed back too
+// late; and what a walk has seen.
 struct Sums {
     calls: Calls,
     ms: u64,
     started: u32,
     back: u32,
     timeouts: u32,
+    failures: u32,
     late: u32,
 }
 
@@ -344,6 +389,7 @@ const NO_SUMS: Sums = Sums {
     started: 0,
     back: 0,
     timeouts: 0,
+    failures: 0,
     late: 0,
 };
 
@@ -367,6 +413,7 @@ fn tallied(t: Sums, op: u8, x: Step, place: usize, o: u8, from: u32, told: bool)
     if b.ended == place {
         u.back = up(t.back, b.how == 2);
         u.timeouts = up(t.timeouts, b.how == 1);
+        u.failures = up(t.failures, b.how == 3);
         if told {
             if from < u.started {
                 show_call(b, t.ms);
@@ -403,16 +450,23 @@ fn show_sums(names: &[u8], t: Sums, o: u8) {
     at = put_count(&mut line, at, t.started as u64, b"call");
     at = put_with(&mut line, at, b"; ended by an instance ", t.back as u64);
     at = put_with(&mut line, at, b", by the timeout ", t.timeouts as u64);
-    at = put_late_sum(&mut line, at, t.late);
+    at = put_sum(
+        &mut line,
+        at,
+        b", by an instance that had failed ",
+        t.failures,
+    );
+    at = put_sum(&mut line, at, b"; handed back too late ", t.late);
     at = put(&mut line, at, b"\n");
     show(&line, at);
 }
 
-fn put_late_sum(out: &mut [u8], at: usize, n: u32) -> usize {
+// A sum with its words, unless it is 0.
+fn put_sum(out: &mut [u8], at: usize, s: &[u8], n: u32) -> usize {
     if n == 0 {
         return at;
     }
-    put_with(out, at, b"; handed back too late ", n as u64)
+    put_with(out, at, s, n as u64)
 }
 
 fn show_skipped(n: u32) {

@@ -9,6 +9,7 @@ use crate::putting::put_right;
 use crate::putting::put_with;
 use crate::putting::show;
 use crate::putting::show_trimmed;
+use crate::words::is_slots;
 use crate::words::put_answer;
 use crate::words::put_deed;
 use crate::words::put_part;
@@ -67,7 +68,7 @@ fn wider(a: u16, b: u16) -> u16 {
 // ---- which steps bear on the focus
 
 fn bears_slot(f: Focus, s: Step) -> bool {
-    if s.code < 15 {
+    if is_slots(s.code) {
         return s.who == f.slot;
     }
     if s.code == 15 {
@@ -188,6 +189,9 @@ fn put_remark(out: &mut [u8], at: usize, x: Step) -> usize {
 
 // An accepted step in its lane or in the scheduler's column.
 pub(crate) fn put_done(out: &mut [u8], at: usize, names: &[u8], x: Step) -> usize {
+    if x.code == 19 {
+        return put(out, at, b"fails");
+    }
     let a = put_deed(out, at, names, x);
     let b = put_answer(out, a, x.claim);
     put_remark(out, b, x)
@@ -207,7 +211,7 @@ pub(crate) fn put_refused(out: &mut [u8], at: usize, names: &[u8], x: Step, c: C
     }
 }
 
-// The lane of a slot in a row: its step, its start, or that it lives.
+// The lane of a slot in a row: its step, its start, that it has failed, or that it lives.
 fn put_lane(
     out: &mut [u8],
     at: usize,
@@ -217,7 +221,7 @@ fn put_lane(
     x: Step,
     i: u8,
 ) -> usize {
-    if x.code < 15 {
+    if is_slots(x.code) {
         if x.who == i {
             return put_done(out, at, names, x);
         }
@@ -230,6 +234,10 @@ fn put_lane(
     }
     let slots = after.slots;
     let y = slots.get(i);
+    let l = y.life;
+    if l.failed {
+        return put_byte(out, at, b'!');
+    }
     if y.used {
         return put_byte(out, at, b'|');
     }
@@ -294,7 +302,7 @@ pub(crate) fn widened(w: Widths, names: &[u8], s: &[u8], o: u8, after: State, x:
     let mut u = w;
     let v = x.claim;
     let n = cell_width(names, s, after, x);
-    if x.code < 15 {
+    if is_slots(x.code) {
         u = widened_lane(u, x.who as u32, n);
     } else {
         let old = u.scheduler;
@@ -394,7 +402,7 @@ fn put_shared_step(
     x: Step,
 ) -> usize {
     let v = x.claim;
-    if x.code < 15 {
+    if is_slots(x.code) {
         let a = put_slot(out, at, x.who);
         let b = put(out, a, b": ");
         return put_done(out, b, names, x);
@@ -428,7 +436,7 @@ fn put_slots(
 
 // The scheduler's step, if it is one.
 pub(crate) fn put_scheduled(out: &mut [u8], at: usize, names: &[u8], x: Step) -> usize {
-    if x.code < 15 {
+    if is_slots(x.code) {
         return at;
     }
     put_done(out, at, names, x)
@@ -538,15 +546,15 @@ fn put_before(out: &mut [u8], at: usize, w: Widths, who: u8) -> usize {
 
 // What stands before a refused step in its row.
 fn put_margin(out: &mut [u8], at: usize, p: Plan, w: Widths, x: Step) -> usize {
-    if 14 < x.code {
-        return at;
+    if is_slots(x.code) {
+        let a = end_cell(out, at, at, w.scheduler);
+        if p.narrow {
+            let b = put_slot(out, a, x.who);
+            return put(out, b, b": ");
+        }
+        return put_before(out, a, w, x.who);
     }
-    let a = end_cell(out, at, at, w.scheduler);
-    if p.narrow {
-        let b = put_slot(out, a, x.who);
-        return put(out, b, b": ");
-    }
-    put_before(out, a, w, x.who)
+    at
 }
 
 // The refused step's row, where it would stand.

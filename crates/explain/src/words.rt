@@ -17,6 +17,7 @@ pub(crate) fn put_value(out: &mut [u8], at: usize, v: Value) -> usize {
         5 => put(out, at, b"Timeout"),
         6 => put(out, at, b"NeverReceived"),
         7 => put(out, at, b"Invalid"),
+        9 => put(out, at, b"ServerErr"),
         _ => put_with(out, at, b"a bad value of kind ", kind as u64),
     }
 }
@@ -70,6 +71,7 @@ fn put_verb(out: &mut [u8], at: usize, code: u8) -> usize {
         16 => put(out, at, b"timeout"),
         17 => put(out, at, b"tick"),
         18 => put(out, at, b"wait"),
+        19 => put(out, at, b"fail"),
         _ => put_with(out, at, b"step of code ", code as u64),
     }
 }
@@ -103,9 +105,15 @@ pub(crate) fn put_answer(out: &mut [u8], at: usize, v: Value) -> usize {
     put_value(out, a, v)
 }
 
+// A code is that of a step which the instance in a slot takes.
+pub(crate) fn is_slots(code: u8) -> bool {
+    let row = refusals::row_of(code);
+    row.who == 1
+}
+
 // Who takes a step.
 pub(crate) fn put_who(out: &mut [u8], at: usize, s: Step) -> usize {
-    if s.code < 15 {
+    if is_slots(s.code) {
         return put_slot(out, at, s.who);
     }
     put(out, at, b"the scheduler")

@@ -6,7 +6,7 @@ use mathlib.Core.Path.{_≡_, refl}
 use native.Mathlib.Omega.{arith}
 use Rattle.numbers.specs.Codes.{spawnCode, timeoutCode, tickCode}
 use Rattle.types.specs.Types.{Value, Step, Config, State, Stepped}
-use Rattle.values.specs.Values.{answerValue, isGood}
+use Rattle.values.specs.Values.{answerValue, isKind, isGood}
 use Rattle.state.specs.Tables.{maxSlots}
 use Rattle.effects.specs.Steps.{lowestEmpty}
 use Rattle.stays_sound.proofs.Ways.{Way, Went, bars, goes, went}
@@ -20,7 +20,7 @@ pub record Fit (v : Value) : Type 0 where
   pub small : v .number < 2 ^ 32
 
 void-fits : Fit (record { kind = 0; number = 0 })
-unfolding isGood
+unfolding isKind isGood
 void-fits = record { good = refl; small = omega arith }
 
 number-fits : (n : ℕ) → n < maxSlots → Fit (record { kind = 1; number = n })
@@ -45,5 +45,5 @@ module _ (cfg : Config) (st : State) where
   went-fits c (goes w) = way-fits c w
 
   pub answered-recorded : (code k : ℕ) → Chosen code → Recorded (answered cfg st (choice code k))
-  unfolding valuesGood isGood
+  unfolding valuesGood isKind isGood
   answered-recorded code k c = let f = went-fits c (went cfg st (choice code k)) in record { good = f .good; argument = omega arith; claim = f .small }

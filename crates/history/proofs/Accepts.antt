@@ -5,7 +5,7 @@ use mathlib.Core.Bool.{Bool, true, false}
 use mathlib.Core.Path.{_≡_, refl, sym, _∙_, ap}
 use native.Mathlib.Omega.{arith}
 use lib.Dec.{eqb}
-use Rattle.numbers.specs.Codes.{enterCode, exitCode, callCode, handBackCode, endCode, spawnCode, timeoutCode, tickCode, waitCode}
+use Rattle.numbers.specs.Codes.{enterCode, exitCode, callCode, handBackCode, endCode, spawnCode, timeoutCode, tickCode, waitCode, failCode}
 use Rattle.laws.specs.Choice.{either}
 use Rattle.laws.proofs.Choosing.{clash}
 use Rattle.types.specs.Types.{Value, Step, Taken, Config, State}
@@ -21,13 +21,13 @@ use Rattle.stays_sound.proofs.Accepted.{accepted, way}
 use Rattle.history.specs.History.{timeOf}
 use Rattle.history.proofs.Timed.{still}
 use Rattle.history.proofs.Passes.{Calm, calm-same, write-variable-calm, elements-calm, fed-calm, enter-alike, exit-alike, collect-calm, tick-alike, tick-unmoved, wait-alike, wait-unmoved}
-use Rattle.history.proofs.Deeds.{Quiet, enters, exits, stays, ticks, waits, keeps, Deed, pass, call, answer, late, end, server, plain, timeout, other-code}
+use Rattle.history.proofs.Deeds.{Quiet, enters, exits, stays, ticks, waits, keeps, Deed, pass, call, answer, late, end, server, plain, timeout, fail, other-code}
 
 -- ---- the steps that touch no call
 
--- the codes of those that may
+-- the codes of those that may, and of a fail
 abbrev touches : ℕ → Bool
-touches n = either (eqb n callCode) (either (eqb n handBackCode) (either (eqb n endCode) (either (eqb n spawnCode) (eqb n timeoutCode))))
+touches n = either (eqb n callCode) (either (eqb n handBackCode) (either (eqb n endCode) (either (eqb n spawnCode) (either (eqb n timeoutCode) (eqb n failCode)))))
 
 -- of those that touch areas or timers
 abbrev moves : ℕ → Bool
@@ -44,6 +44,7 @@ module _ (s : Step) {n : ℕ} (c : s .code ≡ n) where
     end = apart touches endCode f refl;
     spawn = apart touches spawnCode f refl;
     timeout = apart touches timeoutCode f refl;
+    fail = apart touches failCode f refl;
   }
 
 -- a call that is answered Limit starts none
@@ -54,6 +55,7 @@ quiet-open s c k = record {
   end = other-code endCode c refl;
   spawn = other-code spawnCode c refl;
   timeout = other-code timeoutCode c refl;
+  fail = other-code failCode c refl;
 }
 
 -- ---- every way is a deed
@@ -105,6 +107,7 @@ module _ (cfg : Config) (st : State) (s : Step) where
       pass (rw (still s (other-code waitCode c refl)) (tick-alike cfg st _)) (quiet s c refl) (stays (other-code enterCode c refl) (other-code exitCode c refl) (tick-unmoved cfg st _)) (ticks c z refl)
   deed-way g c k (go.wait z) =
       pass (rw c (wait-alike cfg st _ g z)) (quiet s c refl) (stays (other-code enterCode c refl) (other-code exitCode c refl) (wait-unmoved cfg st _ g z)) (waits c z refl)
+  deed-way g c k (go.fail z) = fail c z refl
 
   pub deed : stepOf cfg st s .answer ≡ Taken (s .claim) → Deed cfg st s (stepOf cfg st s .state)
   deed h = deed-way (told cfg st (accepted cfg st s (s .claim) h .0)) refl refl (way cfg st s refl h)

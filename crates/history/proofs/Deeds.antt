@@ -1,6 +1,6 @@
--- What an accepted step does to calls, as one of eight deeds (`Deed`), each by the name of its way: it passes, or it starts, takes or ends one. A deed says which step it was, what the
+-- What an accepted step does to calls, as one of nine deeds (`Deed`), each by the name of its way: it passes, it starts, takes or ends one, or its instance fails. A deed says which step it was, what the
 -- step relied on and the state after it; all that follows goes by deeds, and no more by codes.
--- Each deed with what it adds to the history (`pass-adds` .. `timeout-adds`), and that every deed keeps the tie (`tied-deed`).
+-- Each deed with what it adds to the history (`pass-adds` .. `fail-adds`), and that every deed keeps the tie (`tied-deed`).
 -- Assumes nothing.
 use Prim.Native.Nat.{ℕ, _<_}
 use mathlib.Core.Bool.{true, false}
@@ -8,27 +8,28 @@ use mathlib.Core.Path.{_≡_, refl, sym, _∙_}
 use native.Mathlib.Omega.{arith}
 use lib.Dec.{eqb}
 use borrow.Author.Tests.{ltb-true, ltb-false, eqb-true, eq-eqb, ne-eqb}
-use Rattle.numbers.specs.Codes.{enterCode, exitCode, callCode, handBackCode, endCode, spawnCode, timeoutCode, tickCode, waitCode}
+use Rattle.numbers.specs.Codes.{enterCode, exitCode, callCode, handBackCode, endCode, spawnCode, timeoutCode, tickCode, waitCode, failCode}
 use Rattle.laws.proofs.Choosing.{clash, both-left, both-right, pick-has}
 use Rattle.types.specs.Types.{Value, Step, Config, State}
 use Rattle.values.specs.Values.{numberV, okV, timeoutV, sameValue}
 use Rattle.config.specs.Tables.{runnableConfIn}
 use Rattle.entries.specs.Faults.{isServer}
 use Rattle.state.specs.Tables.{runnableIn}
-use Rattle.effects.specs.Steps.{entered, exited, called, closed, answers, clientOf, finished, answered, emptied, isDue, lowestEmpty, spawned, ticked, waited}
-use Rattle.stays_sound.specs.Facts.{Sound, CanEnter, CanExit, CanCall, CanHandBack, CanEnd, CanSpawn, CanTimeout, CanTick, CanWait}
-use Rattle.history.specs.History.{noRequest, byTimeout, byInstance, History, passed, begins, closes, takes, takesOldest, takenBy, observe, timeOf}
+use Rattle.effects.specs.Steps.{entered, exited, called, closed, answers, clientOf, finished, answered, handedBack, emptied, isDue, lowestEmpty, spawned, ticked, waited, failed}
+use Rattle.stays_sound.specs.Facts.{Sound, CanEnter, CanExit, CanCall, CanHandBack, CanEnd, CanSpawn, CanTimeout, CanTick, CanWait, CanFail}
+use Rattle.history.specs.History.{noRequest, byTimeout, History, passed, begins, closes, backBy, fails, takes, takesOldest, takenBy, observe, timeOf}
 use Rattle.history.proofs.Tied.{Alike, Tied, tied-alike}
 use Rattle.history.proofs.Passes.{Unmoved}
-use Rattle.history.proofs.Ties.{tied-call, tied-timeout, tied-answer, tied-late, tied-server, tied-plain, tied-end}
+use Rattle.history.proofs.Ties.{tied-call, tied-timeout, tied-answer, tied-late, tied-server, tied-plain, tied-end, tied-fail}
 
--- a step that is no started call, hand back, end, spawn or timeout
+-- a step that is no started call, hand back, end, spawn, timeout or fail
 pub record Quiet (s : Step) : Type 0 where
   pub call : s .code ≡ callCode → s .claim ≡ okV → ⊥
   pub back : s .code ≡ handBackCode → ⊥
   pub end : s .code ≡ endCode → ⊥
   pub spawn : s .code ≡ spawnCode → ⊥
   pub timeout : s .code ≡ timeoutCode → ⊥
+  pub fail : s .code ≡ failCode → ⊥
 
 -- what a step that starts, takes and ends no call does to areas: it enters one, exits one, or leaves them and the stacks as they were
 pub data Moves (cfg : Config) (st : State) (s : Step) (st′ : State) : Type 0 where
@@ -47,7 +48,7 @@ pub data Deed (cfg : Config) (st : State) (s : Step) (st′ : State) : Type 0 wh
   call : s .code ≡ callCode → s .claim ≡ okV → CanCall cfg st (s .who) (s .what) (s .argument) → st′ ≡ called cfg st (s .who) (s .what) (s .argument) → Deed cfg st s st′
   answer :
       s .code ≡ handBackCode → s .claim ≡ numberV 1 → CanHandBack cfg st (s .who) (s .argument) → answers (st .operations) (clientOf st (s .who)) ≡ true
-      → st′ ≡ answered cfg st (s .who) (s .argument) → Deed cfg st s st′
+      → st′ ≡ answered cfg st (s .who) (handedBack st (s .who) (s .argument)) → Deed cfg st s st′
   late : s .code ≡ handBackCode → s .claim ≡ numberV 0 → CanHandBack cfg st (s .who) (s .argument) → st′ ≡ finished st st (s .who) → Deed cfg st s st′
   end : s .code ≡ endCode → CanEnd st (s .who) → st′ ≡ emptied st (s .who) → Deed cfg st s st′
   server : s .code ≡ spawnCode → s .claim ≡ numberV (lowestEmpty (st .slots)) → isServer cfg (s .what) ≡ true → CanSpawn cfg st (s .what) → st′ ≡ spawned cfg st (s .what) (lowestEmpty (st .slots))
@@ -55,6 +56,7 @@ pub data Deed (cfg : Config) (st : State) (s : Step) (st′ : State) : Type 0 wh
   plain : s .code ≡ spawnCode → s .claim ≡ numberV (lowestEmpty (st .slots)) → isServer cfg (s .what) ≡ false → CanSpawn cfg st (s .what) → st′ ≡ spawned cfg st (s .what) (lowestEmpty (st .slots))
       → Deed cfg st s st′
   timeout : s .code ≡ timeoutCode → CanTimeout cfg st (s .what) → st′ ≡ closed cfg st (s .what) timeoutV → Deed cfg st s st′
+  fail : s .code ≡ failCode → CanFail st (s .who) → st′ ≡ failed st (s .who) → Deed cfg st s st′
 
 -- a step of one code is none of another
 pub other-code : {k n : ℕ} (m : ℕ) → k ≡ n → eqb n m ≡ false → k ≡ m → ⊥
@@ -74,7 +76,7 @@ module _ (cfg : Config) (h : History) (s : Step) where
   pub pass-adds : Quiet s → observe cfg h s ≡ passed h
   unfolding observe
   pass-adds q =
-      rw (ne-eqb (s .code) handBackCode (q .back), ne-eqb (s .code) endCode (q .end), ne-eqb (s .code) spawnCode (q .spawn), ne-eqb (s .code) timeoutCode (q .timeout))
+      rw (ne-eqb (s .code) handBackCode (q .back), ne-eqb (s .code) endCode (q .end), ne-eqb (s .code) spawnCode (q .spawn), ne-eqb (s .code) timeoutCode (q .timeout), ne-eqb (s .code) failCode (q .fail))
       (pick-has (λ x. x ≡ passed h) (eqb (s .code) callCode) _ (passed h)
       (λ c. pick-has (λ x. x ≡ passed h) (sameValue (s .claim) okV) _ (passed h) (λ k. absurd (q .call (eqb-true _ _ c) (same-value _ _ k))) (λ k. refl))
       (λ c. refl))
@@ -83,7 +85,7 @@ module _ (cfg : Config) (h : History) (s : Step) where
   unfolding observe sameValue
   call-adds c k = rw (c, k)
 
-  pub answer-adds : s .code ≡ handBackCode → s .claim ≡ numberV 1 → observe cfg h s ≡ closes h (takenBy h (s .who) .on) (byInstance (takenBy h (s .who) .at) (s .argument))
+  pub answer-adds : s .code ≡ handBackCode → s .claim ≡ numberV 1 → observe cfg h s ≡ closes h (takenBy h (s .who) .on) (backBy h (s .who) (s .argument))
   unfolding observe
   answer-adds c k = rw (c, k)
 
@@ -107,10 +109,14 @@ module _ (cfg : Config) (h : History) (s : Step) where
   unfolding observe
   timeout-adds c = rw c
 
+  pub fail-adds : s .code ≡ failCode → observe cfg h s ≡ fails h (s .who)
+  unfolding observe
+  fail-adds c = rw c
+
 -- ---- every deed keeps the tie
 
 -- a server has a capacity, a plain runnable none
-server-capacity : (cfg : Config) (r : ℕ) → isServer cfg r ≡ true → eqb (runnableConfIn (cfg .runnables) r .capacity) 0 ≡ false
+pub server-capacity : (cfg : Config) (r : ℕ) → isServer cfg r ≡ true → eqb (runnableConfIn (cfg .runnables) r .capacity) 0 ≡ false
 unfolding isServer
 server-capacity cfg r e = ne-eqb (runnableConfIn (cfg .runnables) r .capacity) 0 (λ q. omega (arith, ltb-true 0 (runnableConfIn (cfg .runnables) r .capacity) e, q))
 
@@ -136,3 +142,4 @@ tied-deed cfg st s st′ h g (plain c k y z e) t =
     rw (plain-adds cfg h s c y, k, e)
     (tied-plain cfg st h (s .what) (lowestEmpty (st .slots)) g (z .slot) (plain-capacity cfg (s .what) y) t)
 tied-deed cfg st s st′ h g (timeout c z e) t = rw (timeout-adds cfg h s c, e) (tied-timeout cfg st h (s .what) z t)
+tied-deed cfg st s st′ h g (fail c z e) t = rw (fail-adds cfg h s c, e) (tied-fail cfg st h (s .who) g z t)

@@ -1,23 +1,26 @@
 -- Every ending stands at its place, behind its call, and in time (`AllEnded`): it was made there, by a step that the history before it explains.
--- A hand back that ends a call is by an instance that took the request of the latest call on an operation that is Calling (`answer-latest`). While it is, the time since
+-- A hand back that ends a call is by an instance that took the request of the latest call on an operation that is Calling (`answer-latest`); one that has failed hands back Void (`back-void`). While it is Calling, the time since
 -- that call is no more than the timeout, and with nothing left on the count, as at a timeout, it is the timeout (`Timed`). Every deed keeps what stands (`ended-more`).
 -- Assumes nothing.
-use Prim.Native.Nat.{ℕ, _+_}
-use mathlib.Core.Bool.{true}
+use Prim.Native.Nat.{ℕ, _+_, _≤_}
+use mathlib.Core.Bool.{Bool, true, false}
 use mathlib.Core.List.{List, [], _∷_, _++_, append-assoc, List·Memᴰ, List·Memᴰ·cases-cons, List·Memᴰ·not-nil}
 use mathlib.Core.Logic.{⊎-elim}
 use mathlib.Core.Path.{_≡_, refl, sym, _∙_, ap}
 use native.Mathlib.Omega.{arith}
 use borrow.Author.Tests.{eqb-true}
+use Rattle.laws.specs.Choice.{pick}
 use Rattle.laws.proofs.Choosing.{both-left, both-right}
-use Rattle.types.specs.Types.{Step, Config, Client, State}
+use Rattle.types.specs.Types.{Value, Step, Config, Client, State}
+use Rattle.values.specs.Values.{voidV, isNumber, isVoid, isPayload, sameValue}
 use Rattle.state.specs.Tables.{operationIn}
-use Rattle.effects.specs.Steps.{answers, serves, clientOf}
-use Rattle.history.specs.History.{Ending, History, nothing, historyOf, takenBy, latestOn, observe}
+use Rattle.effects.specs.Steps.{answers, serves, clientOf, hasFailed}
+use Rattle.stays_sound.specs.Facts.{CanHandBack}
+use Rattle.history.specs.History.{byInstance, byFailure, Ending, History, nothing, historyOf, takenBy, failedBy, latestOn, observe, HandedBack, EndedBy, InTime}
 use Rattle.history.specs.Promises.{Ended}
 use Rattle.history.proofs.Tied.{Tag, Tied}
 use Rattle.history.proofs.Named.{Named}
-use Rattle.history.proofs.Deeds.{Deed, pass, call, answer, late, end, server, plain, timeout, pass-adds, call-adds, answer-adds, late-adds, end-adds, server-adds, plain-adds, timeout-adds}
+use Rattle.history.proofs.Deeds.{Deed, pass, call, answer, late, end, server, plain, timeout, fail, same-value, pass-adds, call-adds, answer-adds, late-adds, end-adds, server-adds, plain-adds, timeout-adds, fail-adds}
 use Rattle.history.proofs.Timed.{Timed}
 
 -- ---- every ending stands at its step, in time
@@ -71,6 +74,23 @@ answer-latest st h i v a t =
     let its-number = sym (eqb-true _ _ (both-right (operationIn (st .operations) (c .operation) .calling) _ a)) in
     record { calling = rw (tag .same) open-still; latest = rw (tag .same) (tag .newest open-still its-number) }
 
+-- an instance that has failed hands back Void
+pub back-void : (cfg : Config) (st : State) (i : ℕ) (v : Value) → CanHandBack cfg st i v → hasFailed st i ≡ true → v ≡ voidV
+unfolding isPayload isVoid sameValue
+back-void cfg st i v z f =
+    let n : isNumber v ≡ false = rw f at (z .honest) in
+    same-value v voidV (rw n at (z .payload))
+
+-- a hand back that ends a call ends it by the failure of its instance or with its value, and in time
+back-by : (h : History) (s : Step) (o k : ℕ) (b : Bool) → failedBy h (s .who) ≡ b → HandedBack h s o k → (b ≡ true → s .argument ≡ voidV)
+    → EndedBy h s o k (pick b (byFailure (takenBy h (s .who) .at)) (byInstance (takenBy h (s .who) .at) (s .argument)))
+back-by h s o k true e q v = (q, q .3, v refl, e)
+back-by h s o k false e q v = (q, q .3, refl, e)
+
+back-time : (t top j : ℕ) (v : Value) (b : Bool) → t ≤ top → InTime t top (pick b (byFailure j) (byInstance j v))
+back-time t top j v true l = l
+back-time t top j v false l = l
+
 pub ended-deed : (cfg : Config) (st : State) (s : Step) (st′ : State) (rs : List Step) → Deed cfg st s st′ → Tied st (historyOf cfg rs) → Named rs (historyOf cfg rs)
     → Timed cfg (st .operations) (historyOf cfg rs .latest) rs → AllEnded cfg rs (historyOf cfg rs .endings) → AllEnded cfg (rs ++ (s ∷ [])) (observe cfg (historyOf cfg rs) s .endings)
 ended-deed cfg st s st′ rs d t n k l = go d
@@ -96,8 +116,8 @@ ended-deed cfg st s st′ rs d t n k l = go d
           whole = refl;
           place = ap (λ m. m + 1) (n .place);
           call = n .latest o (t .calls .begun o (w .calling));
-          by = (c, q, refl, refl, w .latest, w .latest);
-          time = omega (arith, k .rest o (w .calling));
+          by = back-by h s o (latestOn h o) (failedBy h (s .who)) refl (c, q, refl, w .latest) (λ f. back-void cfg st (s .who) (s .argument) z (t .failed .each (s .who) ∙ f));
+          time = back-time _ _ (takenBy h (s .who) .at) (s .argument) (failedBy h (s .who)) (omega (arith, k .rest o (w .calling)));
         })
         kept)
     go (late c q z e) = rw (late-adds cfg h s c q) kept
@@ -119,3 +139,4 @@ ended-deed cfg st s st′ rs d t n k l = go d
           time = omega (arith, k .rest o (z .calling), z .zero);
         })
         kept)
+    go (fail c z e) = rw (fail-adds cfg h s c) kept

@@ -23,7 +23,7 @@ use Rattle.entries.specs.Faults.{isServer}
 use Rattle.history.specs.History.{Request, noRequest, History, nothing, passed, begins, takes, takesOldest, queuedAt, observe, allQueued, allSpawns}
 use Rattle.history.proofs.Beside.{all-alike}
 use Rattle.history.proofs.Tied.{Tied}
-use Rattle.history.proofs.Deeds.{Deed, pass, call, answer, late, end, server, plain, timeout, same-value, pass-adds, call-adds, answer-adds, late-adds, end-adds, server-adds, plain-adds, timeout-adds, due-server}
+use Rattle.history.proofs.Deeds.{Deed, pass, call, answer, late, end, server, plain, timeout, fail, same-value, pass-adds, call-adds, answer-adds, late-adds, end-adds, server-adds, plain-adds, timeout-adds, fail-adds, due-server}
 
 -- ---- what a recording queues at r, and how often it spawns r
 
@@ -157,3 +157,4 @@ fifo-deed cfg st s st′ r rs h (server c k v z e) t p y b f =
     (fifo-oldest cfg r rs h s f c (omega (arith, t .queues .size, b)) (λ q. rw (← q) (omega (arith, due-server cfg st (s .what) v z, t .queues .each (s .what) .size))) (s .claim .number))
 fifo-deed cfg st s st′ r rs h (plain c k v z e) t p y b f = rw (plain-adds cfg h s c v) (fifo-plain cfg r rs h s f c (λ q. clash (isServer cfg r) y (rw q at v)) (s .claim .number))
 fifo-deed cfg st s st′ r rs h (timeout c z e) t p y b f = rw (timeout-adds cfg h s c) (fifo-quiet cfg r rs h s f _ refl (λ q w. omega (arith, c, q)) (λ q. omega (arith, c, q)))
+fifo-deed cfg st s st′ r rs h (fail c z e) t p y b f = rw (fail-adds cfg h s c) (fifo-quiet cfg r rs h s f _ refl (λ q w. omega (arith, c, q)) (λ q. omega (arith, c, q)))

@@ -1,7 +1,7 @@
 -- From the facts of a reached state and its history to what the promises say of them.
 -- Areas: a count of one is one holder, which holds it once, and no other (`holder`); a count of none is none (`no-holder`). Queued values: `values-told`.
--- Calls: an operation is open exactly if its latest call has no ending (`open-unended`). What a call, a hand back and a result answer (`call-way`, `back-way`, `result-way`). Results: an operation Done with a Number holds what its last ending gave (`number-from`), that ending counts (`last-counts`) and so it is the only one of its
--- call (`done-final`). A spawn of a server takes the oldest request (`took-oldest`).
+-- Calls: an operation is open exactly if its latest call has no ending (`open-unended`). What a call, a hand back and a result answer (`call-way`, `back-way`, `result-way`). Results: an operation Done with a Number or with ServerErr holds what its last ending gave (`last-from`, `number-from`, `failure-from`), that ending counts (`last-counts`) and so it is the only one of its
+-- call (`done-final`, `failed-final`). A spawn of a server takes the oldest request (`took-oldest`).
 -- Assumes nothing.
 use Prim.Native.Nat.{ℕ, _+_, _≤_, _<_}
 use mathlib.Core.Bool.{Bool, true, false, not}
@@ -20,18 +20,18 @@ use Rattle.laws.specs.Loop.{sumBelow}
 use Rattle.laws.proofs.Choosing.{clash, both-left, both-right, all-told}
 use Rattle.laws.proofs.Looping.{all-at, sum-term, sum-two, sum-find, count-most}
 use Rattle.types.specs.Types.{Value, Step, Config, Client, State}
-use Rattle.values.specs.Values.{numberV, okV, limitV, noDataV, isVoid}
+use Rattle.values.specs.Values.{voidV, numberV, okV, limitV, noDataV, serverErrV, isVoid, isPayload}
 use Rattle.config.specs.Tables.{requiredConfIn}
 use Rattle.entries.specs.Faults.{isServer}
 use Rattle.state.specs.Tables.{areaIn, elementIn, operationIn, slotIn}
 use Rattle.rules.specs.Sound.{isStored, valuesSound, elementSound, elementsSound, timesIn, holders, isNoSlot, slotSound, slotsSound}
-use Rattle.effects.specs.Steps.{isOpen, answers, clientOf, lowestEmpty}
+use Rattle.effects.specs.Steps.{isOpen, answers, clientOf, hasFailed, lowestEmpty}
 use Rattle.stays_sound.specs.Facts.{Sound, CanSpawn}
 use Rattle.stays_sound.proofs.Ways.{Way, callOpen, call, pollOpen, poll, collect, answer, late}
-use Rattle.history.specs.History.{noRequest, How, byTimeout, byInstance, Ending, History, takenBy, queuedAt, latestOn, observe, endsOf, lastOn, isUnended, given, delivered}
+use Rattle.history.specs.History.{noRequest, How, byTimeout, byInstance, byFailure, Ending, History, takenBy, queuedAt, latestOn, observe, endsOf, lastOn, isUnended, given, delivered}
 use Rattle.history.proofs.Tied.{AllProper, Tied, Proper}
 use Rattle.history.proofs.Deeds.{server-adds}
-use Rattle.history.proofs.Ended.{answer-latest}
+use Rattle.history.proofs.Ended.{answer-latest, back-void}
 
 -- ---- areas
 
@@ -44,7 +44,7 @@ holder-used cfg st a i g b h = go (slotIn (st .slots) i .used) refl
     go true e = e
     go false e =
         let s = all-told _ (rw e at (all-at (λ (k : ℕ). slotSound cfg (slotIn (st .slots) k)) 32 (g .slots) i b)) in
-        let z : slotIn (st .slots) i .stack .held ≡ 0 = eqb-true _ 0 (s .1 .1 .1 .1 .1 .1 .0) in
+        let z : slotIn (st .slots) i .stack .held ≡ 0 = eqb-true _ 0 (s .1 .1 .1 .1 .1 .1 .1 .0) in
         absurd (omega (arith, h, count-most (λ (j : ℕ). eqb (getD (slotIn (st .slots) i .stack .at) j 0) a) (slotIn (st .slots) i .stack .held)))
 
 pub holder : (cfg : Config) (st : State) (a : ℕ) → Sound cfg st → a < 16 → areaIn (st .areas) a .taken ≡ true
@@ -116,6 +116,11 @@ back-way cfg st s h t (late z e) =
     (λ q. let m = t .served .each (s .who) (z .serving) .unended q in
     clash (answers (st .operations) c) (rw (m .0, eq-eqb (operationIn (st .operations) (c .operation) .number) (c .number) (sym (m .1)))) e))
 
+-- a hand back of an instance that has failed is of Void
+pub back-failed : (cfg : Config) (st : State) (s : Step) {w : Value} {t : State} → hasFailed st (s .who) ≡ true → Way cfg st s handBackCode w t → s .argument ≡ voidV
+back-failed cfg st s f (answer z e) = back-void cfg st (s .who) (s .argument) z f
+back-failed cfg st s f (late z e) = back-void cfg st (s .who) (s .argument) z f
+
 -- ---- results
 
 -- a result is NoData in a call, and else what the operation is Done with
@@ -131,21 +136,35 @@ result-delivered cfg st s h t way = result-way cfg st s way ∙ go (isOpen st (s
     go true e = refl
     go false e = t .calls .last (s .what) e
 
--- a value that is a Number came from an instance, and by a proper ending from one spawned for that call
-number-from : (o n : ℕ) (l : List Ending) → AllProper l → numberV n ≡ delivered (lastOn o l) → (e : Ending) × (lastOn o l ≡ some e) × (e .how ≡ byInstance (e .call) (numberV n))
+-- a value that is not Void came from the last ending, which is proper
+last-from : (v : Value) (P : Ending → Type 0) → (v ≡ voidV → ⊥) → ((e : Ending) → Proper (e .call) (e .how) → v ≡ given (e .how) → P e)
+    → (o : ℕ) (l : List Ending) → AllProper l → v ≡ delivered (lastOn o l) → (e : Ending) × (lastOn o l ≡ some e) × P e
 unfolding lastOn AllProper
-number-from o n [] p q = absurd (omega (arith, ap (λ (v : Value). v .kind) q))
-number-from o n (e ∷ es) p q = go (eqb (e .on) o) q (λ z. number-from o n es (p .1) z)
+last-from v P n f o [] p q = absurd (n q)
+last-from v P n f o (e ∷ es) p q = go (eqb (e .on) o) q (λ z. last-from v P n f o es (p .1) z)
+  where
+    go : (b : Bool) → v ≡ delivered (pick b (some e) (lastOn o es)) → (v ≡ delivered (lastOn o es) → (x : Ending) × (lastOn o es ≡ some x) × P x)
+        → (x : Ending) × (pick b (some e) (lastOn o es) ≡ some x) × P x
+    go true z rest = (e, refl, f e (p .0 .1) z)
+    go false z rest = rest z
+
+-- a Number came from an instance spawned for that call, ServerErr from the failure of one
+number-from : (n : ℕ) (e : Ending) → Proper (e .call) (e .how) → numberV n ≡ given (e .how) → e .how ≡ byInstance (e .call) (numberV n)
+number-from n e p q = by (e .how) refl p q
   where
     by : (w : How) → e .how ≡ w → Proper (e .call) w → numberV n ≡ given w → e .how ≡ byInstance (e .call) (numberV n)
     by byTimeout y z x = absurd (omega (arith, ap (λ (v : Value). v .kind) x))
-    by (byInstance k v) y z x = cc
+    by (byInstance k v) y z x = let j = z .0 in cc
+    by (byFailure k) y z x = absurd (omega (arith, ap (λ (v : Value). v .kind) x))
 
-    go : (b : Bool) → numberV n ≡ delivered (pick b (some e) (lastOn o es))
-        → (numberV n ≡ delivered (lastOn o es) → (x : Ending) × (lastOn o es ≡ some x) × (x .how ≡ byInstance (x .call) (numberV n)))
-        → (x : Ending) × (pick b (some e) (lastOn o es) ≡ some x) × (x .how ≡ byInstance (x .call) (numberV n))
-    go true z rest = (e, refl, by (e .how) refl (p .0 .1) z)
-    go false z rest = rest z
+failure-from : (e : Ending) → Proper (e .call) (e .how) → serverErrV ≡ given (e .how) → e .how ≡ byFailure (e .call)
+unfolding isPayload isVoid
+failure-from e p q = by (e .how) refl p q
+  where
+    by : (w : How) → e .how ≡ w → Proper (e .call) w → serverErrV ≡ given w → e .how ≡ byFailure (e .call)
+    by byTimeout y z x = absurd (omega (arith, ap (λ (v : Value). v .kind) x))
+    by (byInstance k v) y z x = absurd (clash (isPayload serverErrV) (ap isPayload x ∙ z .1) refl)
+    by (byFailure k) y z x = cc
 
 last-counts : (o : ℕ) (e : Ending) (l : List Ending) → lastOn o l ≡ some e → 1 ≤ endsOf (e .call) l
 unfolding lastOn endsOf
@@ -159,7 +178,14 @@ last-counts o e (x ∷ xs) q = go (eqb (x .on) o) q (λ z. last-counts o e xs z)
 pub done-final : (st : State) (h : History) (o n : ℕ) → Tied st h → isOpen st o ≡ false → operationIn (st .operations) o .done ≡ numberV n
     → (e : Ending) × (lastOn o (h .endings) ≡ some e) × (e .how ≡ byInstance (e .call) (numberV n)) × (endsOf (e .call) (h .endings) ≡ 1)
 done-final st h o n t c d =
-    let f = number-from o n (h .endings) (t .calls .proper) (sym d ∙ t .calls .last o c) in
+    let f = last-from (numberV n) (λ e. e .how ≡ byInstance (e .call) (numberV n)) (λ q. omega (arith, ap (λ (v : Value). v .kind) q)) (number-from n) o (h .endings) (t .calls .proper) (sym d ∙ t .calls .last o c) in
+    (f .0, f .1, f .2, omega (arith, last-counts o (f .0) (h .endings) (f .1), t .calls .once (f .0 .call)))
+
+-- and one that is Done with ServerErr
+pub failed-final : (st : State) (h : History) (o : ℕ) → Tied st h → isOpen st o ≡ false → operationIn (st .operations) o .done ≡ serverErrV
+    → (e : Ending) × (lastOn o (h .endings) ≡ some e) × (e .how ≡ byFailure (e .call)) × (endsOf (e .call) (h .endings) ≡ 1)
+failed-final st h o t c d =
+    let f = last-from serverErrV (λ e. e .how ≡ byFailure (e .call)) (λ q. omega (arith, ap (λ (v : Value). v .kind) q)) failure-from o (h .endings) (t .calls .proper) (sym d ∙ t .calls .last o c) in
     (f .0, f .1, f .2, omega (arith, last-counts o (f .0) (h .endings) (f .1), t .calls .once (f .0 .call)))
 
 -- ---- spawns of servers

@@ -20,7 +20,7 @@ use Rattle.state.specs.Parts.{noArea, noSlot}
 use Rattle.state.specs.Start.{startOf}
 use Rattle.state.specs.Tables.{noAreas, areaIn, slotIn, withArea, withSlot, withAreas, withSlots}
 use Rattle.rules.specs.Sound.{timesIn}
-use Rattle.effects.specs.Steps.{entering, entered, exiting, exited, called, closed, finishing, spawned}
+use Rattle.effects.specs.Steps.{entering, entered, exiting, exited, called, closed, finishing, spawned, failing}
 use Rattle.stays_sound.specs.Facts.{Sound, CanEnter, CanExit}
 use Rattle.rules.proofs.Configured.{areas-most}
 use Rattle.stays_sound.proofs.Told.{areas-length}
@@ -30,7 +30,7 @@ use Rattle.history.specs.History.{holderAfter, holderFrom, holderOf}
 use Rattle.history.specs.Promises.{HeldBy}
 use Rattle.history.proofs.Beside.{all-alike}
 use Rattle.history.proofs.Passes.{Unmoved}
-use Rattle.history.proofs.Deeds.{Moves, enters, exits, stays, Deed, pass, call, answer, late, end, server, plain, timeout, other-code}
+use Rattle.history.proofs.Deeds.{Moves, enters, exits, stays, Deed, pass, call, answer, late, end, server, plain, timeout, fail, other-code}
 use Rattle.history.proofs.Finals.{holder, no-holder}
 
 -- ---- the holder, step by step
@@ -86,6 +86,7 @@ moves cfg st s st′ g d = go d
     go (server c k y z e) = still c refl refl (record { areas = λ a. rw e; stacks = λ a k. rw e (one _ _ (st .slots) (spawn-stack cfg st (s .what) g z) a k) })
     go (plain c k y z e) = still c refl refl (record { areas = λ a. rw e; stacks = λ a k. rw e (one _ _ (st .slots) (spawn-stack cfg st (s .what) g z) a k) })
     go (timeout c z e) = still c refl refl (record { areas = λ a. rw e; stacks = λ a k. rw e })
+    go (fail c z e) = still c refl refl (record { areas = λ a. rw e; stacks = λ a k. rw e (one (s .who) (failing (slotIn (st .slots) (s .who))) (st .slots) (λ b. refl) a k) })
 
 -- ---- the holder in the state
 

@@ -1,14 +1,17 @@
--- What an accepted step was let through with, beyond its way: whoever takes it as an instance is in its slot (`taker-used`), and a result of a synchronous operation finds no call open there (`collected-shut`).
+-- What an accepted step was let through with, beyond its way: whoever takes it as an instance is in its slot (`taker-used`) and, if it has failed, does what is left to it (`failed-lets`), as it does if it is finished (`finished-lets`); and a result of a synchronous operation finds no call open there (`collected-shut`).
 -- Assumes nothing.
 use mathlib.Core.Bool.{Bool, true, false}
 use mathlib.Core.Path.{_≡_, refl}
-use Rattle.numbers.specs.Codes.{resultCode}
+use lib.Dec.{eqb}
+use Rattle.numbers.specs.Codes.{exitCode, resultCode, handBackCode, endCode}
+use Rattle.laws.specs.Choice.{both, either}
+use Rattle.laws.proofs.Choosing.{all-told}
 use Rattle.types.specs.Types.{Step, Taken, Config, State}
 use Rattle.config.specs.Tables.{operationConfIn}
 use Rattle.state.specs.Tables.{slotIn}
 use Rattle.rules.specs.Rows.{aSlot, rowOf}
-use Rattle.rules.specs.Refusals.{refusalOf}
-use Rattle.effects.specs.Steps.{isOpen, collectOf, resultOf}
+use Rattle.rules.specs.Refusals.{finishedLets, failedLets, lifeLets, refusalOf}
+use Rattle.effects.specs.Steps.{isOpen, collectOf, resultOf, hasFailed}
 use Rattle.effects.specs.Step.{stepOf}
 use Rattle.effects.proofs.Codes.{never, result, possible-by, possible-let}
 use Rattle.stays_sound.proofs.Says.{let-told}
@@ -20,6 +23,14 @@ module _ (cfg : Config) (st : State) (s : Step) (a : stepOf cfg st s .answer ≡
 
   pub taker-used : rowOf (s .code) .who ≡ aSlot → slotIn (st .slots) (s .who) .used ≡ true
   taker-used w = let-told cfg st s refl let-through w .used
+
+  pub failed-lets : rowOf (s .code) .who ≡ aSlot → hasFailed st (s .who) ≡ true → either (eqb (s .code) handBackCode) (either (eqb (s .code) exitCode) (eqb (s .code) endCode)) ≡ true
+  unfolding lifeLets failedLets
+  failed-lets w f = rw f at (all-told _ (let-told cfg st s refl let-through w .life) .1 .1 .0)
+
+  pub finished-lets : rowOf (s .code) .who ≡ aSlot → slotIn (st .slots) (s .who) .life .finished ≡ true → either (eqb (s .code) endCode) (both (hasFailed st (s .who)) (eqb (s .code) exitCode)) ≡ true
+  unfolding lifeLets finishedLets
+  finished-lets w f = rw f at (all-told _ (let-told cfg st s refl let-through w .life) .1 .0)
 
   pub collected-shut : s .code ≡ resultCode → operationConfIn (cfg .operations) (s .what) .asynchronous ≡ false → isOpen st (s .what) ≡ false
   unfolding resultOf collectOf

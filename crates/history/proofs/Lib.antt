@@ -19,6 +19,8 @@ pub mod Finals
 pub mod Held
 pub mod Unended
 pub mod Lives
+pub mod Backs
+pub mod Goes
 pub mod Reached
 pub mod Proofs
 pub mod Together

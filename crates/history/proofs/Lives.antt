@@ -19,13 +19,13 @@ use Rattle.config.specs.Tables.{runnableConfIn}
 use Rattle.state.specs.Parts.{noSlot}
 use Rattle.state.specs.Start.{startOf}
 use Rattle.state.specs.Tables.{noSlots, slotIn, runnableIn, withSlot}
-use Rattle.effects.specs.Steps.{called, closed, finishing, instanceOf, lowestEmpty, spawned}
+use Rattle.effects.specs.Steps.{called, closed, finishing, instanceOf, lowestEmpty, spawned, failing}
 use Rattle.stays_sound.specs.Facts.{Sound, CanSpawn}
 use Rattle.stays_sound.proofs.Told.{slots-length}
 use Rattle.stays_sound.proofs.Kept.{slot-kept, slot-inside, caller-kept}
 use Rattle.history.specs.History.{livesAfter, livesFrom, livesIn}
 use Rattle.history.proofs.Beside.{all-alike, set-each}
-use Rattle.history.proofs.Deeds.{Deed, pass, call, answer, late, end, server, plain, timeout, other-code}
+use Rattle.history.proofs.Deeds.{Deed, pass, call, answer, late, end, server, plain, timeout, fail, other-code}
 
 -- ---- who lives there, step by step
 
@@ -115,3 +115,4 @@ lives-deed cfg st s st′ rs g d l = go d
     go (server c k y z e) = rw e (comes c k z)
     go (plain c k y z e) = rw e (comes c k z)
     go (timeout c z e) = same c refl refl (λ i. rw e)
+    go (fail c z e) = same c refl refl (λ i. rw e (slot-kept (λ y. y .used) (st .slots) (s .who) (failing (slotIn (st .slots) (s .who))) refl i))

@@ -11,9 +11,9 @@ use Rattle.numbers.specs.Codes.{callCode}
 use Rattle.laws.proofs.Places.{put-each}
 use Rattle.types.specs.Types.{Step, Config, State}
 use Rattle.values.specs.Values.{okV}
-use Rattle.history.specs.History.{noRequest, How, byTimeout, History, nothing, passed, begins, closes, takes, takesOldest, takenBy, latestOn, observe, Started}
+use Rattle.history.specs.History.{noRequest, How, byTimeout, History, nothing, passed, begins, closes, fails, takes, takesOldest, takenBy, latestOn, observe, Started}
 use Rattle.history.proofs.Beside.{all-alike}
-use Rattle.history.proofs.Deeds.{Deed, pass, call, answer, late, end, server, plain, timeout, pass-adds, call-adds, answer-adds, late-adds, end-adds, server-adds, plain-adds, timeout-adds}
+use Rattle.history.proofs.Deeds.{Deed, pass, call, answer, late, end, server, plain, timeout, fail, pass-adds, call-adds, answer-adds, late-adds, end-adds, server-adds, plain-adds, timeout-adds, fail-adds}
 
 -- ---- steps at their places
 
@@ -58,6 +58,9 @@ module _ (rs : List Step) (h : History) (s : Step) (n : Named rs h) where
   named-closed : (o : ℕ) (w : How) → Named (rs ++ (s ∷ [])) (closes h o w)
   named-closed o w = record { place = next; latest = keeps }
 
+  named-fails : (i : ℕ) → Named (rs ++ (s ∷ [])) (fails h i)
+  named-fails i = record { place = next; latest = keeps }
+
   named-takes : (i : ℕ) → Named (rs ++ (s ∷ [])) (takes h i noRequest)
   named-takes i = record { place = next; latest = keeps }
 
@@ -73,3 +76,4 @@ named-deed cfg st s st′ rs h (end c z e) n = rw (end-adds cfg h s c) (named-ta
 named-deed cfg st s st′ rs h (server c k y z e) n = rw (server-adds cfg h s c y) (named-oldest rs h s n (s .claim .number) (s .what))
 named-deed cfg st s st′ rs h (plain c k y z e) n = rw (plain-adds cfg h s c y) (named-takes rs h s n (s .claim .number))
 named-deed cfg st s st′ rs h (timeout c z e) n = rw (timeout-adds cfg h s c) (named-closed rs h s n (s .what) byTimeout)
+named-deed cfg st s st′ rs h (fail c z e) n = rw (fail-adds cfg h s c) (named-fails rs h s n (s .who))

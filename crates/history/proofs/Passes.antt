@@ -4,7 +4,7 @@
 -- But for enter, exit, tick and wait they leave areas, stacks and timers as they were too (`Calm`).
 -- Assumes nothing.
 use Prim.Native.Nat.{ℕ, _-_, _≤_, _<_}
-use mathlib.Core.Bool.{true}
+use mathlib.Core.Bool.{true, false}
 use mathlib.Core.Path.{_≡_, refl}
 use native.Mathlib.Nat.{add-zero}
 use native.Mathlib.Omega.{arith}
@@ -19,7 +19,7 @@ use Rattle.rules.specs.Sound.{timesIn, operationSound, operationsSound}
 use Rattle.effects.specs.Steps.{stored, entered, exited, fed, isOpen, runningOn, collected, woken, ticked, operationLets, operationsLet, operationAfter, operationsAfter, waited}
 use Rattle.stays_sound.specs.Facts.{Sound, CanWait}
 use Rattle.stays_sound.proofs.Told.{operations-length}
-use Rattle.stays_sound.proofs.Kept.{runnable-kept, slot-kept, fed-kept, after-kept, waited-kept}
+use Rattle.stays_sound.proofs.Kept.{runnable-kept, slot-kept, slot-has, fed-kept, after-kept, waited-kept}
 use Rattle.stays_sound.proofs.Operations.{calls-told}
 use Rattle.stays_sound.proofs.Clients.{calling-inside}
 use Rattle.history.proofs.Tied.{SameCalls, Alike}
@@ -28,7 +28,7 @@ pub same-calls : (os : Operations) → SameCalls 0 os os
 same-calls os = record { number = λ o. refl; calling = λ o. refl; done = λ o. refl; count = λ o e. add-zero _ }
 
 pub alike-same : (st : State) → Alike 0 st st
-alike-same st = record { operations = same-calls (st .operations); requests = λ r. refl; owed = λ k. refl; used = λ k. refl }
+alike-same st = record { operations = same-calls (st .operations); requests = λ r. refl; owed = λ k. refl; failed = λ k. refl; finished = λ k. refl; running = λ k r. r; used = λ k. refl }
 
 -- areas and stacks are as they were
 pub record Unmoved (st st′ : State) : Type 0 where
@@ -55,36 +55,39 @@ still st st′ e f g a = record { alike = a; unmoved = unmoved-by st st′ e f; 
 -- ---- variables and elements
 
 pub write-variable-calm : (st : State) (v : ℕ) (x : Value) → Calm 0 st (stored st v x)
-write-variable-calm st v x = still st _ refl refl refl (record { operations = same-calls (st .operations); requests = λ r. refl; owed = λ k. refl; used = λ k. refl })
+write-variable-calm st v x = still st _ refl refl refl (record { operations = same-calls (st .operations); requests = λ r. refl; owed = λ k. refl; failed = λ k. refl; finished = λ k. refl; running = λ k r. r; used = λ k. refl })
 
 -- other elements, as after a read, an invalidate and a receive
 pub elements-calm : (st : State) (t : Elements) → Calm 0 st (withElements st t)
-elements-calm st t = still st _ refl refl refl (record { operations = same-calls (st .operations); requests = λ r. refl; owed = λ k. refl; used = λ k. refl })
+elements-calm st t = still st _ refl refl refl (record { operations = same-calls (st .operations); requests = λ r. refl; owed = λ k. refl; failed = λ k. refl; finished = λ k. refl; running = λ k r. r; used = λ k. refl })
 
 pub fed-calm : (cfg : Config) (st : State) (p : ℕ) (v : Value) → Calm 0 st (fed cfg st p v)
 unfolding fed
-fed-calm cfg st p v = still st _ refl refl refl (record { operations = same-calls (st .operations); requests = fed-kept (λ x. x .requests) (λ x. refl) cfg (st .elements) p (st .runnables); owed = λ k. refl; used = λ k. refl })
+fed-calm cfg st p v = still st _ refl refl refl (record { operations = same-calls (st .operations); requests = fed-kept (λ x. x .requests) (λ x. refl) cfg (st .elements) p (st .runnables); owed = λ k. refl; failed = λ k. refl; finished = λ k. refl; running = λ k r. r; used = λ k. refl })
 
--- ---- a slot that owes what it owed
+-- ---- a slot that owes what it owed, has failed and is finished as before, and does not begin to wait
 
-slot-alike : (st m : State) (i : ℕ) (x : Slot) → m .operations ≡ st .operations → m .runnables ≡ st .runnables → x .owed ≡ slotIn (st .slots) i .owed → x .used ≡ slotIn (st .slots) i .used
-    → Alike 0 st (withSlots m (withSlot (st .slots) i x))
-slot-alike st m i x e f o u = record {
+slot-alike : (st m : State) (i : ℕ) (x : Slot) → m .operations ≡ st .operations → m .runnables ≡ st .runnables → x .owed ≡ slotIn (st .slots) i .owed → x .life .failed ≡ slotIn (st .slots) i .life .failed → x .life .finished ≡ slotIn (st .slots) i .life .finished
+    → (slotIn (st .slots) i .life .waiting ≡ false → x .life .waiting ≡ false) → x .used ≡ slotIn (st .slots) i .used → Alike 0 st (withSlots m (withSlot (st .slots) i x))
+slot-alike st m i x e f o l n w u = record {
   operations = rw e (same-calls (st .operations));
   requests = λ r. rw f;
   owed = slot-kept (λ y. y .owed) (st .slots) i x o;
+  failed = slot-kept (λ y. y .life .failed) (st .slots) i x l;
+  finished = slot-kept (λ y. y .life .finished) (st .slots) i x n;
+  running = slot-has (λ k y. slotIn (st .slots) k .life .waiting ≡ false → y .life .waiting ≡ false) (st .slots) i x w (λ k r. r);
   used = slot-kept (λ y. y .used) (st .slots) i x u;
 }
 
 pub enter-alike : (st : State) (i a : ℕ) → Alike 0 st (entered st i a)
-enter-alike st i a = slot-alike st (withAreas st _) i _ refl refl refl refl
+enter-alike st i a = slot-alike st (withAreas st _) i _ refl refl refl refl refl (λ r. r) refl
 
 pub exit-alike : (st : State) (i a : ℕ) → Alike 0 st (exited st i a)
-exit-alike st i a = slot-alike st (withAreas st _) i _ refl refl refl refl
+exit-alike st i a = slot-alike st (withAreas st _) i _ refl refl refl refl refl (λ r. r) refl
 
 pub collect-calm : (st : State) (i : ℕ) → Calm 0 st (collected st i)
 collect-calm st i = record {
-  alike = slot-alike st st i _ refl refl refl refl;
+  alike = slot-alike st st i _ refl refl refl refl refl (λ r. refl) refl;
   unmoved = record { areas = λ a. refl; stacks = λ a. slot-kept (λ x. timesIn a (x .stack)) (st .slots) i (runningOn (slotIn (st .slots) i)) refl };
   timers = refl;
 }
@@ -96,6 +99,9 @@ tick-alike cfg st t = record {
   operations = same-calls (st .operations);
   requests = runnable-kept (λ x. x .requests) (st .runnables) (timerConfIn (cfg .timers) t .runnable) (woken (runnableIn (st .runnables) (timerConfIn (cfg .timers) t .runnable))) refl;
   owed = λ k. refl;
+  failed = λ k. refl;
+  finished = λ k. refl;
+  running = λ k r. r;
   used = λ k. refl;
 }
 
@@ -132,7 +138,7 @@ module _ (cfg : Config) (st : State) (t : ℕ) (g : Sound cfg st) (z : CanWait c
 
   pub wait-alike : Alike t st (waited cfg st t)
   unfolding waited
-  wait-alike = record { operations = wait-calls; requests = after-kept (λ x. x .requests) t (λ x. refl) cfg (st .runnables); owed = λ k. refl; used = λ k. refl }
+  wait-alike = record { operations = wait-calls; requests = after-kept (λ x. x .requests) t (λ x. refl) cfg (st .runnables); owed = λ k. refl; failed = λ k. refl; finished = λ k. refl; running = λ k r. r; used = λ k. refl }
 
   pub wait-unmoved : Unmoved st (waited cfg st t)
   unfolding waited

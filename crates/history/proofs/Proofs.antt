@@ -13,7 +13,8 @@ use lib.ListN.{length, getD, length-drop}
 use lib.Seq.{getD-drop}
 use borrow.Author.Tests.{ltb-true, ltb-false, lt-ltb, eq-eqb}
 use Rattle.laws.specs.Choice.{bit}
-use Rattle.types.specs.Types.{Step, Taken, Config, State}
+use Rattle.types.specs.Types.{Value, Step, Taken, Config, State}
+use Rattle.values.specs.Values.{numberV, serverErrV}
 use Rattle.entries.specs.Faults.{isServer, configSound}
 use Rattle.state.specs.Start.{startOf}
 use Rattle.state.specs.Tables.{slotIn}
@@ -27,16 +28,17 @@ use Rattle.stays_sound.proofs.Clients.{requests-told}
 use Rattle.stays_sound.proofs.Ways.{Way}
 use Rattle.stays_sound.proofs.Accepted.{way, enter-told, exit-told, result-told, answer-told, end-told, spawn-told, timeout-told, tick-told}
 use Rattle.history.specs.History.{noRequest, History, historyOf, takenBy, latestOn, endsOf, isUnended, livesIn, holderOf, allQueued, allSpawns}
-use Rattle.history.specs.Promises.{Run, OfRuns, OfSteps, StaysSound, HeldBy, AreasHeld, EntersFree, ExitsHeld, EndsEmpty, SpawnsEmpty, ActsAlive, HolderStays, RequestsFit, ValuesFit, CallsOneByOne, BackIsAnswered, EndsOnce, EndsProperly, TimeoutAtZero, TimeoutInTime, BackInTime, OpenInTime, TicksInTime, TimersInTime, ResultIsDelivered, DoneIsDelivered, NumberIsFinal, DoneIsFinal, UsedIsLived, OpenIsUnended, UnendedIsLatest, LatestStarted, CountIsRest, QueuesFollowed, ServedFollowed, FirstInFirstOut, SpawnTakesNext}
+use Rattle.history.specs.Promises.{Run, OfRuns, OfSteps, StaysSound, HeldBy, AreasHeld, EntersFree, ExitsHeld, EndsEmpty, SpawnsEmpty, ActsAlive, HolderStays, FailedStops, BackIsLast, EndsPaid, FailedGoesOn, RequestsFit, ValuesFit, CallsOneByOne, BackIsAnswered, EndsOnce, EndsProperly, TimeoutAtZero, TimeoutInTime, BackInTime, OpenInTime, TicksInTime, TimersInTime, ResultIsDelivered, DoneIsDelivered, NumberIsFinal, DoneIsFinal, FailureIsFinal, DoneIsFailure, UsedIsLived, FailedFollowed, FinishedFollowed, OpenIsUnended, UnendedIsLatest, LatestStarted, CountIsRest, QueuesFollowed, ServedFollowed, FirstInFirstOut, SpawnTakesNext}
 use Rattle.history.proofs.Runs.{Halves, halves, first, history-one}
 use Rattle.history.proofs.Deeds.{due-server}
 use Rattle.history.proofs.Ended.{ended-at, answer-latest}
-use Rattle.history.proofs.Reached.{sound-along, sound-at, tied-at, named-at, fifo-at, timed-at, ticked-at, ended-along, holds-at, unended-at, lives-at, ends-grow}
-use Rattle.history.proofs.Lets.{taker-used, collected-shut}
+use Rattle.history.proofs.Reached.{sound-along, sound-at, tied-at, named-at, fifo-at, timed-at, ticked-at, ended-along, holds-at, unended-at, lives-at, backs-at, runs-at, paid-at, ends-grow}
+use Rattle.history.proofs.Lets.{taker-used, failed-lets, finished-lets, collected-shut}
 use Rattle.history.proofs.Unended.{started-some}
 use Rattle.history.proofs.Lives.{lives-one, lives-on}
+use Rattle.history.proofs.Goes.{back-open, exit-open, end-open}
 use Rattle.history.proofs.Held.{Holds, held-by, free-none, stack-holder}
-use Rattle.history.proofs.Finals.{values-told, open-unended, call-alone, back-way, result-delivered, done-final, took-oldest}
+use Rattle.history.proofs.Finals.{values-told, open-unended, call-alone, back-way, back-failed, result-delivered, done-final, failed-final, took-oldest}
 
 -- ---- a step inside a recording
 
@@ -77,7 +79,7 @@ exits-held cfg before after s st c e q =
     let m = found cfg before after s st c e in
     let z = exit-told cfg (m .mid) s (way-there cfg before after s st c e q) in
     stack-holder cfg (m .mid) (s .what) g (omega (arith, z .inside, areas-most cfg c)) (holderOf (s .what) before) (s .who) (holds-at cfg before (m .mid) (s .what) (m .before))
-    (here cfg (m .mid) (s .who) g (z .who .there)) (omega (arith, exit-stack cfg (m .mid) (s .who) (s .what) z (s .what), ap bit (eq-eqb (s .what) (s .what) refl)))
+    (here cfg (m .mid) (s .who) g (z .there)) (omega (arith, exit-stack cfg (m .mid) (s .who) (s .what) z (s .what), ap bit (eq-eqb (s .what) (s .what) refl)))
 
 pub ends-empty : OfSteps EndsEmpty
 ends-empty cfg before after s st c e q a b h =
@@ -115,6 +117,31 @@ holder-stays cfg before after s st c e a i b h = (
 
     lives : 0 < livesIn i before
     lives = ltb-true 0 (livesIn i before) (sym (lives-at cfg before (m .mid) (m .before) .used i) ∙ held .2)
+
+pub failed-stops : OfSteps FailedStops
+failed-stops cfg before after s st c e w f =
+    let m = found cfg before after s st c e in
+    let g = tied-at cfg before (m .mid) (m .before) .failed .each (s .who) ∙ f in
+    (failed-lets cfg (m .mid) s (taken-there cfg before after s st c e) w g, λ q. back-failed cfg (m .mid) s g (way-there cfg before after s st c e q))
+
+pub back-is-last : OfSteps BackIsLast
+back-is-last cfg before after s st c e w f =
+    let m = found cfg before after s st c e in
+    rw (tied-at cfg before (m .mid) (m .before) .failed .each (s .who)) at
+    (finished-lets cfg (m .mid) s (taken-there cfg before after s st c e) w (backs-at cfg before (m .mid) (m .before) .finished (s .who) ∙ f))
+
+pub ends-paid : OfSteps EndsPaid
+ends-paid cfg before after s st c e q l =
+    let m = found cfg before after s st c e in
+    let z = end-told cfg (m .mid) s (way-there cfg before after s st c e q) in
+    sym (backs-at cfg before (m .mid) (m .before) .finished (s .who)) ∙ (rw (z .none) at (paid-at cfg before (m .mid) (m .before) .each (s .who) l))
+
+pub failed-goes-on : OfRuns FailedGoesOn
+failed-goes-on cfg rs st c e i b f =
+    let g = sound-at cfg rs st c e in
+    let h = tied-at cfg rs st e .failed .each i ∙ f in
+    let r = runs-at cfg rs st e .running i h in
+    (back-open cfg st g i b h r, exit-open cfg st g i b h r, end-open cfg st g i b h r)
 
 pub requests-fit : OfRuns RequestsFit
 requests-fit cfg rs st c e r b = requests-told cfg st r (sound-at cfg rs st c e) b .0
@@ -195,17 +222,33 @@ done-is-delivered cfg rs st c e o b q = let t = tied-at cfg rs st e in (t .calls
 pub number-is-final : OfSteps NumberIsFinal
 number-is-final cfg before after s st c e n q k =
     let m = found cfg before after s st c e in
-    let r = result-told cfg (m .mid) s n k (way-there cfg before after s st c e q) in
+    let r = result-told cfg (m .mid) s (numberV n) k (λ x. omega (arith, ap (λ (v : Value). v .kind) x)) (way-there cfg before after s st c e q) in
     let f = done-final (m .mid) (historyOf cfg before) (s .what) n (tied-at cfg before (m .mid) (m .before)) (r .0) (r .1) in
     (f .0, f .1, f .2, omega (arith, f .3, ends-grow cfg before (s ∷ after) (f .0 .call), ends-once cfg (before ++ (s ∷ after)) st c e (f .0 .call)))
 
 pub done-is-final : OfRuns DoneIsFinal
 done-is-final cfg rs st c e o n b x y = done-final st (historyOf cfg rs) o n (tied-at cfg rs st e) x y
 
+pub failure-is-final : OfSteps FailureIsFinal
+failure-is-final cfg before after s st c e q k =
+    let m = found cfg before after s st c e in
+    let r = result-told cfg (m .mid) s serverErrV k (λ x. omega (arith, ap (λ (v : Value). v .kind) x)) (way-there cfg before after s st c e q) in
+    let f = failed-final (m .mid) (historyOf cfg before) (s .what) (tied-at cfg before (m .mid) (m .before)) (r .0) (r .1) in
+    (f .0, f .1, f .2, omega (arith, f .3, ends-grow cfg before (s ∷ after) (f .0 .call), ends-once cfg (before ++ (s ∷ after)) st c e (f .0 .call)))
+
+pub done-is-failure : OfRuns DoneIsFailure
+done-is-failure cfg rs st c e o b x y = failed-final st (historyOf cfg rs) o (tied-at cfg rs st e) x y
+
 -- ---- that the history misses and invents nothing
 
 pub used-is-lived : OfRuns UsedIsLived
 used-is-lived cfg rs st c e i b = lives-at cfg rs st e .used i
+
+pub failed-followed : OfRuns FailedFollowed
+failed-followed cfg rs st c e i b = tied-at cfg rs st e .failed .each i
+
+pub finished-followed : OfRuns FinishedFollowed
+finished-followed cfg rs st c e i b = backs-at cfg rs st e .finished i
 
 pub open-is-unended : OfRuns OpenIsUnended
 open-is-unended cfg rs st c e o b = open-unended st (historyOf cfg rs) o (tied-at cfg rs st e)

@@ -1,7 +1,8 @@
 -- What holds of every run and the state that it reaches, each by the one induction over the recording (`along`): the state is sound (`sound-at`) and tied to the
 -- history (`tied-at`), the history's places are started calls (`named-at`), each server's queue is first in, first out (`fifo-at`), the counts of open calls are
 -- what is left of their time (`timed-at`), as those of timers are of their periods (`ticked-at`), each ending stands at its step, in time (`ended-along`), areas stand with whoever entered
--- them (`holds-at`), a call without an ending is the latest of its operation (`unended-at`), and a slot is in use while an instance lives there (`lives-at`).
+-- them (`holds-at`), a call without an ending is the latest of its operation (`unended-at`), a slot is in use while an instance lives there (`lives-at`), is
+-- finished once it has handed back (`backs-at`), does not wait if it has failed (`runs-at`), and owes an answer or has given it if it was spawned for a call (`paid-at`).
 -- Endings are only added: a call has ended at least as often after more steps (`ends-grow`).
 -- Assumes nothing.
 use Prim.Native.Nat.{ℕ, _≤_, _<_}
@@ -32,6 +33,7 @@ use Rattle.history.proofs.Ticked.{Ticked, ticked-start, clocks, ticked-
 use Rattle.history.proofs.Ended.{AllEnded, ended-start, ended-deed}
 use Rattle.history.proofs.Unended.{Unended, grows, unended-start, unended-deed}
 use Rattle.history.proofs.Lives.{Lives, lives-start, lives-deed}
+use Rattle.history.proofs.Backs.{Backs, backs-start, backs-deed, Runs, runs-start, runs-deed, Paid, paid-start, paid-deed}
 use Rattle.history.proofs.Held.{Holds, holder-one, moves, holds-start, holds-deed}
 
 -- ---- by induction over the recording
@@ -111,6 +113,24 @@ lives-at cfg rs st e =
     along cfg (λ before m. Lives (m .slots) before)
     (λ before s m r l a. lives-deed cfg m s (stepOf cfg m s .state) before (told cfg m (accepted cfg m s (s .claim) a .0)) (deed cfg m s a) l)
     (lives-start cfg) rs st e
+
+pub backs-at : (cfg : Config) (rs : List Step) (st : State) → Run cfg rs st → Backs (st .slots) rs
+backs-at cfg rs st e =
+    along cfg (λ before m. Backs (m .slots) before)
+    (λ before s m r l a. backs-deed cfg m s (stepOf cfg m s .state) before (told cfg m (accepted cfg m s (s .claim) a .0)) (deed cfg m s a) l)
+    (backs-start cfg) rs st e
+
+pub runs-at : (cfg : Config) (rs : List Step) (st : State) → Run cfg rs st → Runs (st .slots)
+runs-at cfg rs st e = along cfg (λ before m. Runs (m .slots)) (λ before s m r l a. runs-deed cfg m s (stepOf cfg m s .state) (deed cfg m s a) l) (runs-start cfg) rs st e
+
+pub paid-at : (cfg : Config) (rs : List Step) (st : State) → Run cfg rs st → Paid (st .slots) (historyOf cfg rs .taken)
+unfolding historyOf historyFrom
+paid-at cfg rs st e =
+    along cfg (λ before m. Paid (m .slots) (historyOf cfg before .taken))
+    (λ before s m r l a.
+    rw (history-one cfg before s)
+    (paid-deed cfg m s (stepOf cfg m s .state) (historyOf cfg before) (told cfg m (accepted cfg m s (s .claim) a .0)) (deed cfg m s a) (tied-at cfg before m r) l))
+    (paid-start cfg) rs st e
 
 -- ---- endings are only added
 

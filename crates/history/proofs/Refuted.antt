@@ -1,19 +1,22 @@
--- Steps that no machine accepts which keeps the promises: those that four wrong machines of docs/machines.md accept, each with the promises that fail of them, whatever state they reach. The instance in the slot 0
+-- Steps that no machine accepts which keeps the promises: those that seven wrong machines of docs/machines.md accept, each with the promises that fail of them, whatever state they reach. The instance in the slot 0
 -- is of the runnable 0, which is plain; it calls the operation 0, which is asynchronous, and enters the area 0.
+-- The instance in the slot 1 is of the runnable 1, the server of that operation; it was spawned for the call.
 -- Assumes nothing.
 use Prim.Native.Nat.{ℕ, _<_}
-use mathlib.Core.Bool.{false}
+use mathlib.Core.Bool.{true, false}
 use mathlib.Core.List.{[], _∷_}
 use mathlib.Core.Path.{_≡_, refl, ap}
 use native.Mathlib.Omega.{arith}
-use Rattle.numbers.specs.Codes.{enterCode, callCode, resultCode, spawnCode, timeoutCode, tickCode, waitCode}
+use Rattle.numbers.specs.Codes.{writeVariableCode, enterCode, callCode, resultCode, handBackCode, spawnCode, timeoutCode, tickCode, waitCode, failCode}
+use Rattle.laws.proofs.Choosing.{clash}
 use Rattle.types.specs.Types.{Value, Step, Config, State}
 use Rattle.values.specs.Values.{voidV, numberV, okV, limitV, timeoutV, sameValue}
 use Rattle.config.specs.Tables.{operationConfIn}
 use Rattle.entries.specs.Faults.{isServer}
 use Rattle.state.specs.Tables.{operationIn}
+use Rattle.rules.specs.Rows.{rows, rowOf}
 use Rattle.history.specs.History.{nothing, observe, historyFrom, historyOf, endsOf, lastOn, isUnended, Started, timeOf, timeIn, livesAfter, livesFrom, livesIn, holderAfter, holderFrom, holderOf}
-use Rattle.history.specs.Promises.{SpawnsEmpty, HolderStays, CallsOneByOne, OpenInTime, ResultIsDelivered, DoneIsDelivered, UnendedIsLatest}
+use Rattle.history.specs.Promises.{SpawnsEmpty, FailedStops, HolderStays, CallsOneByOne, EndsOnce, OpenInTime, ResultIsDelivered, DoneIsDelivered, UnendedIsLatest}
 
 -- a step on the part 0, by the instance in the slot 0 or by the scheduler
 abbrev step : ℕ → Value → Value → Step
@@ -64,3 +67,41 @@ module _ (cfg : Config) (st : State) (q : isServer cfg 0 ≡ false) where
       → DoneIsDelivered cfg (spawns ∷ calls ∷ waits t ∷ step timeoutCode voidV voidV ∷ gets timeoutV ∷ []) st → ⊥
   unfolding historyOf historyFrom observe nothing sameValue lastOn
   result-clears-done t c e h = omega (arith, ap (λ (v : Value). v .kind) (rw e at (h 0 (omega arith) c .0)))
+
+-- ---- an instance that has failed
+
+-- a step of the instance in the slot 1
+abbrev served : ℕ → Value → Value → Step
+served n v w = record { code = n; who = 1; what = 0; argument = v; claim = w }
+
+-- the server is spawned into the slot 1
+abbrev serves : Step
+serves = record { code = spawnCode; who = 0; what = 1; argument = voidV; claim = numberV 1 }
+
+abbrev fails : Step
+fails = served failCode voidV voidV
+
+-- it hands back v, answered 1
+abbrev backs : Value → Step
+backs v = served handBackCode v (numberV 1)
+
+module _ (cfg : Config) (st : State) (q : isServer cfg 0 ≡ false) (y : isServer cfg 1 ≡ true) (e : operationConfIn (cfg .operations) 0 .server ≡ 1) where
+  -- `late_failure_delivered`: the call has ended by its timeout, and ends again
+  pub late-failure-delivered : (t : ℕ) → EndsOnce cfg (spawns ∷ calls ∷ serves ∷ waits t ∷ step timeoutCode voidV voidV ∷ fails ∷ backs voidV ∷ []) st → ⊥
+  unfolding historyOf historyFrom observe nothing sameValue endsOf
+  late-failure-delivered t h = omega (arith, rw (q, y, e) at (h 2))
+
+  -- `failed_writes`: the instance that has failed writes the variable 0
+  pub failed-writes : FailedStops cfg (spawns ∷ calls ∷ serves ∷ fails ∷ []) (served writeVariableCode (numberV 7) voidV) [] → ⊥
+  unfolding historyOf historyFrom observe nothing sameValue rowOf rows
+  failed-writes h = clash false (h refl (rw (q, y)) .0) refl
+
+  -- `failed_number_taken` and `failed_number_delivered`: it hands back a number
+  pub failed-number-taken : (n : ℕ) → FailedStops cfg (spawns ∷ calls ∷ serves ∷ fails ∷ []) (backs (numberV n)) [] → ⊥
+  unfolding historyOf historyFrom observe nothing sameValue rowOf rows
+  failed-number-taken n h = omega (arith, ap (λ (v : Value). v .kind) (h refl (rw (q, y)) .1 refl))
+
+  -- and the client gets it
+  pub failed-number-delivered : (n : ℕ) → ResultIsDelivered cfg (spawns ∷ calls ∷ serves ∷ fails ∷ backs (numberV n) ∷ []) (gets (numberV n)) [] → ⊥
+  unfolding historyOf historyFrom observe nothing sameValue endsOf lastOn isUnended
+  failed-number-delivered n h = omega (arith, ap (λ (v : Value). v .kind) (rw (q, y, e) at (h refl .0)))

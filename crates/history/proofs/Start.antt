@@ -1,9 +1,9 @@
--- The start state is tied to the history before any step: no request waits (`no-requests`), no slot serves and no operation is Calling.
+-- The start state is tied to the history before any step: no request waits (`no-requests`), no slot serves or has failed and no operation is Calling.
 -- Assumes nothing.
 use Prim.Native.Nat.{ℕ, _+_, _≤_, _<_}
-use mathlib.Core.Bool.{true, false}
+use mathlib.Core.Bool.{Bool, true, false}
 use mathlib.Core.List.{[]}
-use mathlib.Core.Path.{_≡_, refl}
+use mathlib.Core.Path.{_≡_, refl, sym, _∙_}
 use native.Mathlib.Omega.{arith}
 use lib.ListN.{getD, replicate}
 use Rattle.laws.specs.Choice.{bit}
@@ -28,6 +28,10 @@ no-requests cfg r =
 none-serves : (k : ℕ) → slotIn noSlots k .owed .serving ≡ false
 unfolding slotIn noSlots noSlot
 none-serves k = all-alike (λ y. y .owed .serving ≡ false) 32 noSlot k refl
+
+none-failed : (k : ℕ) → slotIn noSlots k .life .failed ≡ false
+unfolding slotIn noSlots noSlot
+none-failed k = all-alike (λ y. y .life .failed ≡ false) 32 noSlot k refl
 
 calls-start : Calls noOperations (nothing .latest) (nothing .endings) (nothing .place)
 unfolding noOperations operationIn nothing endsOf lastOn AllProper
@@ -56,4 +60,5 @@ tied-start cfg = record {
   };
   served = record { size = refl; each = λ k e. absurd (clash _ e (none-serves k)) };
   calls = calls-start;
+  failed = record { size = refl; each = λ k. none-failed k ∙ sym (all-alike (λ (b : Bool). b ≡ false) 32 false k refl) };
 }

@@ -2,7 +2,7 @@
 -- A call that ends asks nothing more of its operation's tags, and the client under its number is that of the call that ended (`tag-close`). A call that starts is of an operation that is not Calling, so no client bears its
 -- number yet (`shut-number`, from a sound state) and every other tag stands (`tag-open`); the new client is tagged with the new call (`tag-new`), and both
 -- join the end of their queues (`queues-push`). A spawn takes the oldest of both (`oldest-tag`, `queues-pop`) and puts them side by side on its slot
--- (`served-put`); a slot that owes nothing asks nothing (`served-idle`).
+-- (`served-put`); a slot that owes nothing asks nothing (`served-idle`). A slot whose instance has failed, or a new one that has not, is followed so (`failed-put`).
 -- Assumes nothing.
 use Prim.Native.Nat.{ℕ, _+_, _≤_, _<_}
 use mathlib.Core.Bool.{Bool, true, false}
@@ -24,7 +24,7 @@ use Rattle.rules.specs.Sound.{numbered}
 use Rattle.stays_sound.specs.Facts.{Clients}
 use Rattle.history.specs.History.{Request, noRequest, Ending, endsOf}
 use Rattle.history.proofs.Beside.{set-each, set-both, Beside, beside-push, beside-pop}
-use Rattle.history.proofs.Tied.{Tag, Queues, Served, queues-map, served-map}
+use Rattle.history.proofs.Tied.{Tag, Queues, Served, Failed, queues-map, served-map}
 use Rattle.history.proofs.Calls.{ends-more, operation-each, operation-both}
 
 -- ---- a place with a request or a client is inside its table
@@ -170,3 +170,11 @@ module _ (os : Operations) (latest : List ℕ) (es : List Ending) (ss : Slots) (
     size = h .size;
     each = set-each (λ j y. y .owed .serving ≡ true → Tag os latest es (y .owed .client) (getD ts j noRequest)) (ss .at) k x noSlot b (λ z. absurd (clash (x .owed .serving) z e)) (λ j n. h .each j);
   }
+
+-- and with whether it has failed
+pub failed-put : (ss : Slots) (fs : List Bool) (k : ℕ) (x : Slot) (b : Bool) → Failed ss fs → k < length (ss .at) → k < 32 → x .life .failed ≡ b → Failed (withSlot ss k x) (set fs k b)
+unfolding slotIn withSlot
+failed-put ss fs k x b h l c e = record {
+  size = length-set fs k b ∙ h .size;
+  each = set-both (λ j y z. y .life .failed ≡ z) (ss .at) fs k x noSlot b false l (omega (arith, h .size)) e (λ j n. h .each j);
+}

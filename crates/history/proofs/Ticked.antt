@@ -30,7 +30,7 @@ use Rattle.stays_sound.proofs.Told.{timers-length}
 use Rattle.history.specs.History.{timeOf, timeIn, timeSince, tickFrom, lastTick}
 use Rattle.history.proofs.Beside.{all-alike}
 use Rattle.history.proofs.Timed.{since-more, since-now, still}
-use Rattle.history.proofs.Deeds.{Clocks, ticks, waits, keeps, Deed, pass, call, answer, late, end, server, plain, timeout, other-code}
+use Rattle.history.proofs.Deeds.{Clocks, ticks, waits, keeps, Deed, pass, call, answer, late, end, server, plain, timeout, fail, other-code}
 
 -- ---- the last tick, step by step
 
@@ -135,6 +135,7 @@ clocks cfg st s st′ d = go d
     go (server c k y z e) = same c refl refl (rw e)
     go (plain c k y z e) = same c refl refl (rw e)
     go (timeout c z e) = same c refl refl (rw e)
+    go (fail c z e) = same c refl refl (rw e)
 
 pub ticked-deed : (cfg : Config) (st : State) (s : Step) (st′ : State) (rs : List Step) → Sound cfg st → Clocks cfg st s st′ → Ticked cfg (st .timers) rs → Ticked cfg (st′ .timers) (rs ++ (s ∷ []))
 unfolding waited

@@ -1,29 +1,31 @@
 -- The tie between a state and the history of the recording that led to it (`Tied`), and what leaves it alone.
--- Three parts, each over only the tables that it reads. `Queues`: beside each client in a server's queue stands the request followed. `Served`: beside each
+-- Four parts, each over only the tables that it reads. `Queues`: beside each client in a server's queue stands the request followed. `Served`: beside each
 -- client on an instance stands the request that its spawn took. `Tag` says what a client and a request beside it share: one operation and, while that is
--- Calling under the client's number, its latest call; and it is so as long as that call has no ending. Here alone numbers meet places, and by equality only. `Calls`: how operations and the endings stand.
--- The tie reads of an operation its number, whether it is Calling and what it holds, of a runnable its requests, of a slot what it owes. States that agree
+-- Calling under the client's number, its latest call; and it is so as long as that call has no ending. Here alone numbers meet places, and by equality only. `Calls`: how operations and the endings stand. `Failed`: an instance has failed exactly if the history says so.
+-- The tie reads of an operation its number, whether it is Calling and what it holds, of a runnable its requests, of a slot what it owes and whether it has failed. States that agree
 -- in those (`Alike`) are tied to the same history, one step later (`tied-alike`). `Alike` also says how much time lies between the two, and that the same slots are in use.
 -- Assumes nothing.
 use Prim.Native.Nat.{ℕ, _+_, _≤_, _<_}
-use mathlib.Core.Bool.{true, false}
+use mathlib.Core.Bool.{Bool, true, false}
 use mathlib.Core.List.{List, [], _∷_}
-use mathlib.Core.Path.{_≡_}
+use mathlib.Core.Path.{_≡_, _∙_}
 use native.Mathlib.Omega.{arith}
 use lib.ListN.{length, getD}
 use Rattle.laws.specs.Choice.{bit}
+use Rattle.values.specs.Values.{isPayload}
 use Rattle.types.specs.Types.{Client, Operations, Runnables, Slots, State}
 use Rattle.state.specs.Parts.{noClient}
 use Rattle.state.specs.Tables.{runnableIn, operationIn, slotIn}
-use Rattle.history.specs.History.{Request, noRequest, How, byTimeout, byInstance, Ending, History, passed, endsOf, lastOn, delivered, endedCall}
+use Rattle.history.specs.History.{Request, noRequest, How, byTimeout, byInstance, byFailure, Ending, History, passed, endsOf, lastOn, delivered, endedCall}
 use Rattle.history.proofs.Beside.{Beside, beside-map}
 
 -- ---- what ended a call
 
--- time may end any call, an instance only the one that it was spawned for
+-- time may end any call, an instance only the one that it was spawned for, with a payload or by its failure
 abbrev pub Proper : ℕ → How → Type 0
 Proper k byTimeout = Unit {0}
-Proper k (byInstance j v) = j ≡ k
+Proper k (byInstance j v) = (j ≡ k) × (isPayload v ≡ true)
+Proper k (byFailure j) = j ≡ k
 
 -- every ending is of a call, and proper
 unfoldable pub AllProper : List Ending → Type 0
@@ -63,10 +65,15 @@ pub record Calls (os : Operations) (latest : List ℕ) (endings : List Ending) (
   pub last : (o : ℕ) → operationIn os o .calling ≡ false → operationIn os o .done ≡ delivered (lastOn o endings)
   pub ended : (o : ℕ) → operationIn os o .calling ≡ false → endedCall (lastOn o endings) ≡ getD latest o 0
 
+pub record Failed (ss : Slots) (failed : List Bool) : Type 0 where
+  pub size : length failed ≡ 32
+  pub each : (k : ℕ) → slotIn ss k .life .failed ≡ getD failed k false
+
 pub record Tied (st : State) (h : History) : Type 0 where
   pub queues : Queues (st .operations) (h .latest) (h .endings) (st .runnables) (h .queued)
   pub served : Served (st .operations) (h .latest) (h .endings) (st .slots) (h .taken)
   pub calls : Calls (st .operations) (h .latest) (h .endings) (h .place)
+  pub failed : Failed (st .slots) (h .failed)
 
 -- ---- tables that agree in what is read of them
 
@@ -81,6 +88,9 @@ pub record Alike (t : ℕ) (st st′ : State) : Type 0 where
   pub operations : SameCalls t (st .operations) (st′ .operations)
   pub requests : (r : ℕ) → runnableIn (st′ .runnables) r .requests ≡ runnableIn (st .runnables) r .requests
   pub owed : (k : ℕ) → slotIn (st′ .slots) k .owed ≡ slotIn (st .slots) k .owed
+  pub failed : (k : ℕ) → slotIn (st′ .slots) k .life .failed ≡ slotIn (st .slots) k .life .failed
+  pub finished : (k : ℕ) → slotIn (st′ .slots) k .life .finished ≡ slotIn (st .slots) k .life .finished
+  pub running : (k : ℕ) → slotIn (st .slots) k .life .waiting ≡ false → slotIn (st′ .slots) k .life .waiting ≡ false
   pub used : (k : ℕ) → slotIn (st′ .slots) k .used ≡ slotIn (st .slots) k .used
 
 pub calls-alike : {t : ℕ} (os os′ : Operations) (latest : List ℕ) (es : List Ending) (p : ℕ) → SameCalls t os os′ → Calls os latest es p → Calls os′ latest es (p + 1)
@@ -131,6 +141,10 @@ pub served-alike : (os : Operations) (latest : List ℕ) (es : List Ending) (ss 
     → Served os latest es ss′ ts
 served-alike os latest es ss ss′ ts a h = record { size = h .size; each = λ k. rw (a k) (h .each k) }
 
+-- slots whose instances have failed as before
+pub failed-alike : (ss ss′ : Slots) (fs : List Bool) → ((k : ℕ) → slotIn ss′ k .life .failed ≡ slotIn ss k .life .failed) → Failed ss fs → Failed ss′ fs
+failed-alike ss ss′ fs a h = record { size = h .size; each = λ k. a k ∙ h .each k }
+
 -- a step that starts, takes and ends no call
 pub tied-alike : {n : ℕ} (st st′ : State) (h : History) → Alike n st st′ → Tied st h → Tied st′ (passed h)
 tied-alike st st′ h a t = record {
@@ -141,4 +155,5 @@ tied-alike st st′ h a t = record {
       served-map (st .operations) (st′ .operations) (h .latest) (h .latest) (h .endings) (h .endings) (st′ .slots) (h .taken) (λ k q e. tag-alike (st .operations) (st′ .operations) (h .latest) (h .endings) _ q (a .operations))
       (served-alike (st .operations) (h .latest) (h .endings) (st .slots) (st′ .slots) (h .taken) (a .owed) (t .served));
   calls = calls-alike (st .operations) (st′ .operations) (h .latest) (h .endings) (h .place) (a .operations) (t .calls);
+  failed = failed-alike (st .slots) (st′ .slots) (h .failed) (a .failed) (t .failed);
 }

@@ -1,32 +1,34 @@
 -- The steps that start, take or end a call keep the tie, each with what it adds to the history.
 -- A started call (`tied-call`): its client and its request join the two queues. An ended call (`tied-closed`): by its timeout (`tied-timeout`), or by the
 -- hand back of an instance whose client bears the operation's number, which by its tag was spawned for the latest call (`tied-answer`); any other hand back
--- is late and ends nothing (`tied-late`). A spawn takes the oldest of both queues (`tied-server`) or nothing (`tied-plain`); an end empties the slot (`tied-end`).
+-- is late and ends nothing (`tied-late`). A spawn takes the oldest of both queues (`tied-server`) or nothing (`tied-plain`); an end empties the slot (`tied-end`),
+-- and a fail marks it (`tied-fail`).
 -- Assumes nothing.
 use Prim.Native.Nat.{ℕ, _+_, _≤_, _<_}
-use mathlib.Core.Bool.{true, false}
+use mathlib.Core.Bool.{Bool, true, false}
 use mathlib.Core.List.{List}
-use mathlib.Core.Path.{_≡_, refl, sym}
+use mathlib.Core.Path.{_≡_, refl, sym, _∙_, ap}
 use native.Mathlib.Omega.{arith}
 use lib.Dec.{eqb}
 use lib.ListN.{length, getD, set}
 use borrow.Author.Tests.{eqb-true}
+use Rattle.laws.specs.Choice.{pick}
 use Rattle.laws.proofs.Choosing.{clash, both-left, both-right}
 use Rattle.types.specs.Types.{Value, Config, Client, Operation, Operations, Runnable, Slot, State}
-use Rattle.values.specs.Values.{timeoutV}
+use Rattle.values.specs.Values.{timeoutV, serverErrV, isPayload}
 use Rattle.config.specs.Tables.{runnableConfIn, operationConfIn}
 use Rattle.state.specs.Parts.{noOwed, noSlot}
 use Rattle.state.specs.Tables.{runnableIn, operationIn, slotIn, withOperation, withSlot, withSlots}
-use Rattle.effects.specs.Steps.{isOpen, opening, asking, called, closing, closed, answers, finishing, clientOf, finished, answered, emptied, starting, fresh, instanceOf, spawned}
-use Rattle.stays_sound.specs.Facts.{Sound, CanCall, CanHandBack, CanEnd, CanTimeout}
+use Rattle.effects.specs.Steps.{isOpen, opening, asking, called, closing, closed, answers, finishing, clientOf, finished, answered, handedBack, emptied, starting, fresh, instanceOf, spawned, failing, failed}
+use Rattle.stays_sound.specs.Facts.{Sound, CanCall, CanHandBack, CanEnd, CanTimeout, CanFail}
 use Rattle.rules.proofs.Configured.{runnables-most, operations-most, capacity-most, operation-there}
 use Rattle.stays_sound.proofs.Told.{runnables-length, operations-length, slots-length}
 use Rattle.stays_sound.proofs.Kept.{runnable-kept, slot-kept, returned-kept, caller-kept, slot-inside}
 use Rattle.stays_sound.proofs.Clients.{requests-told, calling-inside}
-use Rattle.history.specs.History.{Request, noRequest, How, byTimeout, byInstance, History, passed, begins, closes, takes, takesOldest, takenBy, latestOn, queuedAt, given}
-use Rattle.history.proofs.Tied.{Tag, Tied, queues-alike, served-alike, calls-alike, tied-alike, Proper}
+use Rattle.history.specs.History.{Request, noRequest, How, byTimeout, byInstance, byFailure, History, passed, begins, closes, backBy, fails, takes, takesOldest, takenBy, failedBy, latestOn, queuedAt, given}
+use Rattle.history.proofs.Tied.{Tag, Tied, queues-alike, served-alike, failed-alike, calls-alike, tied-alike, Proper}
 use Rattle.history.proofs.Calls.{calls-close, calls-start}
-use Rattle.history.proofs.Tags.{serving-inside, queued-inside, tag-new, queues-close, served-close, queues-open, served-open, queues-push, queues-pop, oldest-tag, served-put, served-idle}
+use Rattle.history.proofs.Tags.{serving-inside, queued-inside, tag-new, queues-close, served-close, queues-open, served-open, queues-push, queues-pop, oldest-tag, served-put, served-idle, failed-put}
 use Rattle.history.proofs.Passes.{same-calls, alike-same}
 
 -- ---- a call starts
@@ -42,6 +44,7 @@ tied-call cfg st h i o v s z t = record {
       served-alike os′ latest′ (h .endings) (st .slots) _ (h .taken) (slot-kept (λ w. w .owed) (st .slots) i _ (caller-kept (λ w. w .owed) (λ w n. refl) cfg o (slotIn (st .slots) i)))
       (served-open (st .operations) (st .runnables) (st .slots) (h .latest) (h .endings) o (h .place + 1) x (s .clients) within inside (z .shut) refl (h .taken) (slots-length cfg st s) (t .served));
   calls = calls-start (st .operations) (h .latest) (h .endings) (h .place) o x (t .calls) within (omega (arith, operations-most cfg (s .config), z .inside)) refl;
+  failed = failed-alike (st .slots) _ (h .failed) (slot-kept (λ w. w .life .failed) (st .slots) i _ (caller-kept (λ w. w .life .failed) (λ w n. refl) cfg o (slotIn (st .slots) i))) (t .failed);
 }
   where
     r : ℕ
@@ -88,6 +91,7 @@ tied-closed cfg st h o w v e p g t = record {
       (queues-close (st .operations) (h .latest) (h .endings) o x _ (calling-inside (st .operations) o e) refl refl (st .runnables) (h .queued) (t .queues));
   served = served-close (st .operations) (h .latest) (h .endings) o x _ (calling-inside (st .operations) o e) refl refl (st .slots) (h .taken) (t .served);
   calls = calls-close (st .operations) (h .latest) (h .endings) (h .place) o _ w x (t .calls) e p refl (sym g);
+  failed = t .failed;
 }
   where
     x : Operation
@@ -97,16 +101,32 @@ pub tied-timeout : (cfg : Config) (st : State) (h : History) (o : ℕ) → CanTi
 tied-timeout cfg st h o z t = tied-closed cfg st h o byTimeout timeoutV (z .calling) tt refl t
 
 -- the slot owes nobody any longer, and its instance counts as finished
-tied-finish : (st : State) (h : History) (i : ℕ) (x : Slot) → i < length (st .slots .at) → Tied st h → Tied (withSlots st (withSlot (st .slots) i (finishing x))) h
-tied-finish st h i x b t = record { queues = t .queues; served = served-idle (st .operations) (h .latest) (h .endings) (st .slots) (h .taken) i (finishing x) (t .served) b refl; calls = t .calls }
+tied-finish : (st : State) (h : History) (i : ℕ) (x : Slot) → i < length (st .slots .at) → x .life .failed ≡ slotIn (st .slots) i .life .failed → Tied st h
+    → Tied (withSlots st (withSlot (st .slots) i (finishing x))) h
+tied-finish st h i x b l t = record {
+  queues = t .queues;
+  served = served-idle (st .operations) (h .latest) (h .endings) (st .slots) (h .taken) i (finishing x) (t .served) b refl;
+  calls = t .calls;
+  failed = failed-alike (st .slots) _ (h .failed) (slot-kept (λ w. w .life .failed) (st .slots) i (finishing x) l) (t .failed);
+}
+
+-- what a hand back gives, by its failure or with its value, for the call that it was spawned for
+back-given : (b : Bool) (j : ℕ) (v : Value) → given (pick b (byFailure j) (byInstance j v)) ≡ pick b serverErrV v
+back-given true j v = refl
+back-given false j v = refl
+
+back-proper : (b : Bool) (j k : ℕ) (v : Value) → isPayload v ≡ true → j ≡ k → Proper k (pick b (byFailure j) (byInstance j v))
+back-proper true j k v p e = e
+back-proper false j k v p e = (e, p)
 
 pub tied-answer : (cfg : Config) (st : State) (h : History) (i : ℕ) (v : Value) → CanHandBack cfg st i v → answers (st .operations) (clientOf st i) ≡ true → Tied st h
-    → Tied (answered cfg st i v) (closes h (takenBy h i .on) (byInstance (takenBy h i .at) v))
+    → Tied (answered cfg st i (handedBack st i v)) (closes h (takenBy h i .on) (backBy h i v))
 unfolding answers closed
 tied-answer cfg st h i v z e t =
     rw (tag .same)
-    (tied-finish (closed cfg st (c .operation) v) (closes h (c .operation) (byInstance (takenBy h i .at) v)) i (slotIn (st .slots) i) (serving-inside (st .slots) i (z .serving))
-    (tied-closed cfg st h (c .operation) (byInstance (takenBy h i .at) v) v open-still (tag .newest open-still its-number) refl t))
+    (tied-finish (closed cfg st (c .operation) (handedBack st i v)) (closes h (c .operation) (backBy h i v)) i (slotIn (st .slots) i) (serving-inside (st .slots) i (z .serving)) refl
+    (tied-closed cfg st h (c .operation) (backBy h i v) (handedBack st i v) open-still (back-proper (failedBy h i) (takenBy h i .at) (latestOn h (c .operation)) v (z .payload) (tag .newest open-still its-number))
+    (back-given (failedBy h i) (takenBy h i .at) v ∙ ap (λ (b : Bool). pick b serverErrV v) (sym (t .failed .each i))) t))
   where
     c : Client
     c = clientOf st i
@@ -121,7 +141,7 @@ tied-answer cfg st h i v z e t =
     its-number = sym (eqb-true _ _ (both-right (operationIn (st .operations) (c .operation) .calling) _ e))
 
 pub tied-late : (cfg : Config) (st : State) (h : History) (i : ℕ) (v : Value) → CanHandBack cfg st i v → Tied st h → Tied (finished st st i) (passed h)
-tied-late cfg st h i v z t = tied-finish st (passed h) i (slotIn (st .slots) i) (serving-inside (st .slots) i (z .serving)) (tied-alike st st h (alike-same st) t)
+tied-late cfg st h i v z t = tied-finish st (passed h) i (slotIn (st .slots) i) (serving-inside (st .slots) i (z .serving)) refl (tied-alike st st h (alike-same st) t)
 
 -- ---- an instance comes, and goes
 
@@ -135,6 +155,7 @@ tied-server cfg st h r k s b e n t = rw e (record {
       served-put (st .operations) (h .latest) (h .endings) (st .slots) (h .taken) k _ (t .served) (omega (arith, slots-length cfg st s, b)) (getD (queuedAt h r) 0 noRequest) b
       (λ z. oldest-tag (st .operations) (h .latest) (h .endings) (st .runnables) (h .queued) r (t .queues) n);
   calls = calls-alike (st .operations) (st .operations) (h .latest) (h .endings) (h .place) (same-calls (st .operations)) (t .calls);
+  failed = failed-put (st .slots) (h .failed) k _ _ (t .failed) (omega (arith, slots-length cfg st s, b)) b refl;
 })
   where
     within : r < length (st .runnables .at)
@@ -153,6 +174,7 @@ tied-plain cfg st h r k s b e t = rw e (record {
   queues = queues-alike (st .operations) (h .latest) (h .endings) (st .runnables) _ (h .queued) (runnable-kept (λ y. y .requests) (st .runnables) r _ refl) (t .queues);
   served = served-put (st .operations) (h .latest) (h .endings) (st .slots) (h .taken) k (fresh r noOwed) (t .served) (omega (arith, slots-length cfg st s, b)) noRequest b (λ z. absurd (clash false z refl));
   calls = calls-alike (st .operations) (st .operations) (h .latest) (h .endings) (h .place) (same-calls (st .operations)) (t .calls);
+  failed = failed-put (st .slots) (h .failed) k _ _ (t .failed) (omega (arith, slots-length cfg st s, b)) b refl;
 })
 
 pub tied-end : (cfg : Config) (st : State) (h : History) (i : ℕ) → Sound cfg st → CanEnd st i → Tied st h → Tied (emptied st i) (takes h i noRequest)
@@ -161,7 +183,24 @@ tied-end cfg st h i s z t = record {
   queues = queues-alike (st .operations) (h .latest) (h .endings) (st .runnables) _ (h .queued) (runnable-kept (λ y. y .requests) (st .runnables) (slotIn (st .slots) i .life .runnable) _ refl) (t .queues);
   served = served-put (st .operations) (h .latest) (h .endings) (st .slots) (h .taken) i noSlot (t .served) within noRequest (omega (arith, within, slots-length cfg st s)) (λ q. absurd (clash false q refl));
   calls = calls-alike (st .operations) (st .operations) (h .latest) (h .endings) (h .place) (same-calls (st .operations)) (t .calls);
+  failed = failed-put (st .slots) (h .failed) i noSlot _ (t .failed) within (omega (arith, within, slots-length cfg st s)) refl;
 }
   where
     within : i < length (st .slots .at)
     within = slot-inside (st .slots) i (z .there .used)
+
+-- ---- an instance fails
+
+pub tied-fail : (cfg : Config) (st : State) (h : History) (i : ℕ) → Sound cfg st → CanFail st i → Tied st h → Tied (failed st i) (fails h i)
+tied-fail cfg st h i s z t = record {
+  queues = t .queues;
+  served = served-alike (st .operations) (h .latest) (h .endings) (st .slots) _ (h .taken) (slot-kept (λ w. w .owed) (st .slots) i x refl) (t .served);
+  calls = calls-alike (st .operations) (st .operations) (h .latest) (h .endings) (h .place) (same-calls (st .operations)) (t .calls);
+  failed = failed-put (st .slots) (h .failed) i x _ (t .failed) within (omega (arith, within, slots-length cfg st s)) refl;
+}
+  where
+    x : Slot
+    x = failing (slotIn (st .slots) i)
+
+    within : i < length (st .slots .at)
+    within = slot-inside (st .slots) i (z .who .there .used)

@@ -31,7 +31,7 @@ use Rattle.history.proofs.Tied.{SameCalls, Tied}
 use Rattle.history.proofs.Calls.{operation-each, operation-both}
 use Rattle.history.proofs.Passes.{same-calls}
 use Rattle.history.proofs.Named.{Named}
-use Rattle.history.proofs.Deeds.{Deed, pass, call, answer, late, end, server, plain, timeout, pass-adds, call-adds, answer-adds, late-adds, end-adds, server-adds, plain-adds, timeout-adds, other-code}
+use Rattle.history.proofs.Deeds.{Deed, pass, call, answer, late, end, server, plain, timeout, fail, pass-adds, call-adds, answer-adds, late-adds, end-adds, server-adds, plain-adds, timeout-adds, fail-adds, other-code}
 
 -- ---- time adds up
 
@@ -126,3 +126,4 @@ timed-deed cfg st s st′ rs h g d t n k = go d
     go (server c q y z e) = rw (server-adds cfg h s c y, e) (still-so refl c)
     go (plain c q y z e) = rw (plain-adds cfg h s c y, e) (still-so refl c)
     go (timeout c z e) = rw (timeout-adds cfg h s c, e) (timed-closed cfg os (h .latest) rs s past k (s .what) _ (other-code waitCode c refl) (calling-inside os (s .what) (z .calling)) refl)
+    go (fail c z e) = rw (fail-adds cfg h s c, e) (still-so refl c)

@@ -12,7 +12,7 @@ use lib.Dec.{eqb}
 use lib.ListN.{length, getD, set}
 use lib.Seq.{getD-set-same, getD-set-other}
 use borrow.Author.Tests.{eqb-true}
-use Rattle.numbers.specs.Codes.{callCode, handBackCode, endCode, spawnCode, timeoutCode}
+use Rattle.numbers.specs.Codes.{callCode, handBackCode, endCode, spawnCode, timeoutCode, failCode}
 use Rattle.laws.proofs.Choosing.{pick-has}
 use Rattle.types.specs.Types.{Step, Config, State}
 use Rattle.values.specs.Values.{okV, sameValue}
@@ -23,7 +23,7 @@ use Rattle.rules.proofs.Configured.{operations-most}
 use Rattle.history.specs.History.{History, nothing, begins, latestOn, observe, endsOf, Started}
 use Rattle.history.proofs.Tied.{Tied}
 use Rattle.history.proofs.Named.{Named}
-use Rattle.history.proofs.Deeds.{Deed, pass, call, answer, late, end, server, plain, timeout, same-value, call-adds, other-code}
+use Rattle.history.proofs.Deeds.{Deed, pass, call, answer, late, end, server, plain, timeout, fail, same-value, call-adds, other-code}
 
 -- ---- the last step, and those before it
 
@@ -61,7 +61,8 @@ grows cfg h s k =
     (λ c. pick-has P (eqb (s .code) handBackCode) _ _ (λ c. pick-has P (eqb (s .claim .number) 1) _ _ (λ e. omega arith) (λ e. omega arith))
     (λ c. pick-has P (eqb (s .code) endCode) _ _ (λ c. omega arith)
     (λ c. pick-has P (eqb (s .code) spawnCode) _ _ (λ c. pick-has P (isServer cfg (s .what)) _ _ (λ e. omega arith) (λ e. omega arith))
-    (λ c. pick-has P (eqb (s .code) timeoutCode) _ _ (λ c. omega arith) (λ c. omega arith)))))
+    (λ c. pick-has P (eqb (s .code) timeoutCode) _ _ (λ c. omega arith)
+    (λ c. pick-has P (eqb (s .code) failCode) _ _ (λ c. omega arith) (λ c. omega arith))))))
 
 latest-still : (cfg : Config) (h : History) (s : Step) → (s .code ≡ callCode → s .claim ≡ okV → ⊥) → observe cfg h s .latest ≡ h .latest
 unfolding observe
@@ -71,7 +72,8 @@ latest-still cfg h s q =
     (λ c. pick-has P (eqb (s .code) handBackCode) _ _ (λ c. pick-has P (eqb (s .claim .number) 1) _ _ (λ e. refl) (λ e. refl))
     (λ c. pick-has P (eqb (s .code) endCode) _ _ (λ c. refl)
     (λ c. pick-has P (eqb (s .code) spawnCode) _ _ (λ c. pick-has P (isServer cfg (s .what)) _ _ (λ e. refl) (λ e. refl))
-    (λ c. pick-has P (eqb (s .code) timeoutCode) _ _ (λ c. refl) (λ c. refl)))))
+    (λ c. pick-has P (eqb (s .code) timeoutCode) _ _ (λ c. refl)
+    (λ c. pick-has P (eqb (s .code) failCode) _ _ (λ c. refl) (λ c. refl))))))
 
 -- ---- a call without an ending is the latest
 
@@ -123,3 +125,4 @@ unended-deed cfg st s st′ rs h g d t n u = go d
     go (server c k y z e) = other c refl
     go (plain c k y z e) = other c refl
     go (timeout c z e) = other c refl
+    go (fail c z e) = other c refl

@@ -1,17 +1,17 @@
--- The calls of a recording, the time that passes in it, who lives in its slots and who holds its areas, as its steps and their answers show them under its configuration. No state of the machine is used here, and no number of an operation.
+-- The calls of a recording, the time that passes in it, who lives in its slots, who has failed and who holds its areas, as its steps and their answers show them under its configuration. No state of the machine is used here, and no number of an operation.
 -- The name of a call is where its step stands in the recording, from 1 on, and 0 names none; an accepted step has the answer that it claims.
 -- Assumes nothing.
 use Prim.Native.Nat.{ℕ, zero, suc, _+_, _≤_}
-use mathlib.Core.Bool.{Bool}
+use mathlib.Core.Bool.{Bool, true, false}
 use mathlib.Core.List.{List, [], _∷_, _++_}
 use mathlib.Core.Option.{Option, none, some}
 use mathlib.Core.Path.{_≡_}
 use lib.Dec.{ltb, eqb}
 use lib.ListN.{getD, set, drop, replicate}
-use Rattle.numbers.specs.Codes.{enterCode, exitCode, callCode, handBackCode, endCode, spawnCode, timeoutCode, tickCode, waitCode}
+use Rattle.numbers.specs.Codes.{enterCode, exitCode, callCode, handBackCode, endCode, spawnCode, timeoutCode, tickCode, waitCode, failCode}
 use Rattle.laws.specs.Choice.{pick, both, bit}
 use Rattle.types.specs.Types.{Value, Step, Config}
-use Rattle.values.specs.Values.{voidV, numberV, okV, timeoutV, sameValue}
+use Rattle.values.specs.Values.{voidV, numberV, okV, timeoutV, serverErrV, sameValue}
 use Rattle.config.specs.Tables.{maxRunnableConfs, maxOperationConfs, operationConfIn}
 use Rattle.entries.specs.Faults.{isServer}
 use Rattle.state.specs.Tables.{maxSlots}
@@ -26,10 +26,11 @@ pub record Request : Type 0 where
 abbrev pub noRequest : Request
 noRequest = record { at = 0; on = 0; argument = voidV }
 
--- what ended a call: time, or an instance that had been spawned for the call named here and gave this value back ("How tight the contracts are", demand 3)
+-- what ended a call: time, an instance that had been spawned for the call named here and gave this value back, or one that had been spawned for it and had failed ("How tight the contracts are", demand 3; W-205)
 pub data How : Type 0 where
   byTimeout : How
   byInstance : ℕ → Value → How
+  byFailure : ℕ → How
 
 -- an ending: the operation, the call that it ended, where the step stands that ended it, and how ("How tight the contracts are", demand 3)
 pub record Ending : Type 0 where
@@ -46,6 +47,8 @@ pub record History : Type 0 where
   pub queued : List (List Request)
   -- for every slot the request that its instance serves
   pub taken : List Request
+  -- for every slot whether its instance has failed
+  pub failed : List Bool
   -- for every operation the call that was started last
   pub latest : List ℕ
   -- every ending, the newest in front
@@ -53,7 +56,7 @@ pub record History : Type 0 where
 
 -- the history before any step ("How tight the contracts are", demand 3)
 unfoldable pub nothing : History
-nothing = record { place = 0; queued = replicate maxRunnableConfs []; taken = replicate maxSlots noRequest; latest = replicate maxOperationConfs 0; endings = [] }
+nothing = record { place = 0; queued = replicate maxRunnableConfs []; taken = replicate maxSlots noRequest; failed = replicate maxSlots false; latest = replicate maxOperationConfs 0; endings = [] }
 
 -- the requests that wait at the runnable r ("How tight the contracts are", demand 3)
 abbrev pub queuedAt : History → ℕ → List Request
@@ -63,6 +66,10 @@ queuedAt h r = getD (h .queued) r []
 abbrev pub takenBy : History → ℕ → Request
 takenBy h i = getD (h .taken) i noRequest
 
+-- the instance in the slot i has failed (W-205)
+abbrev pub failedBy : History → ℕ → Bool
+failedBy h i = getD (h .failed) i false
+
 -- the latest started call on the operation o ("How tight the contracts are", demand 3)
 abbrev pub latestOn : History → ℕ → ℕ
 latestOn h o = getD (h .latest) o 0
@@ -71,7 +78,7 @@ latestOn h o = getD (h .latest) o 0
 
 -- a step that starts, takes and ends no call ("How tight the contracts are", demand 3)
 abbrev pub passed : History → History
-passed h = record { place = h .place + 1; queued = h .queued; taken = h .taken; latest = h .latest; endings = h .endings }
+passed h = record { place = h .place + 1; queued = h .queued; taken = h .taken; failed = h .failed; latest = h .latest; endings = h .endings }
 
 -- a call of o starts, with the argument v: this step's request is now the last that waits at the server of o ("How tight the contracts are", demand 3)
 abbrev pub begins : Config → History → ℕ → Value → History
@@ -79,6 +86,7 @@ begins cfg h o v = record {
   place = h .place + 1;
   queued = set (h .queued) (operationConfIn (cfg .operations) o .server) (queuedAt h (operationConfIn (cfg .operations) o .server) ++ (record { at = h .place + 1; on = o; argument = v } ∷ []));
   taken = h .taken;
+  failed = h .failed;
   latest = set (h .latest) o (h .place + 1);
   endings = h .endings;
 }
@@ -89,33 +97,44 @@ closes h o w = record {
   place = h .place + 1;
   queued = h .queued;
   taken = h .taken;
+  failed = h .failed;
   latest = h .latest;
   endings = record { on = o; call = latestOn h o; at = h .place + 1; how = w } ∷ h .endings;
 }
 
--- the slot i has an instance that took q ("How tight the contracts are", demand 3)
-abbrev pub takes : History → ℕ → Request → History
-takes h i q = record { place = h .place + 1; queued = h .queued; taken = set (h .taken) i q; latest = h .latest; endings = h .endings }
+-- how a hand back of the instance in the slot i ends its call: by its failure, or with the value v ("How tight the contracts are", demand 3; W-205)
+abbrev pub backBy : History → ℕ → Value → How
+backBy h i v = pick (failedBy h i) (byFailure (takenBy h i .at)) (byInstance (takenBy h i .at) v)
 
--- the slot i has an instance that took the oldest request of r ("How tight the contracts are", demand 3)
+-- the instance in the slot i fails (W-205)
+abbrev pub fails : History → ℕ → History
+fails h i = record { place = h .place + 1; queued = h .queued; taken = h .taken; failed = set (h .failed) i true; latest = h .latest; endings = h .endings }
+
+-- the slot i has an instance that took q, and has not failed ("How tight the contracts are", demand 3; W-205)
+abbrev pub takes : History → ℕ → Request → History
+takes h i q = record { place = h .place + 1; queued = h .queued; taken = set (h .taken) i q; failed = set (h .failed) i false; latest = h .latest; endings = h .endings }
+
+-- the slot i has an instance that took the oldest request of r, and has not failed ("How tight the contracts are", demand 3; W-205)
 abbrev pub takesOldest : History → ℕ → ℕ → History
 takesOldest h i r = record {
   place = h .place + 1;
   queued = set (h .queued) r (drop 1 (queuedAt h r));
   taken = set (h .taken) i (getD (queuedAt h r) 0 noRequest);
+  failed = set (h .failed) i false;
   latest = h .latest;
   endings = h .endings;
 }
 
--- an accepted step: a call answered Ok starts one, a hand back answered 1 and a timeout end one, a spawn of a server takes a request, an end and any other spawn leave a slot with none; all others pass ("How tight the contracts are", demand 3)
+-- an accepted step: a call answered Ok starts one, a hand back answered 1 and a timeout end one, a spawn of a server takes a request, an end and any other spawn leave a slot with none, a fail marks its slot, which an end and a spawn clear; all others pass ("How tight the contracts are", demand 3; W-205)
 unfoldable pub observe : Config → History → Step → History
 observe cfg h s =
     pick (eqb (s .code) callCode) (pick (sameValue (s .claim) okV) (begins cfg h (s .what) (s .argument)) (passed h))
-    (pick (eqb (s .code) handBackCode) (pick (eqb (s .claim .number) 1) (closes h (takenBy h (s .who) .on) (byInstance (takenBy h (s .who) .at) (s .argument))) (passed h))
+    (pick (eqb (s .code) handBackCode) (pick (eqb (s .claim .number) 1) (closes h (takenBy h (s .who) .on) (backBy h (s .who) (s .argument))) (passed h))
     (pick (eqb (s .code) endCode) (takes h (s .who) noRequest)
     (pick (eqb (s .code) spawnCode) (pick (isServer cfg (s .what)) (takesOldest h (s .claim .number) (s .what)) (takes h (s .claim .number) noRequest))
     (pick (eqb (s .code) timeoutCode) (closes h (s .what) byTimeout)
-    (passed h)))))
+    (pick (eqb (s .code) failCode) (fails h (s .who))
+    (passed h))))))
 
 -- the history after more steps, from one on ("How tight the contracts are", demand 3)
 unfoldable pub historyFrom : Config → History → List Step → History
@@ -142,10 +161,11 @@ lastOn o (e ∷ es) = pick (eqb (e .on) o) (some e) (lastOn o es)
 unfoldable pub isUnended : History → ℕ → Bool
 isUnended h o = both (ltb 0 (latestOn h o)) (eqb (endsOf (latestOn h o) (h .endings)) 0)
 
--- what an ending gave: Timeout, or what was handed back ("The eighteen steps", 13 and 16)
+-- what an ending gave: Timeout, what was handed back, or ServerErr ("The eighteen steps", 13 and 16; W-205)
 abbrev pub given : How → Value
 given byTimeout = timeoutV
 given (byInstance k v) = v
+given (byFailure k) = serverErrV
 
 -- the same of the last ending, and Void where there is none ("The eighteen steps", 13 and 16)
 abbrev pub delivered : Option Ending → Value
@@ -164,10 +184,15 @@ Started (s ∷ rs) zero o = ⊥
 Started (s ∷ rs) (suc zero) o = (s .code ≡ callCode) × (s .what ≡ o) × (s .claim ≡ okV)
 Started (s ∷ rs) (suc (suc k)) o = Started rs (suc k) o
 
--- the step s ended the call k of o so, when this was known: a timeout on o, or a hand back answered 1 by an instance that had taken the request of this very call ("How tight the contracts are", demand 3)
+-- the step s is a hand back answered 1 by an instance that had taken the request of the call k of o ("How tight the contracts are", demand 3)
+abbrev pub HandedBack : History → Step → ℕ → ℕ → Type 0
+HandedBack h s o k = (s .code ≡ handBackCode) × (s .claim ≡ numberV 1) × (takenBy h (s .who) .on ≡ o) × (takenBy h (s .who) .at ≡ k)
+
+-- the step s ended the call k of o so, when this was known: a timeout on o; or a hand back by an instance spawned for this very call, of the value v if it had not failed, of Void if it had ("How tight the contracts are", demand 3; W-205)
 abbrev pub EndedBy : History → Step → ℕ → ℕ → How → Type 0
 EndedBy h s o k byTimeout = (s .code ≡ timeoutCode) × (s .what ≡ o)
-EndedBy h s o k (byInstance j v) = (s .code ≡ handBackCode) × (s .claim ≡ numberV 1) × (s .argument ≡ v) × (takenBy h (s .who) .on ≡ o) × (takenBy h (s .who) .at ≡ k) × (j ≡ k)
+EndedBy h s o k (byInstance j v) = HandedBack h s o k × (j ≡ k) × (s .argument ≡ v) × (failedBy h (s .who) ≡ false)
+EndedBy h s o k (byFailure j) = HandedBack h s o k × (j ≡ k) × (s .argument ≡ voidV) × (failedBy h (s .who) ≡ true)
 
 -- ---- time, as the waits of a recording tell it
 
@@ -197,6 +222,7 @@ lastTick k rs = tickFrom k 0 0 rs
 abbrev pub InTime : ℕ → ℕ → How → Type 0
 InTime t top byTimeout = t ≡ top
 InTime t top (byInstance j v) = t ≤ top
+InTime t top (byFailure j) = t ≤ top
 
 -- ---- instances, as spawns and ends tell it; an instance is named by the place of its spawn
 
@@ -212,6 +238,23 @@ livesFrom i w n (s ∷ rs) = livesFrom i (livesAfter i (n + 1) w s) (n + 1) rs
 -- who lives in the slot i after the steps of a recording ("The eighteen steps", 14 and Spawn)
 unfoldable pub livesIn : ℕ → List Step → ℕ
 livesIn i rs = livesFrom i 0 0 rs
+
+-- whether the instance in the slot i has handed back after the step s, if w says so before: its hand back does so, and a spawn there and its end begin anew ("The eighteen steps", 13, 14 and Spawn)
+unfoldable pub backAfter : ℕ → Bool → Step → Bool
+backAfter i w s =
+    pick (both (eqb (s .code) spawnCode) (eqb (s .claim .number) i)) false
+    (pick (both (eqb (s .code) endCode) (eqb (s .who) i)) false
+    (pick (both (eqb (s .code) handBackCode) (eqb (s .who) i)) true
+    w))
+
+-- the same after more steps ("The eighteen steps", 13, 14 and Spawn)
+unfoldable pub backFrom : ℕ → Bool → List Step → Bool
+backFrom i w [] = w
+backFrom i w (s ∷ rs) = backFrom i (backAfter i w s) rs
+
+-- the instance in the slot i has handed back, after the steps of a recording ("The eighteen steps", 13, 14 and Spawn)
+unfoldable pub backIn : ℕ → List Step → Bool
+backIn i rs = backFrom i false rs
 
 -- ---- areas, as enters and exits tell it
 

@@ -10,18 +10,19 @@ use mathlib.Core.Path.{_≡_}
 use lib.Dec.{ltb, eqb}
 use lib.ListN.{length, getD, drop}
 use Rattle.numbers.specs.Codes.{enterCode, exitCode, callCode, resultCode, handBackCode, endCode, spawnCode, timeoutCode, tickCode}
-use Rattle.laws.specs.Choice.{pick, bit}
+use Rattle.laws.specs.Choice.{pick, both, either, bit}
 use Rattle.types.specs.Types.{Value, Step, Answer, Config, Client, State}
-use Rattle.values.specs.Values.{numberV, okV, limitV, noDataV, answerRefusal, answerValue}
+use Rattle.values.specs.Values.{voidV, numberV, okV, limitV, noDataV, serverErrV, answerRefusal, answerValue}
 use Rattle.config.specs.Tables.{maxRunnableConfs, maxAreaConfs, maxRequiredConfs, maxOperationConfs, runnableConfIn, requiredConfIn, operationConfIn, timerConfIn}
 use Rattle.entries.specs.Faults.{configSound}
 use Rattle.state.specs.Parts.{noClient}
+use Rattle.state.specs.Queues.{topArea}
 use Rattle.state.specs.Tables.{maxSlots, runnableIn, areaIn, elementIn, operationIn, slotIn}
 use Rattle.state.specs.Start.{startOf}
 use Rattle.rules.specs.Rows.{aSlot, rowOf}
 use Rattle.rules.specs.Sound.{timesIn, soundOf}
-use Rattle.effects.specs.Step.{stepOf}
-use Rattle.history.specs.History.{Request, noRequest, byInstance, Ending, historyOf, queuedAt, takenBy, latestOn, endsOf, lastOn, isUnended, delivered, endedCall, Started, EndedBy, timeSince, lastTick, InTime, livesIn, holderOf, allQueued, allSpawns}
+use Rattle.effects.specs.Step.{possibleOf, stepOf}
+use Rattle.history.specs.History.{Request, noRequest, byInstance, byFailure, Ending, historyOf, queuedAt, takenBy, failedBy, latestOn, endsOf, lastOn, isUnended, delivered, endedCall, Started, EndedBy, timeSince, lastTick, InTime, livesIn, backIn, holderOf, allQueued, allSpawns}
 
 -- an answer says that the step was taken, with this value: by the number and the value that stand for it; no refusal has the number 0 (`never-zero` in crate stays_sound) ("Numbers of refusal")
 abbrev pub Answers : Answer → Value → Type 0
@@ -86,6 +87,33 @@ abbrev pub HolderStays : Config → List Step → Step → List Step → Type 0
 HolderStays cfg before s after =
     (a i : ℕ) → a < maxAreaConfs → holderOf a before ≡ some i → (0 < livesIn i before) × (livesIn i (before ++ (s ∷ [])) ≡ livesIn i before)
 
+-- an instance that has failed takes no steps but these: it hands back, Void alone, it exits and it ends (W-205)
+abbrev pub FailedStops : Config → List Step → Step → List Step → Type 0
+FailedStops cfg before s after =
+    rowOf (s .code) .who ≡ aSlot → failedBy (historyOf cfg before) (s .who) ≡ true
+    → (either (eqb (s .code) handBackCode) (either (eqb (s .code) exitCode) (eqb (s .code) endCode)) ≡ true) × (s .code ≡ handBackCode → s .argument ≡ voidV)
+
+-- who has handed back ends, and may exit before that if it has failed; it does no more ("Numbers of refusal", 5; W-205)
+abbrev pub BackIsLast : Config → List Step → Step → List Step → Type 0
+BackIsLast cfg before s after =
+    rowOf (s .code) .who ≡ aSlot → backIn (s .who) before ≡ true → either (eqb (s .code) endCode) (both (failedBy (historyOf cfg before) (s .who)) (eqb (s .code) exitCode)) ≡ true
+
+-- who was spawned for a call ends only after handing back ("Numbers of refusal", 16)
+abbrev pub EndsPaid : Config → List Step → Step → List Step → Type 0
+EndsPaid cfg before s after = s .code ≡ endCode → 0 < takenBy (historyOf cfg before) (s .who) .at → backIn (s .who) before ≡ true
+
+-- a step of the instance i, of this code, on the part k and with Void handed over, is possible ("Numbers of refusal", 2 to 16)
+abbrev pub Possible : Config → State → ℕ → ℕ → ℕ → Type 0
+Possible cfg st code i k = answerRefusal (possibleOf cfg st (record { code = code; who = i; what = k; argument = voidV; claim = voidV }) .answer) ≡ 0
+
+-- who has failed can always come to its end: while it owes an answer it may hand back, while it holds areas exit the one on top, and with neither end (W-205)
+abbrev pub FailedGoesOn : Config → List Step → State → Type 0
+FailedGoesOn cfg rs st =
+    (i : ℕ) → i < maxSlots → failedBy (historyOf cfg rs) i ≡ true
+    → (slotIn (st .slots) i .owed .serving ≡ true → Possible cfg st handBackCode i 0)
+    × (0 < slotIn (st .slots) i .stack .held → Possible cfg st exitCode i (topArea (slotIn (st .slots) i .stack)))
+    × (slotIn (st .slots) i .owed .serving ≡ false → slotIn (st .slots) i .stack .held ≡ 0 → Possible cfg st endCode i 0)
+
 -- no queue of requests passes its capacity ("A sound state", queue lengths)
 abbrev pub RequestsFit : Config → List Step → State → Type 0
 RequestsFit cfg rs st = (r : ℕ) → r < maxRunnableConfs → runnableIn (st .runnables) r .requests .queued ≤ runnableConfIn (cfg .runnables) r .capacity
@@ -118,7 +146,7 @@ pub record Ended (cfg : Config) (rs : List Step) (e : Ending) : Type 0 where
   pub by : EndedBy (historyOf cfg before) step (e .on) (e .call) (e .how)
   pub time : InTime (timeSince (e .call) before) (operationConfIn (cfg .operations) (e .on) .timeout) (e .how)
 
--- every ending is one: of a call started on its operation, by a timeout there or by a hand back of the instance spawned for this very call ("How tight the contracts are", demand 3)
+-- every ending is one: of a call started on its operation, by a timeout there or by a hand back of the instance spawned for this very call, which may have failed ("How tight the contracts are", demand 3; W-205)
 abbrev pub EndsProperly : Config → List Step → State → Type 0
 EndsProperly cfg rs st = (e : Ending) → List·Memᴰ e (historyOf cfg rs .endings) → Ended cfg rs e
 
@@ -178,11 +206,31 @@ DoneIsFinal cfg rs st =
     (o n : ℕ) → o < maxOperationConfs → operationIn (st .operations) o .calling ≡ false → operationIn (st .operations) o .done ≡ numberV n
     → (e : Ending) × (lastOn o (historyOf cfg rs .endings) ≡ some e) × (e .how ≡ byInstance (e .call) (numberV n)) × (endsOf (e .call) (historyOf cfg rs .endings) ≡ 1)
 
+-- who gets ServerErr as a result gets it because an instance that was spawned for the latest call that ended there had failed; and nowhere in the whole recording does that call end again (W-205)
+abbrev pub FailureIsFinal : Config → List Step → Step → List Step → Type 0
+FailureIsFinal cfg before s after =
+    s .code ≡ resultCode → s .claim ≡ serverErrV
+    → (e : Ending) × (lastOn (s .what) (historyOf cfg before .endings) ≡ some e) × (e .how ≡ byFailure (e .call)) × (endsOf (e .call) (historyOf cfg (before ++ (s ∷ after)) .endings) ≡ 1)
+
+-- the same of the state reached: an operation Done with ServerErr (W-205)
+abbrev pub DoneIsFailure : Config → List Step → State → Type 0
+DoneIsFailure cfg rs st =
+    (o : ℕ) → o < maxOperationConfs → operationIn (st .operations) o .calling ≡ false → operationIn (st .operations) o .done ≡ serverErrV
+    → (e : Ending) × (lastOn o (historyOf cfg rs .endings) ≡ some e) × (e .how ≡ byFailure (e .call)) × (endsOf (e .call) (historyOf cfg rs .endings) ≡ 1)
+
 -- ---- that the history misses and invents nothing
 
 -- a slot is in use exactly while an instance lives there ("A sound state")
 abbrev pub UsedIsLived : Config → List Step → State → Type 0
 UsedIsLived cfg rs st = (i : ℕ) → i < maxSlots → slotIn (st .slots) i .used ≡ ltb 0 (livesIn i rs)
+
+-- an instance has failed exactly if the history says so (W-205)
+abbrev pub FailedFollowed : Config → List Step → State → Type 0
+FailedFollowed cfg rs st = (i : ℕ) → i < maxSlots → slotIn (st .slots) i .life .failed ≡ failedBy (historyOf cfg rs) i
+
+-- an instance is finished exactly if it has handed back ("The eighteen steps", Hand back)
+abbrev pub FinishedFollowed : Config → List Step → State → Type 0
+FinishedFollowed cfg rs st = (i : ℕ) → i < maxSlots → slotIn (st .slots) i .life .finished ≡ backIn i rs
 
 -- an operation is open exactly if its latest call has no ending yet ("How tight the contracts are", demand 3)
 abbrev pub OpenIsUnended : Config → List Step → State → Type 0
@@ -234,6 +282,8 @@ SpawnTakesNext cfg before s after =
 -- that the history of the steps so far misses and invents nothing ("How tight the contracts are", demand 3)
 pub record Followed (cfg : Config) (rs : List Step) (st : State) : Type 0 where
   pub used : UsedIsLived cfg rs st
+  pub failed : FailedFollowed cfg rs st
+  pub finished : FinishedFollowed cfg rs st
   pub unended : OpenIsUnended cfg rs st
   pub newest : UnendedIsLatest cfg rs st
   pub latest : LatestStarted cfg rs st
@@ -247,6 +297,7 @@ pub record AtMoment (cfg : Config) (rs : List Step) (st : State) : Type 0 where
   pub run : Run cfg rs st
   pub sound : StaysSound cfg rs st
   pub areas : AreasHeld cfg rs st
+  pub goes : FailedGoesOn cfg rs st
   pub requests : RequestsFit cfg rs st
   pub values : ValuesFit cfg rs st
   pub once : EndsOnce cfg rs st
@@ -255,6 +306,7 @@ pub record AtMoment (cfg : Config) (rs : List Step) (st : State) : Type 0 where
   pub timers : TimersInTime cfg rs st
   pub delivered : DoneIsDelivered cfg rs st
   pub done : DoneIsFinal cfg rs st
+  pub failure : DoneIsFailure cfg rs st
   pub history : Followed cfg rs st
 
 -- a step, with the steps before and after it ("How tight the contracts are", demand 3)
@@ -265,6 +317,9 @@ pub record AtStep (cfg : Config) (before : List Step) (s : Step) (after : List S
   pub fresh : SpawnsEmpty cfg before s after
   pub alive : ActsAlive cfg before s after
   pub holder : HolderStays cfg before s after
+  pub failed : FailedStops cfg before s after
+  pub last : BackIsLast cfg before s after
+  pub paid : EndsPaid cfg before s after
   pub call : CallsOneByOne cfg before s after
   pub answer : BackIsAnswered cfg before s after
   pub zero : TimeoutAtZero cfg before s after
@@ -273,6 +328,7 @@ pub record AtStep (cfg : Config) (before : List Step) (s : Step) (after : List S
   pub tick : TicksInTime cfg before s after
   pub result : ResultIsDelivered cfg before s after
   pub number : NumberIsFinal cfg before s after
+  pub failure : FailureIsFinal cfg before s after
   pub spawn : SpawnTakesNext cfg before s after
 
 -- demand 3 of a list of steps: at every moment, and at every step ("How tight the contracts are", demand 3)

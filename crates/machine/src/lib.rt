@@ -21,6 +21,7 @@ fn refusal(cfg: Config, slots: Slots, s: Step) -> u8
             s,
         ),
         numbers::CODE_SPAWN..=numbers::CODE_WAIT => refusals::scheduler_refusal(cfg, s),
+        numbers::CODE_FAIL => refusals::instance_refusal(cfg, slots, s),
         _ => numbers::MALFORMED,
     }
 }
@@ -54,7 +55,8 @@ pub fn possible(cfg: Config, st: State, s: Step) -> Stepped
             numbers::CODE_SPAWN => time_steps::spawn(cfg, st, k),
             numbers::CODE_TIMEOUT => call_steps::timeout(cfg, st, k),
             numbers::CODE_TICK => time_steps::tick(cfg, st, k),
-            _ => time_steps::wait(cfg, st, v.number),
+            numbers::CODE_WAIT => time_steps::wait(cfg, st, v.number),
+            _ => call_steps::fail(st, i),
         };
     }
     shared_steps::refuse(n, st)

@@ -1,4 +1,4 @@
--- Codes of steps, by name ("The eighteen steps", the table).
+-- Codes of steps, by name ("The eighteen steps", the table; and the steps that requests have added).
 -- Assumes nothing.
 use Prim.Native.Nat.{ℕ}
 
@@ -73,3 +73,7 @@ tickCode = 17
 -- wait ("The eighteen steps", 18)
 abbrev pub waitCode : ℕ
 waitCode = 18
+
+-- fail (W-205)
+abbrev pub failCode : ℕ
+failCode = 19

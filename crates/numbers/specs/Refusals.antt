@@ -18,7 +18,7 @@ notThere = 3
 abbrev pub notOwn : ℕ
 notOwn = 4
 
--- an instance may not do this as it lives: it waits, is finished, or asks without waiting ("Numbers of refusal", 5)
+-- an instance may not do this as it lives: it waits, is finished, has failed, or asks without waiting ("Numbers of refusal", 5; W-205)
 abbrev pub barred : ℕ
 barred = 5
 

@@ -55,7 +55,7 @@ pub const NO_ROOM: u8 = 27;
 
 pub const NO_FILL: u8 = 31;
 
-// Codes of steps: of an instance, then of the scheduler.
+// Codes of steps: of an instance, then of the scheduler; then those that were added, each of an instance.
 pub const CODE_READ_VARIABLE: u8 = 1;
 
 pub const CODE_WRITE_VARIABLE: u8 = 2;
@@ -91,6 +91,8 @@ pub const CODE_TIMEOUT: u8 = 16;
 pub const CODE_TICK: u8 = 17;
 
 pub const CODE_WAIT: u8 = 18;
+
+pub const CODE_FAIL: u8 = 19;
 
 // Tags of fields.
 pub const TAG_EDITION: u8 = 0x01;

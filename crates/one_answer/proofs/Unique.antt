@@ -330,6 +330,9 @@ round-trips-write-and-read κs a x y s t p q = (same (p .0) (q .0), same (p .1) 
 pub refusals-row-of : One Rattle.refusals.proofs.row_of.Kinds.ps Rattle.refusals.proofs.row_of.Kinds.r Rattle.refusals.proofs.row_of.Reads.Post
 refusals-row-of κs a x y s t = same
 
+pub refusals-formed : One Rattle.refusals.proofs.formed.Kinds.ps Rattle.refusals.proofs.formed.Kinds.r Rattle.refusals.proofs.formed.Reads.Post
+refusals-formed κs a x y s t = same
+
 pub refusals-instance-refusal : One Rattle.refusals.proofs.instance_refusal.Kinds.ps Rattle.refusals.proofs.instance_refusal.Kinds.r Rattle.refusals.proofs.instance_refusal.Reads.Post
 refusals-instance-refusal κs a x y s t = same
 
@@ -406,6 +409,9 @@ call-steps-timeout κs a x y s t = same
 
 pub call-steps-end : One Rattle.call_steps.proofs.end.Kinds.ps Rattle.call_steps.proofs.end.Kinds.r Rattle.call_steps.proofs.end.Reads.Post
 call-steps-end κs a x y s t = same
+
+pub call-steps-fail : One Rattle.call_steps.proofs.fail.Kinds.ps Rattle.call_steps.proofs.fail.Kinds.r Rattle.call_steps.proofs.fail.Reads.Post
+call-steps-fail κs a x y s t = same
 
 -- ---- time_steps
 

@@ -3,9 +3,9 @@ ghost use mathlib.Core.Path.{_≡_};
 ghost use mathlib.Core.Bool.{not};
 ghost use lib.Dec.{eqb};
 ghost use Rattle.laws.specs.Choice.{both, either};
-ghost use Rattle.numbers.specs.Codes.{resultCode, endCode};
+ghost use Rattle.numbers.specs.Codes.{resultCode};
 ghost use Rattle.rules.specs.Rows.{rowOf};
-ghost use Rattle.rules.specs.Refusals.{argues, formed, partThere, queuesAs, partOwn, asksSynchronous, lifeLets, ownedRefusal, instanceRefusal, schedulerRefusal};
+ghost use Rattle.rules.specs.Refusals.{argues, formed, partThere, queuesAs, partOwn, asksSynchronous, finishedLets, failedLets, lifeLets, ownedRefusal, instanceRefusal, schedulerRefusal};
 use config::Config;
 use rules::Row;
 use state::Life;
@@ -38,7 +38,7 @@ const A_PAYLOAD: u8 = 1;
 const A_NUMBER: u8 = 2;
 
 // The table of steps, a row for each code from 0 on: who takes it, the part, the queueing, the argument.
-const ROWS: [[u8; 4]; 19] = [
+const ROWS: [[u8; 4]; 20] = [
     [NOBODY, NO_PART, ANYHOW, NOTHING],
     [A_SLOT, numbers::TAG_VARIABLE, ANYHOW, NOTHING],
     [A_SLOT, numbers::TAG_VARIABLE, ANYHOW, A_PAYLOAD],
@@ -58,6 +58,7 @@ const ROWS: [[u8; 4]; 19] = [
     [SCHEDULER, numbers::TAG_OPERATION, ANYHOW, NOTHING],
     [SCHEDULER, numbers::TAG_TIMER, ANYHOW, NOTHING],
     [SCHEDULER, NO_PART, ANYHOW, A_NUMBER],
+    [A_SLOT, NO_PART, ANYHOW, NOTHING],
 ];
 
 // The row of a code; a code without one is nobody's.
@@ -65,7 +66,7 @@ pub fn row_of(code: u8) -> Row
     ensures { λ r. ⌜ r ≡ rowOf code ⌝ }
 {
     let k = code as usize;
-    if k < 19 {
+    if k < 20 {
         let l = ROWS[k];
         return Row {
             who: l[0],
@@ -96,7 +97,7 @@ fn argues(k: u8, v: Value) -> bool
 }
 
 // What and argument are as the row has them.
-fn formed(row: Row, what: u8, v: Value) -> bool
+pub fn formed(row: Row, what: u8, v: Value) -> bool
     ensures { λ r. ⌜ r ≡ formed row what v ⌝ }
 {
     if NO_PART < row.part {
@@ -163,12 +164,23 @@ fn may_ask(cfg: Config, waiting: bool, code: u8, what: u8) -> bool
     true
 }
 
-// A finished instance may end alone.
-fn finished_lets(finished: bool, code: u8) -> bool
-    ensures { λ r. ⌜ r ≡ either (not finished) (eqb code endCode) ⌝ }
+// A finished instance may end alone, and exit too if it has failed.
+fn finished_lets(l: Life, code: u8) -> bool
+    ensures { λ r. ⌜ r ≡ finishedLets l code ⌝ }
 {
-    if finished {
-        return code == numbers::CODE_END;
+    if l.finished {
+        return code == numbers::CODE_END || l.failed && code == numbers::CODE_EXIT;
+    }
+    true
+}
+
+// One that has failed may hand back, exit and end alone.
+fn failed_lets(l: Life, code: u8) -> bool
+    ensures { λ r. ⌜ r ≡ failedLets l code ⌝ }
+{
+    if l.failed {
+        return code == numbers::CODE_HAND_BACK
+            || (code == numbers::CODE_EXIT || code == numbers::CODE_END);
     }
     true
 }
@@ -187,7 +199,7 @@ fn life_lets(cfg: Config, l: Life, code: u8, what: u8) -> bool
     ensures { λ r. ⌜ r ≡ lifeLets cfg l code what ⌝ }
 {
     waiting_lets(l.waiting, l.on, code, what)
-        && (finished_lets(l.finished, code) && may_ask(cfg, l.waiting, code, what))
+        && (finished_lets(l, code) && (failed_lets(l, code) && may_ask(cfg, l.waiting, code, what)))
 }
 
 // For a step of a slot: the first of 2, 3, 4 and 5 that holds, or 0.

@@ -1,4 +1,4 @@
--- Which codes are a slot's, and which the scheduler's: the column of who in the table of steps, range by range. A new row at the end moves the bound of `high-codes` alone.
+-- Which codes are a slot's, and which the scheduler's: the column of who in the table of steps, range by range. A new row at the end moves the bounds of `added-codes` and `high-codes` alone.
 -- Assumes nothing.
 use Prim.Native.Nat.{ℕ, _≤_, _<_}
 use mathlib.Core.Bool.{true}
@@ -6,7 +6,7 @@ use mathlib.Core.Path.{_≡_, refl}
 use native.Mathlib.Omega.{arith}
 use lib.Dec.{ltb, eqb}
 use borrow.Author.Tests.{le-ltb, eqb-true}
-use Rattle.numbers.specs.Codes.{readVariableCode, endCode, spawnCode, waitCode}
+use Rattle.numbers.specs.Codes.{readVariableCode, endCode, spawnCode, waitCode, failCode}
 use Rattle.laws.specs.Choice.{either}
 use Rattle.laws.specs.Loop.{allBelow}
 use Rattle.laws.proofs.Choosing.{either-right}
@@ -29,12 +29,17 @@ pub scheduler-codes : (n : ℕ) → spawnCode ≤ n → n ≤ waitCode → rowOf
 unfolding allBelow rowOf rows
 scheduler-codes n l m = ranged scheduler 15 19 refl n l (omega arith)
 
+-- the codes of a slot that were added
+pub added-codes : (n : ℕ) → failCode ≤ n → n ≤ failCode → rowOf n .who ≡ aSlot
+unfolding allBelow rowOf rows
+added-codes n l m = ranged aSlot 19 20 refl n l (omega arith)
+
 -- no code below is a step's
 pub low-codes : (n : ℕ) → n < readVariableCode → rowOf n .who ≡ nobody
 unfolding allBelow rowOf rows
 low-codes n m = ranged nobody 0 1 refl n (omega arith) m
 
 -- and none above
-pub high-codes : (n : ℕ) → waitCode < n → rowOf n .who ≡ nobody
+pub high-codes : (n : ℕ) → failCode < n → rowOf n .who ≡ nobody
 unfolding rowOf rows
-high-codes n l = rw (past rows n 19 noRow refl (omega arith))
+high-codes n l = rw (past rows n 20 noRow refl (omega arith))

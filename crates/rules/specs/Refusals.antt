@@ -1,11 +1,11 @@
--- Refusals 2 to 5, in their order, by the row of a step's code; a slot's steps have all four, the scheduler's 2 and 3 only ("Numbers of refusal").
+-- Refusals 2 to 5, in their order, by the row of a step's code; a slot's steps have all four, the scheduler's 2 and 3 only. The 2 that comes after 5 stands with hand back, in crate effects ("Numbers of refusal"; W-205).
 -- Assumes nothing.
 use Prim.Native.Nat.{ℕ}
 use mathlib.Core.Bool.{Bool, not}
 use mathlib.Core.List.{[], _∷_}
 use lib.Dec.{ltb, eqb}
 use Rattle.numbers.specs.Refusals.{malformed, notThere, notOwn, barred}
-use Rattle.numbers.specs.Codes.{resultCode, endCode}
+use Rattle.numbers.specs.Codes.{exitCode, resultCode, handBackCode, endCode}
 use Rattle.laws.specs.Choice.{pick, both, either, alike, allOf}
 use Rattle.values.specs.Values.{isVoid, isNumber, isPayload}
 use Rattle.types.specs.Types.{Value, Step, Config, Life, Slots}
@@ -49,12 +49,21 @@ partOwn cfg component r n =
 unfoldable pub asksSynchronous : Config → ℕ → ℕ → Bool
 asksSynchronous cfg code what = both (eqb code resultCode) (not (operationConfIn (cfg .operations) what .asynchronous))
 
--- a waiting instance may ask for that result alone, a finished one may end alone, and a synchronous result is for one that waits ("Numbers of refusal", 5)
+-- a finished instance may end alone, and exit too if it has failed ("Numbers of refusal", 5; W-205)
+unfoldable pub finishedLets : Life → ℕ → Bool
+finishedLets l code = either (not (l .finished)) (either (eqb code endCode) (both (l .failed) (eqb code exitCode)))
+
+-- one that has failed may hand back, exit and end alone (W-205)
+unfoldable pub failedLets : Life → ℕ → Bool
+failedLets l code = either (not (l .failed)) (either (eqb code handBackCode) (either (eqb code exitCode) (eqb code endCode)))
+
+-- a waiting instance may ask for that result alone, a finished one and one that has failed may do only what is left to them, and a synchronous result is for one that waits ("Numbers of refusal", 5; W-205)
 unfoldable pub lifeLets : Config → Life → ℕ → ℕ → Bool
 lifeLets cfg l code what =
     allOf
     (either (not (l .waiting)) (both (eqb code resultCode) (eqb (l .on) what))
-    ∷ either (not (l .finished)) (eqb code endCode)
+    ∷ finishedLets l code
+    ∷ failedLets l code
     ∷ either (not (asksSynchronous cfg code what)) (l .waiting)
     ∷ [])
 

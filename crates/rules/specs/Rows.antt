@@ -64,7 +64,7 @@ row who part queueing argument = record { who = who; part = part; queueing = que
 abbrev pub noRow : Row
 noRow = row nobody noPart anyhow nothing
 
--- the rows of codes from 0 on: 1 to 14 are steps of a slot, 15 to 18 of the scheduler ("The eighteen steps", the table)
+-- the rows of codes from 0 on: 1 to 14 are steps of a slot, 15 to 18 of the scheduler, 19 of a slot again ("The eighteen steps", the table; W-205)
 unfoldable pub rows : List Row
 rows =
     noRow
@@ -86,6 +86,7 @@ rows =
     ∷ row scheduler operationTag anyhow nothing  -- 16 timeout
     ∷ row scheduler timerTag anyhow nothing  -- 17 tick
     ∷ row scheduler noPart anyhow aNumber  -- 18 wait
+    ∷ row aSlot noPart anyhow nothing  -- 19 fail
     ∷ []
 
 -- the row of a code ("The eighteen steps", the table)

@@ -9,7 +9,7 @@ use lib.ListN.{length, getD}
 use Rattle.laws.specs.Choice.{pick, both, either, alike, bit, allOf}
 use Rattle.laws.specs.Loop.{allBelow, sumBelow, countBelow}
 use Rattle.laws.specs.Row.{filled}
-use Rattle.values.specs.Values.{voidV, timeoutV, neverReceivedV, invalidV, isVoid, isPayload}
+use Rattle.values.specs.Values.{voidV, timeoutV, serverErrV, neverReceivedV, invalidV, isVoid, isPayload}
 use Rattle.types.specs.Types.{Value, Config, Client, Requests, Runnable, Runnables, Variable, Variables, Areas, Element, Elements, Operation, Operations, Timer, Timers, Life, Owed, Stack, Slot, Slots, State}
 use Rattle.config.specs.Tables.{maxRunnableConfs, maxVariableConfs, maxAreaConfs, maxRequiredConfs, maxOperationConfs, maxTimerConfs, runnableConfIn, areaConfIn, requiredConfIn, operationConfIn, timerConfIn}
 use Rattle.entries.specs.Faults.{isServer, configSound}
@@ -70,9 +70,9 @@ elementSound cfg q x =
     (both (isVoid (x .value)) (not (x .updated))))
     (valuesSound (requiredConfIn (cfg .required) q .capacity) (x .queue .queued) (x .queue .at))
 
--- what Done may hold: a payload or Timeout ("A sound state", stored values)
+-- what Done may hold: a payload, Timeout or ServerErr ("A sound state", stored values; W-205)
 unfoldable pub isOutcome : Value → Bool
-isOutcome v = either (isPayload v) (both (eqb (v .kind) (timeoutV .kind)) (eqb (v .number) 0))
+isOutcome v = either (isPayload v) (both (either (eqb (v .kind) (timeoutV .kind)) (eqb (v .kind) (serverErrV .kind))) (eqb (v .number) 0))
 
 -- a Calling operation is there, its count is at most the timeout, its number at most 65,534, and it holds no value ("A sound state", Calling)
 unfoldable pub callingSound : Config → ℕ → Operation → Bool
@@ -143,6 +143,7 @@ isNoSlot x =
     ∷ not (x .life .waiting)
     ∷ eqb (x .life .on) 0
     ∷ not (x .life .finished)
+    ∷ not (x .life .failed)
     ∷ not (x .owed .serving)
     ∷ isNoClient (x .owed .client)
     ∷ eqb (x .stack .held) 0

@@ -137,7 +137,7 @@ slot-held cfg x h = go (x .used) refl h
     go : (b : Bool) → x .used ≡ b → pick b (allOf (lifeSound cfg (x .life) ∷ owedSound cfg (x .life) (x .owed) ∷ stackSound cfg (x .life) (x .stack) ∷ [])) (isNoSlot x) ≡ true → x .stack .held ≤ 16
     go true e q = leb-true _ _ (both-left (leb (x .stack .held) 16) _ (all-told _ q .1 .1 .0))
     go false e q =
-        let z : x .stack .held ≡ 0 = eqb-true _ _ (all-told _ q .1 .1 .1 .1 .1 .1 .0) in
+        let z : x .stack .held ≡ 0 = eqb-true _ _ (all-told _ q .1 .1 .1 .1 .1 .1 .1 .0) in
         omega arith
 
 module _ (cfg : Config) (ss : Slots) where

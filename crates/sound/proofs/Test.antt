@@ -54,7 +54,7 @@ slot-fits cfg x h s = go (x .used) h
   where
     go : (b : Bool) → pick b (allOf (lifeSound cfg (x .life) ∷ owedSound cfg (x .life) (x .owed) ∷ stackSound cfg (x .life) (x .stack) ∷ [])) (isNoSlot x) ≡ true → clientFits cfg (x .life .runnable) (x .owed .client) ≡ true
     go true q = rw s at (both-right (alike (x .owed .serving) (both (isServer cfg (x .life .runnable)) (not (x .life .finished)))) (pick (x .owed .serving) (clientFits cfg (x .life .runnable) (x .owed .client)) (isNoClient (x .owed .client))) (all-told _ q .1 .0))
-    go false q = absurd (clash (not (x .owed .serving)) (all-told _ q .1 .1 .1 .1 .0) (rw s))
+    go false q = absurd (clash (not (x .owed .serving)) (all-told _ q .1 .1 .1 .1 .1 .0) (rw s))
 
 bit-one : (b : Bool) → 1 ≤ bit b → b ≡ true
 bit-one true h = refl

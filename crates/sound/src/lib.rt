@@ -7,7 +7,7 @@ ghost use lib.Dec.{ltb, leb, eqb};
 ghost use lib.ListN.{getD};
 ghost use Rattle.laws.specs.Choice.{pick, both, either, bit, allOf};
 ghost use Rattle.laws.specs.Row.{placeFilled, filled};
-ghost use Rattle.values.specs.Values.{voidV, isVoid, isPayload};
+ghost use Rattle.values.specs.Values.{voidV, timeoutV, serverErrV, isVoid, isPayload};
 ghost use Rattle.config.specs.Tables.{maxAreaConfs, requiredConfIn};
 ghost use Rattle.entries.specs.Faults.{isServer};
 ghost use Rattle.state.specs.Parts.{noClient, maxRequests, maxValues};
@@ -285,14 +285,21 @@ fn element_sound(t: RequiredConfs, q: u8, x: Element) -> bool
     false
 }
 
-// A payload or Timeout.
+// How a call ends without an answer: Timeout or ServerErr.
+fn is_unanswered(kind: u8) -> bool
+    ensures { λ b. ⌜ b ≡ either (eqb kind (timeoutV .kind)) (eqb kind (serverErrV .kind)) ⌝ }
+{
+    kind == Value::TIMEOUT.kind || kind == Value::SERVER_ERR.kind
+}
+
+// A payload, Timeout or ServerErr.
 fn is_outcome(v: Value) -> bool
     ensures { λ b. ⌜ b ≡ isOutcome v ⌝ }
 {
     if v.is_payload() {
         return true;
     }
-    if v.kind == 5 {
+    if is_unanswered(v.kind) {
         return v.number == 0;
     }
     false
@@ -511,6 +518,9 @@ fn is_no_slot(x: Slot) -> bool
         return false;
     }
     if l.finished {
+        return false;
+    }
+    if l.failed {
         return false;
     }
     let w = x.owed;

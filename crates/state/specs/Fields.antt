@@ -53,21 +53,25 @@ withCount x n = record { number = x .number; calling = x .calling; count = n; do
 
 -- ---- of a life
 
--- the life of a new instance of the runnable r: it neither waits nor is finished (ours)
+-- the life of a new instance of the runnable r: it neither waits nor is finished, and has not failed (ours)
 abbrev pub lifeOf : ℕ → Life
-lifeOf r = record { runnable = r; waiting = false; on = 0; finished = false }
+lifeOf r = record { runnable = r; waiting = false; on = 0; finished = false; failed = false }
 
 -- it waits on the operation o (ours)
 abbrev pub lifeWaiting : Life → ℕ → Life
-lifeWaiting x o = record { runnable = x .runnable; waiting = true; on = o; finished = x .finished }
+lifeWaiting x o = record { runnable = x .runnable; waiting = true; on = o; finished = x .finished; failed = x .failed }
 
 -- it waits no longer (ours)
 abbrev pub lifeRunning : Life → Life
-lifeRunning x = record { runnable = x .runnable; waiting = false; on = 0; finished = x .finished }
+lifeRunning x = record { runnable = x .runnable; waiting = false; on = 0; finished = x .finished; failed = x .failed }
 
 -- it is finished (ours)
 abbrev pub lifeFinished : Life → Life
-lifeFinished x = record { runnable = x .runnable; waiting = x .waiting; on = x .on; finished = true }
+lifeFinished x = record { runnable = x .runnable; waiting = x .waiting; on = x .on; finished = true; failed = x .failed }
+
+-- it has failed (W-205)
+abbrev pub lifeFailed : Life → Life
+lifeFailed x = record { runnable = x .runnable; waiting = x .waiting; on = x .on; finished = x .finished; failed = true }
 
 -- ---- of a slot
 

@@ -69,7 +69,7 @@ lastNumber = 65535
 
 -- the life of no instance ("A sound state", unused places)
 abbrev pub noLife : Life
-noLife = record { runnable = 0; waiting = false; on = 0; finished = false }
+noLife = record { runnable = 0; waiting = false; on = 0; finished = false; failed = false }
 
 -- no client that an answer is owed to ("A sound state", unused places)
 abbrev pub noOwed : Owed

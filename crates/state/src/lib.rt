@@ -212,12 +212,13 @@ impl Timer {
     pub const BLANK: Timer = Timer { count: 0 };
 }
 
-// How an instance lives: whose it is, whether and on which operation it waits, whether it is finished.
+// How an instance lives: whose it is, whether and on which operation it waits, whether it is finished, whether it has failed.
 pub struct Life {
     pub runnable: u8,
     pub waiting: bool,
     pub on: u8,
     pub finished: bool,
+    pub failed: bool,
 }
 
 impl Life {
@@ -226,6 +227,7 @@ impl Life {
         waiting: false,
         on: 0,
         finished: false,
+        failed: false,
     };
 }
 

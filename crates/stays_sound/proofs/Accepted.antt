@@ -2,13 +2,13 @@
 -- Assumes nothing.
 use Prim.Native.Nat.{ℕ}
 use mathlib.Core.Bool.{Bool, true, false}
-use mathlib.Core.Path.{_≡_, refl, ap, subst}
+use mathlib.Core.Path.{_≡_, refl, sym, ap, subst}
 use native.Mathlib.Omega.{arith}
 use Rattle.numbers.specs.Refusals.{notSound, otherAnswer}
 use Rattle.numbers.specs.Codes.{enterCode, exitCode, resultCode, handBackCode, endCode, spawnCode, timeoutCode, tickCode}
 use Rattle.laws.specs.Choice.{pick}
 use Rattle.types.specs.Types.{Value, Step, Answer, Taken, Refused, Config, State, Stepped}
-use Rattle.values.specs.Values.{numberV, sameValue}
+use Rattle.values.specs.Values.{numberV, noDataV, sameValue}
 use Rattle.state.specs.Tables.{operationIn}
 use Rattle.rules.specs.Sound.{soundOf}
 use Rattle.effects.specs.Steps.{refused, isOpen, answers, clientOf, lowestEmpty}
@@ -63,11 +63,11 @@ module _ (cfg : Config) (st : State) (s : Step) where
   pub exit-told : {w : Value} {t : State} → Way cfg st s exitCode w t → CanExit cfg st (s .who) (s .what)
   exit-told (exit z) = z
 
-  -- a result that is a Number
-  pub result-told : (n : ℕ) {w : Value} {t : State} → w ≡ numberV n → Way cfg st s resultCode w t → (isOpen st (s .what) ≡ false) × (operationIn (st .operations) (s .what) .done ≡ numberV n)
-  result-told n k (pollOpen e) = absurd (omega (arith, ap (λ (v : Value). v .kind) k))
-  result-told n k (poll e) = (e, k)
-  result-told n k (collect z) = (z .shut, k)
+  -- a result that is not NoData
+  pub result-told : (v : Value) {w : Value} {t : State} → w ≡ v → (v ≡ noDataV → ⊥) → Way cfg st s resultCode w t → (isOpen st (s .what) ≡ false) × (operationIn (st .operations) (s .what) .done ≡ v)
+  result-told v k n (pollOpen e) = absurd (n (sym k))
+  result-told v k n (poll e) = (e, k)
+  result-told v k n (collect z) = (z .shut, k)
 
   -- a hand back that ends a call
   pub answer-told : {w : Value} {t : State} → w ≡ numberV 1 → Way cfg st s handBackCode w t → CanHandBack cfg st (s .who) (s .argument) × (answers (st .operations) (clientOf st (s .who)) ≡ true)

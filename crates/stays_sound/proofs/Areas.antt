@@ -22,8 +22,8 @@ use Rattle.state.specs.Parts.{noArea, noStack, noSlot}
 use Rattle.state.specs.Queues.{upOne, pushArea, topArea, popArea}
 use Rattle.state.specs.Tables.{maxSlots, runnableIn, areaIn, slotIn, withArea, withSlot}
 use Rattle.rules.specs.Sound.{componentOf, areaFits, isZero, stackSound, lifeSound, owedSound, isNoSlot, slotSound, slotsSound, timesIn, holders}
-use Rattle.effects.specs.Steps.{entering, exiting, entered, exited, callerAfter, called, collected, finished, emptied, instanceOf, lowestEmpty, spawned}
-use Rattle.stays_sound.specs.Facts.{Held, Sound, CanEnter, CanExit, CanCall, CanCollect, CanHandBack, CanEnd, CanSpawn, HeldIn}
+use Rattle.effects.specs.Steps.{entering, exiting, entered, exited, callerAfter, called, collected, finished, failed, emptied, instanceOf, lowestEmpty, spawned}
+use Rattle.stays_sound.specs.Facts.{Held, Sound, CanEnter, CanExit, CanCall, CanCollect, CanHandBack, CanEnd, CanSpawn, CanFail, HeldIn}
 use Rattle.rules.proofs.Configured.{areas-most}
 use Rattle.stays_sound.proofs.Told.{areas-length, slots-length}
 use Rattle.stays_sound.proofs.Kept.{here, lowest-empty, slot-kept, caller-kept}
@@ -52,7 +52,7 @@ stacked cfg x h = go (x .used) refl h
           blank = λ n. absurd (clash (x .used) e n);
         }
     go false e g =
-        let t = all-told _ g .1 .1 .1 .1 .1 .1 in
+        let t = all-told _ g .1 .1 .1 .1 .1 .1 .1 in
         let none = eqb-true (x .stack .held) 0 (t .0) in
         record {
           most = omega (arith, none);
@@ -188,7 +188,7 @@ exit-keeps-areas cfg st i a s z =
     (s .areas)
   where
     l : i < maxSlots
-    l = here cfg st i s (z .who .there)
+    l = here cfg st i s (z .there)
 
     once : timesIn a (slotIn (st .slots) i .stack) ≤ holders (st .slots) a
     once = sum-term (λ (k : ℕ). timesIn a (slotIn (st .slots) k .stack)) i maxSlots l
@@ -199,6 +199,9 @@ call-keeps-areas cfg st i o v s z = held-slot cfg (st .areas) (st .slots) i _ (c
 
 pub collect-keeps-areas : (cfg : Config) (st : State) (i o : ℕ) → Sound cfg st → CanCollect cfg st i o → HeldIn cfg (collected st i)
 collect-keeps-areas cfg st i o s z = held-slot cfg (st .areas) (st .slots) i _ (λ a. refl) (s .areas)
+
+pub fail-keeps-areas : (cfg : Config) (st : State) (i : ℕ) → Sound cfg st → CanFail st i → HeldIn cfg (failed st i)
+fail-keeps-areas cfg st i s z = held-slot cfg (st .areas) (st .slots) i _ (λ a. refl) (s .areas)
 
 pub hand-back-keeps-areas : (cfg : Config) (st : State) (i : ℕ) (v : Value) → Sound cfg st → CanHandBack cfg st i v → HeldIn cfg (finished st st i)
 hand-back-keeps-areas cfg st i v s z = held-slot cfg (st .areas) (st .slots) i _ (λ a. refl) (s .areas)

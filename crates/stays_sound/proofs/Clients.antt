@@ -21,8 +21,8 @@ use Rattle.state.specs.Queues.{pushRequest, firstRequest, restRequests}
 use Rattle.state.specs.Fields.{withPending, withRequests}
 use Rattle.state.specs.Tables.{maxSlots, runnableIn, operationIn, slotIn, withRunnable, withOperation, withSlot}
 use Rattle.rules.specs.Sound.{isNoClient, clientFits, requestsSound, runnableSound, runnablesSound, callingSound, operationSound, operationsSound, isNoSlot, slotSound, slotsSound, isClient, queuedAs, servedAs, clientsAs}
-use Rattle.effects.specs.Steps.{entering, exiting, entered, exited, fed, asking, called, runningOn, collected, closing, returnedRunnables, closed, answers, finishing, clientOf, finished, answered, emptied, isDue, begun, starting, fresh, instanceOf, lowestEmpty, spawned, ticked, waited}
-use Rattle.stays_sound.specs.Facts.{Clients, Sound, CanEnter, CanExit, CanFeed, CanCall, CanCollect, CanHandBack, CanEnd, CanSpawn, CanTimeout, CanTick, CanWait, ClientsIn}
+use Rattle.effects.specs.Steps.{entering, exiting, entered, exited, fed, asking, called, runningOn, collected, closing, returnedRunnables, closed, answers, finishing, failing, failed, clientOf, finished, handedBack, answered, emptied, isDue, begun, starting, fresh, instanceOf, lowestEmpty, spawned, ticked, waited}
+use Rattle.stays_sound.specs.Facts.{Clients, Sound, CanEnter, CanExit, CanFeed, CanCall, CanCollect, CanHandBack, CanEnd, CanSpawn, CanTimeout, CanTick, CanWait, CanFail, ClientsIn}
 use Rattle.rules.proofs.Configured.{runnables-most, operations-most, capacity-most, operation-there}
 use Rattle.stays_sound.proofs.Told.{runnables-length, operations-length, slots-length}
 use Rattle.stays_sound.proofs.Kept.{here, lowest-empty, runnable-kept, slot-kept, fed-kept, returned-kept, after-kept, waited-kept, caller-kept}
@@ -56,7 +56,7 @@ calling-top cfg st o s h =
 empty-idle : (cfg : Config) (st : State) (k : ℕ) → Sound cfg st → k < maxSlots → slotIn (st .slots) k .used ≡ false → slotIn (st .slots) k .owed .serving ≡ false
 unfolding slotsSound slotSound isNoSlot
 empty-idle cfg st k s b e =
-    not-true _ (all-told _ (rw e at (all-at (λ (k : ℕ). slotSound cfg (slotIn (st .slots) k)) maxSlots (s .slots) k b)) .1 .1 .1 .1 .0)
+    not-true _ (all-told _ (rw e at (all-at (λ (k : ℕ). slotSound cfg (slotIn (st .slots) k)) maxSlots (s .slots) k b)) .1 .1 .1 .1 .1 .0)
 
 -- ---- step by step
 
@@ -102,6 +102,9 @@ call-keeps-clients cfg st i o v s z =
 pub collect-keeps-clients : (cfg : Config) (st : State) (i o : ℕ) → Sound cfg st → CanCollect cfg st i o → ClientsIn (collected st i)
 collect-keeps-clients cfg st i o s z = clients-slot (st .operations) (st .runnables) (st .slots) i (runningOn (slotIn (st .slots) i)) refl (s .clients)
 
+pub fail-keeps-clients : (cfg : Config) (st : State) (i : ℕ) → Sound cfg st → CanFail st i → ClientsIn (failed st i)
+fail-keeps-clients cfg st i s z = clients-slot (st .operations) (st .runnables) (st .slots) i (failing (slotIn (st .slots) i)) refl (s .clients)
+
 -- the client that is handed back is gone
 handed : (cfg : Config) (st : State) (i : ℕ) (v : Value) → Sound cfg st → CanHandBack cfg st i v → (o m : ℕ)
     → clientsAs (st .runnables) (withSlot (st .slots) i (finishing (slotIn (st .slots) i))) o m + bit (isClient o m (slotIn (st .slots) i .owed .client)) ≡ clientsAs (st .runnables) (st .slots) o m
@@ -144,11 +147,11 @@ closed-clients cfg st o v ss s e f g =
     (calling-inside (st .operations) o e) (omega (arith, calling-top cfg st o s e)) refl f g))
 
 -- hand back that ends its call
-pub answer-keeps-clients : (cfg : Config) (st : State) (i : ℕ) (v : Value) → Sound cfg st → CanHandBack cfg st i v → answers (st .operations) (clientOf st i) ≡ true → ClientsIn (answered cfg st i v)
+pub answer-keeps-clients : (cfg : Config) (st : State) (i : ℕ) (v : Value) → Sound cfg st → CanHandBack cfg st i v → answers (st .operations) (clientOf st i) ≡ true → ClientsIn (answered cfg st i (handedBack st i v))
 unfolding closed answers
 answer-keeps-clients cfg st i v s z f =
     let c = slotIn (st .slots) i .owed .client in
-    closed-clients cfg st (c .operation) v _ s (both-left (operationIn (st .operations) (c .operation) .calling) _ f)
+    closed-clients cfg st (c .operation) (handedBack st i v) _ s (both-left (operationIn (st .operations) (c .operation) .calling) _ f)
     (λ k m. omega (arith, handed cfg st i v s z k m))
     (λ k m n. omega (arith, handed cfg st i v s z k m, ap bit (other-operation k m c (λ e. n (sym e)))))
 

@@ -20,8 +20,8 @@ use Rattle.state.specs.Parts.{noRunnable, noSlot}
 use Rattle.state.specs.Queues.{upOne}
 use Rattle.state.specs.Tables.{maxSlots, runnableIn, slotIn, withRunnable, withSlot}
 use Rattle.rules.specs.Sound.{ofRunnable, slotsOf}
-use Rattle.effects.specs.Steps.{entering, exiting, entered, exited, fed, callerAfter, called, runningOn, collected, closed, finishing, finished, answered, emptied, starting, instanceOf, lowestEmpty, spawned, ticked, waited}
-use Rattle.stays_sound.specs.Facts.{Counted, Sound, CanEnter, CanExit, CanFeed, CanCall, CanCollect, CanHandBack, CanEnd, CanSpawn, CanTimeout, CanTick, CanWait, CountedIn}
+use Rattle.effects.specs.Steps.{entering, exiting, entered, exited, fed, callerAfter, called, runningOn, collected, closed, finishing, failing, failed, finished, handedBack, answered, emptied, starting, instanceOf, lowestEmpty, spawned, ticked, waited}
+use Rattle.stays_sound.specs.Facts.{Counted, Sound, CanEnter, CanExit, CanFeed, CanCall, CanCollect, CanHandBack, CanEnd, CanSpawn, CanTimeout, CanTick, CanWait, CanFail, CountedIn}
 use Rattle.stays_sound.proofs.Told.{runnables-length, slots-length}
 use Rattle.stays_sound.proofs.Kept.{here, lowest-empty, runnable-kept, slot-kept, fed-kept, returned-kept, after-kept, caller-kept}
 
@@ -84,12 +84,15 @@ call-keeps-counts cfg st i o v s z =
 pub collect-keeps-counts : (cfg : Config) (st : State) (i o : ℕ) → Sound cfg st → CanCollect cfg st i o → CountedIn (collected st i)
 collect-keeps-counts cfg st i o s z = counted-slot (st .runnables) (st .slots) i (runningOn (slotIn (st .slots) i)) refl refl (s .counts)
 
+pub fail-keeps-counts : (cfg : Config) (st : State) (i : ℕ) → Sound cfg st → CanFail st i → CountedIn (failed st i)
+fail-keeps-counts cfg st i s z = counted-slot (st .runnables) (st .slots) i (failing (slotIn (st .slots) i)) refl refl (s .counts)
+
 -- hand back of a call that is open no longer
 pub late-keeps-counts : (cfg : Config) (st : State) (i : ℕ) (v : Value) → Sound cfg st → CanHandBack cfg st i v → CountedIn (finished st st i)
 late-keeps-counts cfg st i v s z = counted-slot (st .runnables) (st .slots) i (finishing (slotIn (st .slots) i)) refl refl (s .counts)
 
 -- hand back that ends its call
-pub answer-keeps-counts : (cfg : Config) (st : State) (i : ℕ) (v : Value) → Sound cfg st → CanHandBack cfg st i v → CountedIn (answered cfg st i v)
+pub answer-keeps-counts : (cfg : Config) (st : State) (i : ℕ) (v : Value) → Sound cfg st → CanHandBack cfg st i v → CountedIn (answered cfg st i (handedBack st i v))
 unfolding closed
 answer-keeps-counts cfg st i v s z =
     counted-runnables (st .runnables) _ _ (returned-kept (λ x. x .instances) (λ x. refl) cfg (slotIn (st .slots) i .owed .client .operation) (st .runnables))

@@ -9,20 +9,20 @@ use Rattle.laws.proofs.Choosing.{pick-has}
 use Rattle.values.specs.Values.{timeoutV, sameValue}
 use Rattle.types.specs.Types.{Value, Step, Answer, Taken, Refused, Config, State, Stepped}
 use Rattle.rules.specs.Sound.{soundOf}
-use Rattle.effects.specs.Steps.{refused, stored, entered, exited, looked, fed, invalidated, received, called, collected, closed, answers, clientOf, finished, answered, emptied, lowestEmpty, spawned, ticked, waited}
+use Rattle.effects.specs.Steps.{refused, stored, entered, exited, looked, fed, invalidated, received, called, collected, closed, answers, clientOf, finished, handedBack, answered, failed, emptied, lowestEmpty, spawned, ticked, waited}
 use Rattle.effects.specs.Step.{possibleOf, onAnswer, claimedOf, innerOf, stepOf}
-use Rattle.stays_sound.specs.Facts.{Sound, CanWriteVariable, CanEnter, CanExit, CanRead, CanFeed, CanInvalidate, CanReceive, CanCall, CanCollect, CanHandBack, CanEnd, CanSpawn, CanTimeout, CanTick, CanWait}
+use Rattle.stays_sound.specs.Facts.{Sound, CanWriteVariable, CanEnter, CanExit, CanRead, CanFeed, CanInvalidate, CanReceive, CanCall, CanCollect, CanHandBack, CanEnd, CanSpawn, CanTimeout, CanTick, CanWait, CanFail}
 use Rattle.stays_sound.proofs.Told.{told, made}
-use Rattle.stays_sound.proofs.Shapes.{write-variable-keeps-shape, enter-keeps-shape, exit-keeps-shape, read-keeps-shape, feed-keeps-shape, invalidate-keeps-shape, receive-keeps-shape, call-keeps-shape, collect-keeps-shape, answer-keeps-shape, late-keeps-shape, end-keeps-shape, spawn-keeps-shape, timeout-keeps-shape, tick-keeps-shape, wait-keeps-shape}
+use Rattle.stays_sound.proofs.Shapes.{write-variable-keeps-shape, enter-keeps-shape, exit-keeps-shape, read-keeps-shape, feed-keeps-shape, invalidate-keeps-shape, receive-keeps-shape, call-keeps-shape, collect-keeps-shape, fail-keeps-shape, answer-keeps-shape, late-keeps-shape, end-keeps-shape, spawn-keeps-shape, timeout-keeps-shape, tick-keeps-shape, wait-keeps-shape}
 use Rattle.stays_sound.proofs.Runnables.{feed-keeps-runnables, call-keeps-runnables, answer-keeps-runnables, timeout-keeps-runnables, end-keeps-runnables, spawn-keeps-runnables, tick-keeps-runnables, wait-keeps-runnables}
 use Rattle.stays_sound.proofs.Tables.{write-variable-keeps-variables, tick-keeps-timers, wait-keeps-timers}
 use Rattle.stays_sound.proofs.Elements.{read-keeps-elements, feed-keeps-elements, invalidate-keeps-elements, receive-keeps-elements}
 use Rattle.stays_sound.proofs.Operations.{call-keeps-operations, answer-keeps-operations, timeout-keeps-operations, wait-keeps-operations}
-use Rattle.stays_sound.proofs.Slots.{enter-keeps-slots, exit-keeps-slots, call-keeps-slots, collect-keeps-slots, hand-back-keeps-slots, end-keeps-slots, spawn-keeps-slots}
-use Rattle.stays_sound.proofs.Counts.{enter-keeps-counts, exit-keeps-counts, feed-keeps-counts, call-keeps-counts, collect-keeps-counts, late-keeps-counts, answer-keeps-counts, end-keeps-counts, spawn-keeps-counts, timeout-keeps-counts, tick-keeps-counts, wait-keeps-counts}
-use Rattle.stays_sound.proofs.Areas.{enter-keeps-areas, exit-keeps-areas, call-keeps-areas, collect-keeps-areas, hand-back-keeps-areas, end-keeps-areas, spawn-keeps-areas}
-use Rattle.stays_sound.proofs.Clients.{enter-keeps-clients, exit-keeps-clients, feed-keeps-clients, call-keeps-clients, collect-keeps-clients, late-keeps-clients, answer-keeps-clients, timeout-keeps-clients, end-keeps-clients, spawn-keeps-clients, tick-keeps-clients, wait-keeps-clients}
-use Rattle.stays_sound.proofs.Ways.{Way, readVariable, writeVariable, enter, exit, read, write, updated, invalidate, receiveNone, receive, send, callOpen, call, pollOpen, poll, collect, answer, late, end, spawn, timeout, tick, wait, Went, bars, goes, went}
+use Rattle.stays_sound.proofs.Slots.{enter-keeps-slots, exit-keeps-slots, call-keeps-slots, collect-keeps-slots, hand-back-keeps-slots, fail-keeps-slots, end-keeps-slots, spawn-keeps-slots}
+use Rattle.stays_sound.proofs.Counts.{enter-keeps-counts, exit-keeps-counts, feed-keeps-counts, call-keeps-counts, collect-keeps-counts, fail-keeps-counts, late-keeps-counts, answer-keeps-counts, end-keeps-counts, spawn-keeps-counts, timeout-keeps-counts, tick-keeps-counts, wait-keeps-counts}
+use Rattle.stays_sound.proofs.Areas.{enter-keeps-areas, exit-keeps-areas, call-keeps-areas, collect-keeps-areas, fail-keeps-areas, hand-back-keeps-areas, end-keeps-areas, spawn-keeps-areas}
+use Rattle.stays_sound.proofs.Clients.{enter-keeps-clients, exit-keeps-clients, feed-keeps-clients, call-keeps-clients, collect-keeps-clients, fail-keeps-clients, late-keeps-clients, answer-keeps-clients, timeout-keeps-clients, end-keeps-clients, spawn-keeps-clients, tick-keeps-clients, wait-keeps-clients}
+use Rattle.stays_sound.proofs.Ways.{Way, readVariable, writeVariable, enter, exit, read, write, updated, invalidate, receiveNone, receive, send, callOpen, call, pollOpen, poll, collect, answer, late, end, spawn, timeout, tick, wait, fail, Went, bars, goes, went}
 
 -- ---- the state after each step that is taken
 
@@ -58,7 +58,7 @@ module _ (cfg : Config) (st : State) (s : Sound cfg st) where
   collect-keeps i o z = search (collect-keeps-shape, collect-keeps-slots, collect-keeps-counts, collect-keeps-areas, collect-keeps-clients)
 
   -- a hand back that ends the client's call, and one that comes late
-  pub answer-keeps : (i : ℕ) (v : Value) → CanHandBack cfg st i v → answers (st .operations) (clientOf st i) ≡ true → Sound cfg (answered cfg st i v)
+  pub answer-keeps : (i : ℕ) (v : Value) → CanHandBack cfg st i v → answers (st .operations) (clientOf st i) ≡ true → Sound cfg (answered cfg st i (handedBack st i v))
   unfolding closed
   answer-keeps i v z e =
       search (answer-keeps-shape, answer-keeps-runnables, answer-keeps-operations, hand-back-keeps-slots cfg st i v s z, answer-keeps-counts, hand-back-keeps-areas cfg st i v s z, answer-keeps-clients)
@@ -83,6 +83,9 @@ module _ (cfg : Config) (st : State) (s : Sound cfg st) where
   pub wait-keeps : (t : ℕ) → CanWait cfg st t → Sound cfg (waited cfg st t)
   unfolding waited
   wait-keeps t z = search (wait-keeps-shape, wait-keeps-runnables, wait-keeps-operations, wait-keeps-timers, wait-keeps-counts, wait-keeps-clients)
+
+  pub fail-keeps : (i : ℕ) → CanFail st i → Sound cfg (failed st i)
+  fail-keeps i z = search (fail-keeps-shape, fail-keeps-slots, fail-keeps-counts, fail-keeps-areas, fail-keeps-clients)
 
   -- ---- each way, and each step
 
@@ -113,6 +116,7 @@ module _ (cfg : Config) (st : State) (s : Sound cfg st) where
   way-keeps (timeout z) = timeout-keeps _ z
   way-keeps (tick z) = tick-keeps _ z
   way-keeps (wait z) = wait-keeps _ z
+  way-keeps (fail z) = fail-keeps _ z
 
   went-keeps : {n : ℕ} {x : Step} {r : Stepped} → Went cfg st x n r → Keeps r
   went-keeps (bars b) = s

@@ -64,6 +64,11 @@ module _ {B : Type 0} where
   unfolding callerAfter
   caller-kept g w cfg o x = pick-has (λ y. g y ≡ g x) (operationConfIn (cfg .operations) o .asynchronous) x (waitingOn x o) (λ e. refl) (λ e. w x o)
 
+-- what holds of each slot, and of the one put in its place
+pub slot-has : (P : ℕ → Slot → Type 0) (ss : Slots) (i : ℕ) (x : Slot) → P i x → ((k : ℕ) → P k (slotIn ss k)) → (k : ℕ) → P k (slotIn (withSlot ss i x) k)
+unfolding slotIn withSlot
+slot-has P ss i x p q k = put-each P (ss .at) i x noSlot p k (q k)
+
 -- ---- inside a table
 
 -- a slot with an instance in it is one of the table

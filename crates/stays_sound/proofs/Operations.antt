@@ -9,17 +9,17 @@ use lib.Dec.{leb}
 use lib.ListN.{getD}
 use borrow.Author.Tests.{ltb-true, leb-true, lt-ltb, le-leb}
 use Rattle.laws.specs.Choice.{pick}
-use Rattle.laws.proofs.Choosing.{both-left, both-right, both-make, all-told, all-made}
+use Rattle.laws.proofs.Choosing.{both-left, both-right, both-make, all-told, all-made, pick-has}
 use Rattle.laws.proofs.Looping.{all-at}
 use Rattle.laws.proofs.Places.{all-put, all-each}
-use Rattle.values.specs.Values.{timeoutV, isVoid, isPayload}
+use Rattle.values.specs.Values.{timeoutV, serverErrV, isVoid, isPayload}
 use Rattle.types.specs.Types.{Value, Config, Operation, Operations, State}
 use Rattle.config.specs.Tables.{maxOperationConfs, operationConfIn}
 use Rattle.state.specs.Parts.{lastNumber, noOperation}
 use Rattle.state.specs.Fields.{withCount}
 use Rattle.state.specs.Tables.{operationIn, slotIn, withOperation}
 use Rattle.rules.specs.Sound.{isOutcome, callingSound, doneSound, operationSound, operationsSound}
-use Rattle.effects.specs.Steps.{opening, called, closing, closed, answers, clientOf, answered, operationAfter, operationsAfter, waited}
+use Rattle.effects.specs.Steps.{opening, called, closing, closed, answers, clientOf, hasFailed, handedBack, answered, operationAfter, operationsAfter, waited}
 use Rattle.stays_sound.specs.Facts.{Sound, CanCall, CanHandBack, CanTimeout, CanWait}
 use Rattle.rules.proofs.Configured.{operations-most}
 use Rattle.stays_sound.proofs.Instances.{instance-at, owed-client, client-there}
@@ -78,6 +78,11 @@ payload-outcome : (v : Value) → isPayload v ≡ true → isOutcome v ≡ true
 unfolding isOutcome
 payload-outcome v h = rw h
 
+-- and so is what a hand back delivers
+handed-outcome : (st : State) (i : ℕ) (v : Value) → isPayload v ≡ true → isOutcome (handedBack st i v) ≡ true
+unfolding isOutcome isPayload isVoid
+handed-outcome st i v h = pick-has (λ w. isOutcome w ≡ true) (hasFailed st i) serverErrV v (λ e. refl) (λ e. payload-outcome v h)
+
 -- ---- the table
 
 operations-put : (cfg : Config) (t : Operations) (o : ℕ) (x : Operation) → operationsSound cfg t ≡ true → operationSound cfg o x ≡ true → operationsSound cfg (withOperation t o x) ≡ true
@@ -97,7 +102,7 @@ module _ (cfg : Config) (st : State) where
   call-keeps-operations i o v s z = operations-put cfg (st .operations) o _ (s .operations) (open-sound cfg o (operationIn (st .operations) o) (z .inside) (z .number) (operation-at cfg st s o (z .inside)))
 
   -- where the call is the client's, and it is ended
-  pub answer-keeps-operations : (i : ℕ) (v : Value) → Sound cfg st → CanHandBack cfg st i v → answers (st .operations) (clientOf st i) ≡ true → operationsSound cfg (answered cfg st i v .operations) ≡ true
+  pub answer-keeps-operations : (i : ℕ) (v : Value) → Sound cfg st → CanHandBack cfg st i v → answers (st .operations) (clientOf st i) ≡ true → operationsSound cfg (answered cfg st i (handedBack st i v) .operations) ≡ true
   unfolding closed answers
   answer-keeps-operations i v s z a =
       let x = slotIn (st .slots) i in
@@ -105,7 +110,7 @@ module _ (cfg : Config) (st : State) where
       let h = instance-at cfg st s i (z .who .there .used) in
       let b : o < cfg .operations .n = client-there cfg (x .life .runnable) (x .owed .client) (owed-client cfg (x .life) (x .owed) (h .owed) (z .serving)) in
       operations-put cfg (st .operations) o _ (s .operations)
-      (close-sound cfg o (operationIn (st .operations) o) v (payload-outcome v (z .payload)) (both-left (operationIn (st .operations) o .calling) _ a) (operation-at cfg st s o b))
+      (close-sound cfg o (operationIn (st .operations) o) (handedBack st i v) (handed-outcome st i v (z .payload)) (both-left (operationIn (st .operations) o .calling) _ a) (operation-at cfg st s o b))
 
   pub timeout-keeps-operations : (o : ℕ) → Sound cfg st → CanTimeout cfg st o → operationsSound cfg (closed cfg st o timeoutV .operations) ≡ true
   unfolding closed isOutcome isPayload isVoid

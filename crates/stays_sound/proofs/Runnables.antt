@@ -22,7 +22,7 @@ use Rattle.state.specs.Queues.{upOne, pushRequest, firstRequest, restRequests}
 use Rattle.state.specs.Fields.{withPending, withRequests}
 use Rattle.state.specs.Tables.{runnableIn, operationIn, slotIn, withRunnable}
 use Rattle.rules.specs.Sound.{isNoClient, clientFits, requestsSound, runnableSound, runnablesSound}
-use Rattle.effects.specs.Steps.{woken, feeds, isFed, fedRunnables, fed, asking, called, returns, isReturned, returnedRunnables, closed, answered, leaving, emptied, isDue, begun, starting, lowestEmpty, spawned, ticked, runnableAfter, runnablesAfter, waited}
+use Rattle.effects.specs.Steps.{woken, feeds, isFed, fedRunnables, fed, asking, called, returns, isReturned, returnedRunnables, closed, handedBack, answered, leaving, emptied, isDue, begun, starting, lowestEmpty, spawned, ticked, runnableAfter, runnablesAfter, waited}
 use Rattle.stays_sound.specs.Facts.{Sound, CanFeed, CanCall, CanHandBack, CanEnd, CanSpawn, CanTimeout, CanTick, CanWait}
 use Rattle.stays_sound.proofs.Instances.{instance-at, life-there}
 use Rattle.rules.proofs.Configured.{runnables-most, capacity-most, operation-there, timer-there, timer-plain, devent-plain, revent-plain}
@@ -156,7 +156,7 @@ module _ (cfg : Config) (st : State) where
       runnables-put cfg (st .runnables) r (asking x c) (s .runnables)
       (sits-made cfg r (asking x c) (record { interval = t .interval; alone = t .alone; pending = t .pending; requests = push-sound cfg r (x .requests) (t .requests) c (s .config) (z .room) fits }))
 
-  pub answer-keeps-runnables : (i : ℕ) (v : Value) → Sound cfg st → CanHandBack cfg st i v → runnablesSound cfg (answered cfg st i v .runnables) ≡ true
+  pub answer-keeps-runnables : (i : ℕ) (v : Value) → Sound cfg st → CanHandBack cfg st i v → runnablesSound cfg (answered cfg st i (handedBack st i v) .runnables) ≡ true
   unfolding closed
   answer-keeps-runnables i v s z = returned-sound cfg (s .config) (slotIn (st .slots) i .owed .client .operation) (st .runnables) (s .runnables)
 

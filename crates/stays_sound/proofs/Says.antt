@@ -7,9 +7,9 @@ use native.Mathlib.Omega.{arith}
 use lib.Dec.{ltb, eqb}
 use borrow.Author.Tests.{ltb-true, ltb-false, leb-false, eqb-true, eqb-false, eq-eqb, ne-eqb}
 use Rattle.numbers.specs.Refusals.{malformed, notThere, notOwn, barred}
-use Rattle.numbers.specs.Codes.{writeVariableCode, enterCode, exitCode, readCode, writeCode, invalidateCode, receiveCode, sendCode, callCode, resultCode, handBackCode, endCode, spawnCode, timeoutCode, tickCode}
+use Rattle.numbers.specs.Codes.{writeVariableCode, enterCode, exitCode, readCode, writeCode, invalidateCode, receiveCode, sendCode, callCode, resultCode, handBackCode, endCode, spawnCode, timeoutCode, tickCode, failCode}
 use Rattle.laws.specs.Choice.{both, either, bit}
-use Rattle.laws.proofs.Choosing.{clash, both-left, both-right, alike-is, all-told, pick-on}
+use Rattle.laws.proofs.Choosing.{clash, both-left, both-right, both-no, alike-is, all-told, pick-on}
 use Rattle.types.specs.Types.{Value, Step, Config, State}
 use Rattle.config.specs.Tables.{runnableConfIn, areaConfIn, requiredConfIn, operationConfIn, providedConfIn}
 use Rattle.entries.specs.Entries.{countOf, entryOf}
@@ -17,9 +17,9 @@ use Rattle.entries.specs.Faults.{isQueued}
 use Rattle.state.specs.Tables.{maxSlots, runnableIn, elementIn, slotIn}
 use Rattle.rules.specs.Sound.{componentOf}
 use Rattle.rules.specs.Rows.{aSlot, scheduler, rows, rowOf}
-use Rattle.rules.specs.Refusals.{argues, formed, partThere, queuesAs, partOwn, asksSynchronous, lifeLets, ownedRefusal, instanceRefusal, schedulerRefusal, refusalBy, refusalOf}
-use Rattle.effects.specs.Steps.{isTaken, onTop, isBare, isOpen, isSpent, requestsFull, serves, holds, isOver, maySpawn, lowestEmpty, isUp, operationsLet, timersLet, allLet}
-use Rattle.stays_sound.specs.Facts.{Acts, CanWriteVariable, CanEnter, CanExit, CanRead, CanFeed, CanInvalidate, CanReceive, CanCall, CanCollect, CanHandBack, CanEnd, CanSpawn, CanTimeout, CanTick, CanWait}
+use Rattle.rules.specs.Refusals.{argues, formed, partThere, queuesAs, partOwn, asksSynchronous, finishedLets, failedLets, lifeLets, ownedRefusal, instanceRefusal, schedulerRefusal, refusalBy, refusalOf}
+use Rattle.effects.specs.Steps.{isTaken, onTop, isBare, isOpen, isSpent, requestsFull, serves, hasFailed, handsNumber, holds, isOver, maySpawn, lowestEmpty, isUp, operationsLet, timersLet, allLet}
+use Rattle.stays_sound.specs.Facts.{Acts, CanWriteVariable, CanEnter, CanExit, CanRead, CanFeed, CanInvalidate, CanReceive, CanCall, CanCollect, CanHandBack, CanEnd, CanSpawn, CanTimeout, CanTick, CanWait, CanFail}
 
 -- ---- refusals 2 to 5, and 2 and 3
 
@@ -57,30 +57,31 @@ module _ (cfg : Config) (st : State) (s : Step) {n : ℕ} (c : s .code ≡ n) (h
       let b = pick-on (partThere cfg (r .part) (s .what)) _ notThere 0 (a .1) (λ q. omega (arith, q)) in
       record { who = eqb-true _ _ (both-left (eqb (s .who) 0) _ (a .0)); form = both-right (eqb (s .who) 0) _ (a .0); part = b .0 }
 
--- ---- an instance that may act: it neither waits nor is finished, unless the step is a result or an end
+-- ---- an instance that may act: it neither waits nor is finished, unless the step is a result, an end or an exit
 
-rests : (b : Bool) → either (not b) false ≡ true → b ≡ false
-rests true h = absurd (clash false h refl)
-rests false h = refl
+rests : (b c : Bool) → c ≡ false → either (not b) c ≡ true → b ≡ false
+rests true c e h = absurd (clash c h e)
+rests false c e h = refl
 
 module _ (cfg : Config) (st : State) (code i k : ℕ) (v : Value) (z : Let cfg st code i k v) where
-  acts : eqb code resultCode ≡ false → eqb code endCode ≡ false → Acts st i
-  unfolding lifeLets
-  acts a b =
-      let t = all-told _ (rw (a, b) at (z .life)) in
-      record { there = record { used = z .used }; running = rests (slotIn (st .slots) i .life .waiting) (t .0); unfinished = rests (slotIn (st .slots) i .life .finished) (t .1 .0) }
+  acts : eqb code resultCode ≡ false → eqb code endCode ≡ false → eqb code exitCode ≡ false → Acts st i
+  unfolding lifeLets finishedLets
+  acts a b c =
+      let l = slotIn (st .slots) i .life in
+      let t = all-told _ (rw (a, b, c) at (z .life)) in
+      record { there = record { used = z .used }; running = rests (l .waiting) false refl (t .0); unfinished = rests (l .finished) (both (l .failed) false) (both-no (l .failed) false refl) (t .1 .0) }
 
 -- ---- each step
 
 module _ (cfg : Config) (st : State) (i k : ℕ) (v : Value) where
   pub says-write-variable : Let cfg st writeVariableCode i k v → CanWriteVariable cfg st i k v
   unfolding formed argues partThere rowOf rows countOf
-  says-write-variable z = record { who = acts cfg st writeVariableCode i k v z refl refl; inside = ltb-true _ _ (z .part); payload = z .form }
+  says-write-variable z = record { who = acts cfg st writeVariableCode i k v z refl refl refl; inside = ltb-true _ _ (z .part); payload = z .form }
 
   pub says-enter : Let cfg st enterCode i k v → isTaken st k ≡ false → CanEnter cfg st i k
   unfolding partThere rowOf rows countOf partOwn queuesAs entryOf
   says-enter z e = record {
-    who = acts cfg st enterCode i k v z refl refl;
+    who = acts cfg st enterCode i k v z refl refl refl;
     inside = ltb-true _ _ (z .part);
     own = eqb-true _ _ (both-left (eqb (areaConfIn (cfg .areas) k .component) (componentOf cfg (slotIn (st .slots) i .life .runnable))) true (z .own));
     free = e;
@@ -89,7 +90,7 @@ module _ (cfg : Config) (st : State) (i k : ℕ) (v : Value) where
   pub says-exit : Let cfg st exitCode i k v → onTop (slotIn (st .slots) i) k ≡ true → CanExit cfg st i k
   unfolding partThere rowOf rows countOf onTop
   says-exit z e = record {
-    who = acts cfg st exitCode i k v z refl refl;
+    there = record { used = z .used };
     inside = ltb-true _ _ (z .part);
     some = ltb-true _ _ (both-left (ltb 0 (slotIn (st .slots) i .stack .held)) _ e);
     top = eqb-true _ _ (both-right (ltb 0 (slotIn (st .slots) i .stack .held)) _ e);
@@ -98,19 +99,19 @@ module _ (cfg : Config) (st : State) (i k : ℕ) (v : Value) where
   pub says-read : Let cfg st readCode i k v → CanRead cfg st i k
   unfolding partThere rowOf rows countOf partOwn queuesAs entryOf isQueued
   says-read z = record {
-    who = acts cfg st readCode i k v z refl refl;
+    who = acts cfg st readCode i k v z refl refl refl;
     inside = ltb-true _ _ (z .part);
     unqueued = alike-is (ltb 0 (requiredConfIn (cfg .required) k .capacity)) false (both-right (eqb (requiredConfIn (cfg .required) k .component) (componentOf cfg (slotIn (st .slots) i .life .runnable))) _ (z .own));
   }
 
   pub says-write : Let cfg st writeCode i k v → CanFeed cfg st i k v
   unfolding formed argues partThere rowOf rows countOf
-  says-write z = record { who = acts cfg st writeCode i k v z refl refl; inside = ltb-true _ _ (z .part); payload = z .form }
+  says-write z = record { who = acts cfg st writeCode i k v z refl refl refl; inside = ltb-true _ _ (z .part); payload = z .form }
 
   pub says-invalidate : Let cfg st invalidateCode i k v → CanInvalidate cfg st i k
   unfolding partThere rowOf rows countOf partOwn queuesAs entryOf
   says-invalidate z = record {
-    who = acts cfg st invalidateCode i k v z refl refl;
+    who = acts cfg st invalidateCode i k v z refl refl refl;
     inside = ltb-true _ _ (z .part);
     unqueued = off (providedConfIn (cfg .provided) k .queued) (alike-is (ltb 0 (bit (providedConfIn (cfg .provided) k .queued))) false (both-right (eqb (providedConfIn (cfg .provided) k .component) (componentOf cfg (slotIn (st .slots) i .life .runnable))) _ (z .own)));
   }
@@ -122,7 +123,7 @@ module _ (cfg : Config) (st : State) (i k : ℕ) (v : Value) where
   pub says-receive : Let cfg st receiveCode i k v → isBare st k ≡ false → CanReceive cfg st i k
   unfolding partThere rowOf rows countOf partOwn queuesAs entryOf isQueued
   says-receive z e = record {
-    who = acts cfg st receiveCode i k v z refl refl;
+    who = acts cfg st receiveCode i k v z refl refl refl;
     inside = ltb-true _ _ (z .part);
     queued = alike-is (ltb 0 (requiredConfIn (cfg .required) k .capacity)) true (both-right (eqb (requiredConfIn (cfg .required) k .component) (componentOf cfg (slotIn (st .slots) i .life .runnable))) _ (z .own));
     some = omega (arith, eqb-false (elementIn (st .elements) k .queue .queued) 0 e);
@@ -130,12 +131,13 @@ module _ (cfg : Config) (st : State) (i k : ℕ) (v : Value) where
 
   pub says-send : Let cfg st sendCode i k v → CanFeed cfg st i k v
   unfolding formed argues partThere rowOf rows countOf
-  says-send z = record { who = acts cfg st sendCode i k v z refl refl; inside = ltb-true _ _ (z .part); payload = z .form }
+  says-send z = record { who = acts cfg st sendCode i k v z refl refl refl; inside = ltb-true _ _ (z .part); payload = z .form }
 
   pub says-call : Let cfg st callCode i k v → isOpen st k ≡ false → isSpent st k ≡ false → requestsFull cfg (st .runnables) (operationConfIn (cfg .operations) k .server) ≡ false → CanCall cfg st i k v
-  unfolding formed argues partThere rowOf rows countOf partOwn queuesAs entryOf requestsFull
+  unfolding formed argues partThere rowOf rows countOf partOwn queuesAs entryOf requestsFull lifeLets failedLets
   says-call z a b c = record {
-    who = acts cfg st callCode i k v z refl refl;
+    who = acts cfg st callCode i k v z refl refl refl;
+    fine = rests (hasFailed st i) false refl (all-told _ (z .life) .1 .1 .0);
     inside = ltb-true _ _ (z .part);
     own = eqb-true _ _ (both-left (eqb (operationConfIn (cfg .operations) k .component) (componentOf cfg (slotIn (st .slots) i .life .runnable))) true (z .own));
     payload = z .form;
@@ -149,7 +151,7 @@ module _ (cfg : Config) (st : State) (i k : ℕ) (v : Value) where
   unfolding partThere rowOf rows countOf lifeLets asksSynchronous
   says-collect z a e =
       let t = all-told _ (z .life) in
-      let w : slotIn (st .slots) i .life .waiting ≡ true = rw a at (t .1 .1 .0) in
+      let w : slotIn (st .slots) i .life .waiting ≡ true = rw a at (t .1 .1 .1 .0) in
       record {
         there = record { used = z .used };
         inside = ltb-true _ _ (z .part);
@@ -158,12 +160,16 @@ module _ (cfg : Config) (st : State) (i k : ℕ) (v : Value) where
         shut = e;
       }
 
-  pub says-hand-back : Let cfg st handBackCode i k v → serves st i ≡ true → CanHandBack cfg st i v
+  pub says-hand-back : Let cfg st handBackCode i k v → handsNumber st i v ≡ false → serves st i ≡ true → CanHandBack cfg st i v
   unfolding formed argues rowOf rows
-  says-hand-back z e = record { who = acts cfg st handBackCode i k v z refl refl; payload = both-right (eqb k 0) _ (z .form); serving = e }
+  says-hand-back z f e = record { who = acts cfg st handBackCode i k v z refl refl refl; payload = both-right (eqb k 0) _ (z .form); honest = f; serving = e }
 
   pub says-end : Let cfg st endCode i k v → serves st i ≡ false → holds st i ≡ false → CanEnd st i
   says-end z e f = record { there = record { used = z .used }; none = e; flat = omega (arith, ltb-false 0 (slotIn (st .slots) i .stack .held) f) }
+
+  pub says-fail : Let cfg st failCode i k v → CanFail st i
+  unfolding lifeLets failedLets
+  says-fail z = record { who = acts cfg st failCode i k v z refl refl refl; fine = rests (hasFailed st i) false refl (all-told _ (z .life) .1 .1 .0) }
 
 module _ (cfg : Config) (st : State) (i k : ℕ) (v : Value) where
   pub says-spawn : LetRun cfg spawnCode i k v → maySpawn (runnableConfIn (cfg .runnables) k) (runnableIn (st .runnables) k) ≡ true → ltb (lowestEmpty (st .slots)) maxSlots ≡ true → CanSpawn cfg st k

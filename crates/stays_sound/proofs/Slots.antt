@@ -21,8 +21,8 @@ use Rattle.state.specs.Queues.{upOne, pushArea, popArea, firstRequest}
 use Rattle.state.specs.Fields.{lifeOf, lifeWaiting, lifeRunning, lifeFinished}
 use Rattle.state.specs.Tables.{maxSlots, slotIn, withSlot, runnableIn}
 use Rattle.rules.specs.Sound.{componentOf, isNoClient, waitsWell, lifeSound, owedSound, areaFits, isZero, stackSound, isNoSlot, slotSound, slotsSound}
-use Rattle.effects.specs.Steps.{entering, exiting, entered, exited, waitingOn, callerAfter, called, runningOn, collected, finishing, finished, emptied, isDue, fresh, instanceOf, lowestEmpty, spawned}
-use Rattle.stays_sound.specs.Facts.{Sound, CanEnter, CanExit, CanCall, CanCollect, CanHandBack, CanEnd, CanSpawn}
+use Rattle.effects.specs.Steps.{entering, exiting, entered, exited, waitingOn, callerAfter, called, runningOn, collected, finishing, finished, failing, failed, emptied, isDue, fresh, instanceOf, lowestEmpty, spawned}
+use Rattle.stays_sound.specs.Facts.{Sound, CanEnter, CanExit, CanCall, CanCollect, CanHandBack, CanEnd, CanSpawn, CanFail}
 use Rattle.rules.proofs.Configured.{areas-most}
 use Rattle.stays_sound.proofs.Areas.{free-room}
 use Rattle.stays_sound.proofs.Instances.{Instance, instance-made, slot-below, instance-at, owed-server, stack-most, stack-filled}
@@ -107,8 +107,8 @@ module _ (cfg : Config) (st : State) where
   pub exit-keeps-slots : (i a : ℕ) → Sound cfg st → CanExit cfg st i a → slotsSound cfg (exited st i a .slots) ≡ true
   exit-keeps-slots i a s z =
       let x = slotIn (st .slots) i in
-      let h = instance-at cfg st s i (z .who .there .used) in
-      changed cfg st s i (exiting x) (z .who .there .used)
+      let h = instance-at cfg st s i (z .there .used) in
+      changed cfg st s i (exiting x) (z .there .used)
       (record { life = h .life; owed = h .owed; stack = pop-sound cfg (x .life) (x .stack) (z .some) (h .stack) })
 
   pub call-keeps-slots : (i o : ℕ) (v : Value) → Sound cfg st → CanCall cfg st i o v → slotsSound cfg (called cfg st i o v .slots) ≡ true
@@ -138,6 +138,13 @@ module _ (cfg : Config) (st : State) where
       let e = owed-server cfg (x .life) (x .owed) (h .owed) (z .serving) in
       changed cfg st s i (finishing x) (z .who .there .used)
       (record { life = life-finishes cfg (x .life) e (h .life); owed = rw e; stack = h .stack })
+
+  pub fail-keeps-slots : (i : ℕ) → Sound cfg st → CanFail st i → slotsSound cfg (failed st i .slots) ≡ true
+  unfolding lifeSound waitsWell owedSound stackSound
+  fail-keeps-slots i s z =
+      let x = slotIn (st .slots) i in
+      let h = instance-at cfg st s i (z .who .there .used) in
+      changed cfg st s i (failing x) (z .who .there .used) (record { life = h .life; owed = h .owed; stack = h .stack })
 
   pub end-keeps-slots : (i : ℕ) → Sound cfg st → CanEnd st i → slotsSound cfg (emptied st i .slots) ≡ true
   end-keeps-slots i s z = slots-put cfg (st .slots) i noSlot (s .slots) (blank-slot cfg)

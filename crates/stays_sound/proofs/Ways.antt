@@ -6,8 +6,8 @@ use mathlib.Core.Bool.{true, false}
 use mathlib.Core.Path.{_≡_, refl}
 use native.Mathlib.Decide.{ℕ-discrete}
 use lib.Dec.{ltb}
-use Rattle.numbers.specs.Refusals.{areaTaken, notOnTop, queueFull, numbersSpent, stillOpen, notDue, noSlotFree, tooFar, notOver, areasHeld, wrongClient}
-use Rattle.numbers.specs.Codes.{readVariableCode, writeVariableCode, enterCode, exitCode, readCode, writeCode, updatedCode, invalidateCode, receiveCode, sendCode, callCode, resultCode, handBackCode, endCode, spawnCode, timeoutCode, tickCode, waitCode}
+use Rattle.numbers.specs.Refusals.{malformed, areaTaken, notOnTop, queueFull, numbersSpent, stillOpen, notDue, noSlotFree, tooFar, notOver, areasHeld, wrongClient}
+use Rattle.numbers.specs.Codes.{readVariableCode, writeVariableCode, enterCode, exitCode, readCode, writeCode, updatedCode, invalidateCode, receiveCode, sendCode, callCode, resultCode, handBackCode, endCode, spawnCode, timeoutCode, tickCode, waitCode, failCode}
 use Rattle.laws.specs.Choice.{pick, bit}
 use Rattle.laws.proofs.Choosing.{pick-has}
 use Rattle.values.specs.Values.{voidV, numberV, okV, limitV, noDataV, timeoutV}
@@ -17,12 +17,12 @@ use Rattle.state.specs.Queues.{firstValue}
 use Rattle.state.specs.Tables.{maxSlots, runnableIn, variableIn, elementIn, operationIn, slotIn}
 use Rattle.rules.specs.Rows.{rows, rowOf}
 use Rattle.rules.specs.Refusals.{refusalOf}
-use Rattle.effects.specs.Steps.{refused, took, stored, isTaken, entered, onTop, exited, looked, fed, invalidated, anyFull, isBare, received, isOpen, isSpent, requestsFull, called, collected, closed, answers, serves, clientOf, finished, answered, isOver, holds, emptied, maySpawn, lowestEmpty, spawned, isUp, ticked, allLet, waited, readVariableOf, writeVariableOf, enterOf, exitOf, readOf, writeOf, updatedOf, invalidateOf, receiveOf, sendOf, callOf, pollOf, collectOf, resultOf, handBackOf, endOf, spawnOf, timeoutOf, tickOf, waitOf}
+use Rattle.effects.specs.Steps.{refused, took, stored, isTaken, entered, onTop, exited, looked, fed, invalidated, anyFull, isBare, received, isOpen, isSpent, requestsFull, called, collected, closed, answers, serves, clientOf, finished, answered, handsNumber, handedBack, failed, isOver, holds, emptied, maySpawn, lowestEmpty, spawned, isUp, ticked, allLet, waited, readVariableOf, writeVariableOf, enterOf, exitOf, readOf, writeOf, updatedOf, invalidateOf, receiveOf, sendOf, callOf, pollOf, collectOf, resultOf, handBackOf, endOf, spawnOf, timeoutOf, tickOf, waitOf, failOf}
 use Rattle.effects.specs.Step.{possibleOf}
 use Rattle.effects.proofs.Codes.{Code, coded, actBy, possible-by, possible-barred}
 use Rattle.effects.proofs.Codes as code
-use Rattle.stays_sound.specs.Facts.{CanWriteVariable, CanEnter, CanExit, CanRead, CanFeed, CanInvalidate, CanReceive, CanCall, CanCollect, CanHandBack, CanEnd, CanSpawn, CanTimeout, CanTick, CanWait}
-use Rattle.stays_sound.proofs.Says.{let-told, run-told, says-write-variable, says-enter, says-exit, says-read, says-write, says-invalidate, says-receive, says-send, says-call, says-collect, says-hand-back, says-end, says-spawn, says-timeout, says-tick, says-wait}
+use Rattle.stays_sound.specs.Facts.{CanWriteVariable, CanEnter, CanExit, CanRead, CanFeed, CanInvalidate, CanReceive, CanCall, CanCollect, CanHandBack, CanEnd, CanSpawn, CanTimeout, CanTick, CanWait, CanFail}
+use Rattle.stays_sound.proofs.Says.{let-told, run-told, says-write-variable, says-enter, says-exit, says-read, says-write, says-invalidate, says-receive, says-send, says-call, says-collect, says-hand-back, says-end, says-spawn, says-timeout, says-tick, says-wait, says-fail}
 
 -- ---- the ways in which a step is taken: by its code, with its answer and the state after it
 
@@ -43,13 +43,14 @@ pub data Way (cfg : Config) (st : State) (s : Step) : ℕ → Value → State �
   pollOpen : isOpen st (s .what) ≡ true → Way cfg st s resultCode noDataV st
   poll : isOpen st (s .what) ≡ false → Way cfg st s resultCode (operationIn (st .operations) (s .what) .done) st
   collect : CanCollect cfg st (s .who) (s .what) → Way cfg st s resultCode (operationIn (st .operations) (s .what) .done) (collected st (s .who))
-  answer : CanHandBack cfg st (s .who) (s .argument) → answers (st .operations) (clientOf st (s .who)) ≡ true → Way cfg st s handBackCode (numberV 1) (answered cfg st (s .who) (s .argument))
+  answer : CanHandBack cfg st (s .who) (s .argument) → answers (st .operations) (clientOf st (s .who)) ≡ true → Way cfg st s handBackCode (numberV 1) (answered cfg st (s .who) (handedBack st (s .who) (s .argument)))
   late : CanHandBack cfg st (s .who) (s .argument) → answers (st .operations) (clientOf st (s .who)) ≡ false → Way cfg st s handBackCode (numberV 0) (finished st st (s .who))
   end : CanEnd st (s .who) → Way cfg st s endCode voidV (emptied st (s .who))
   spawn : CanSpawn cfg st (s .what) → Way cfg st s spawnCode (numberV (lowestEmpty (st .slots))) (spawned cfg st (s .what) (lowestEmpty (st .slots)))
   timeout : CanTimeout cfg st (s .what) → Way cfg st s timeoutCode voidV (closed cfg st (s .what) timeoutV)
   tick : CanTick cfg st (s .what) → Way cfg st s tickCode voidV (ticked cfg st (s .what))
   wait : CanWait cfg st (s .argument .number) → Way cfg st s waitCode voidV (waited cfg st (s .argument .number))
+  fail : CanFail st (s .who) → Way cfg st s failCode voidV (failed st (s .who))
 
 -- ---- those in which it is refused: by its code, with its number
 
@@ -60,6 +61,7 @@ pub data Barred (cfg : Config) (st : State) (s : Step) : ℕ → ℕ → Type 0 
   callSpent : isOpen st (s .what) ≡ false → isSpent st (s .what) ≡ true → Barred cfg st s callCode numbersSpent
   callFull : isOpen st (s .what) ≡ false → requestsFull cfg (st .runnables) (operationConfIn (cfg .operations) (s .what) .server) ≡ true → Barred cfg st s callCode queueFull
   collectOpen : isOpen st (s .what) ≡ true → Barred cfg st s resultCode stillOpen
+  answerNumber : handsNumber st (s .who) (s .argument) ≡ true → Barred cfg st s handBackCode malformed
   answerNone : serves st (s .who) ≡ false → Barred cfg st s handBackCode wrongClient
   endServing : serves st (s .who) ≡ true → Barred cfg st s endCode wrongClient
   endHolding : serves st (s .who) ≡ false → holds st (s .who) ≡ true → Barred cfg st s endCode areasHeld
@@ -81,7 +83,7 @@ module _ (cfg : Config) (st : State) (s : Step) where
   W n r = Went cfg st s n r
 
   went-by : {n : ℕ} (c : Code n) → s .code ≡ n → refusalOf cfg (st .slots) s ≡ 0 → W n (actBy c cfg st (s .who) (s .what) (s .argument))
-  unfolding rowOf rows readVariableOf writeVariableOf enterOf exitOf readOf writeOf updatedOf invalidateOf receiveOf sendOf callOf resultOf pollOf collectOf handBackOf endOf spawnOf timeoutOf tickOf waitOf
+  unfolding rowOf rows readVariableOf writeVariableOf enterOf exitOf readOf writeOf updatedOf invalidateOf receiveOf sendOf callOf resultOf pollOf collectOf handBackOf endOf spawnOf timeoutOf tickOf waitOf failOf
   went-by code.readVariable c h = goes readVariable
   went-by code.writeVariable c h = goes (writeVariable (says-write-variable cfg st _ _ _ (let-told cfg st s c h refl)))
   went-by code.enter c h =
@@ -105,10 +107,11 @@ module _ (cfg : Config) (st : State) (s : Step) where
       (λ a. pick-has (W resultCode) (isOpen st (s .what)) _ _ (λ b. goes (pollOpen b)) (λ b. goes (poll b)))
       (λ a. pick-has (W resultCode) (isOpen st (s .what)) _ _ (λ b. bars (collectOpen b)) (λ b. goes (collect (says-collect cfg st _ _ _ (let-told cfg st s c h refl) a b))))
   went-by code.handBack c h =
-      pick-has (W handBackCode) (serves st (s .who)) _ _
-      (λ a. let z = says-hand-back cfg st _ _ _ (let-told cfg st s c h refl) a in
+      pick-has (W handBackCode) (handsNumber st (s .who) (s .argument)) _ _ (λ f. bars (answerNumber f))
+      (λ f. pick-has (W handBackCode) (serves st (s .who)) _ _
+      (λ a. let z = says-hand-back cfg st _ _ _ (let-told cfg st s c h refl) f a in
       pick-has (W handBackCode) (answers (st .operations) (clientOf st (s .who))) _ _ (λ b. goes (answer z b)) (λ b. goes (late z b)))
-      (λ a. bars (answerNone a))
+      (λ a. bars (answerNone a)))
   went-by code.end c h =
       pick-has (W endCode) (serves st (s .who)) _ _ (λ a. bars (endServing a))
       (λ a. pick-has (W endCode) (holds st (s .who)) _ _ (λ b. bars (endHolding a b)) (λ b. goes (end (says-end cfg st _ _ _ (let-told cfg st s c h refl) a b))))
@@ -119,6 +122,7 @@ module _ (cfg : Config) (st : State) (s : Step) where
   went-by code.timeout c h = pick-has (W timeoutCode) (isOver st (s .what)) _ _ (λ e. goes (timeout (says-timeout cfg st _ _ _ (run-told cfg st s c h refl) e))) (λ e. bars (timeoutEarly e))
   went-by code.tick c h = pick-has (W tickCode) (isUp st (s .what)) _ _ (λ e. goes (tick (says-tick cfg st _ _ _ (run-told cfg st s c h refl) e))) (λ e. bars (tickEarly e))
   went-by code.wait c h = pick-has (W waitCode) (allLet cfg st (s .argument .number)) _ _ (λ e. goes (wait (says-wait cfg st _ e))) (λ e. bars (waitFar e))
+  went-by code.fail c h = goes (fail (says-fail cfg st _ _ _ (let-told cfg st s c h refl)))
 
   pub went : W (s .code) (possibleOf cfg st s)
   went = go (ℕ-discrete (refusalOf cfg (st .slots) s) 0)

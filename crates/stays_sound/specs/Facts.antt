@@ -14,7 +14,7 @@ use Rattle.state.specs.Parts.{lastNumber, noClient}
 use Rattle.state.specs.Tables.{maxSlots, runnableIn, areaIn, elementIn, operationIn, timerIn, slotIn}
 use Rattle.state.specs.Queues.{topArea}
 use Rattle.rules.specs.Sound.{componentOf, slotsOf, holders, clientsAs, numbered, shaped, runnablesSound, variablesSound, elementsSound, operationsSound, timersSound, slotsSound}
-use Rattle.effects.specs.Steps.{isTaken, isOpen, serves, isDue, lowestEmpty, operationsLet, timersLet, runnablesLet}
+use Rattle.effects.specs.Steps.{isTaken, isOpen, serves, hasFailed, handsNumber, isDue, lowestEmpty, operationsLet, timersLet, runnablesLet}
 
 -- ---- the clauses over two tables and more, at every place
 
@@ -88,7 +88,7 @@ pub record CanEnter (cfg : Config) (st : State) (i a : ℕ) : Type 0 where
 
 -- the area on top of the own stack
 pub record CanExit (cfg : Config) (st : State) (i a : ℕ) : Type 0 where
-  pub who : Acts st i
+  pub there : There st i
   pub inside : a < cfg .areas .n
   pub some : 0 < slotIn (st .slots) i .stack .held
   pub top : topArea (slotIn (st .slots) i .stack) ≡ a
@@ -121,6 +121,7 @@ pub record CanReceive (cfg : Config) (st : State) (i q : ℕ) : Type 0 where
 -- a call that is answered Ok
 pub record CanCall (cfg : Config) (st : State) (i o : ℕ) (v : Value) : Type 0 where
   pub who : Acts st i
+  pub fine : hasFailed st i ≡ false
   pub inside : o < cfg .operations .n
   pub own : operationConfIn (cfg .operations) o .component ≡ componentOf cfg (slotIn (st .slots) i .life .runnable)
   pub payload : isPayload v ≡ true
@@ -136,10 +137,11 @@ pub record CanCollect (cfg : Config) (st : State) (i o : ℕ) : Type 0 where
   pub on : slotIn (st .slots) i .life .on ≡ o
   pub shut : isOpen st o ≡ false
 
--- a payload for the client that is served
+-- a payload for the client that is served, and no Number from an instance that has failed
 pub record CanHandBack (cfg : Config) (st : State) (i : ℕ) (v : Value) : Type 0 where
   pub who : Acts st i
   pub payload : isPayload v ≡ true
+  pub honest : handsNumber st i v ≡ false
   pub serving : serves st i ≡ true
 
 -- neither a client nor an area is left
@@ -172,3 +174,8 @@ pub record CanWait (cfg : Config) (st : State) (t : ℕ) : Type 0 where
   pub operations : operationsLet cfg (st .operations) t ≡ true
   pub timers : timersLet cfg (st .timers) t ≡ true
   pub runnables : runnablesLet cfg (st .runnables) t ≡ true
+
+-- an instance that acts, and has not failed before
+pub record CanFail (st : State) (i : ℕ) : Type 0 where
+  pub who : Acts st i
+  pub fine : hasFailed st i ≡ false

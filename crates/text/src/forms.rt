@@ -2,20 +2,21 @@
 // field and a field of a line.
 //
 // The first letter of a row is the field: `e` the edition, a digit the part whose tag is 10 and this digit in hexadecimal, `s` a step, `z` the end,
-// `n` a name; `v` is the word of a kind of value, in their order, the last of them for a bad value. The second is what chooses among the rows of a field, counted from `a` for 0: of a step its code, of a part its second byte; `-` chooses
-// nothing. In the words `%b2` is byte 2 of the body, `%n2` the number in four bytes from there, `%v2` the value in five, `%w2` the number of a value that
+// `n` a name; `v` is the word of a kind of value. The second is what chooses among the rows of a field, counted from `a` for 0: of a step its code, of a
+// part its second byte, of a value its kind; `-` chooses nothing, and of a value it is any bad one. In the words `%b2` is byte 2 of the body, `%n2` the number in four bytes from there, `%v2` the value in five, `%w2` the number of a value that
 // is a Number, `%02` the number of a part of kind 0, with its name; `#0` is the part's own number, `@0` its own name, `!0` a number and a name.
 ghost use Prim.Native.Nat.{_≤_, _<_};
 ghost use lib.ListN.{length};
 
-pub(crate) const FORMS: [u8; 1878] = *b"v-Void
-v-Number
-v-Ok
-v-Limit
-v-NoData
-v-Timeout
-v-NeverReceived
-v-Invalid
+pub(crate) const FORMS: [u8; 1913] = *b"vaVoid
+vbNumber
+vcOk
+vdLimit
+veNoData
+vfTimeout
+vgNeverReceived
+vhInvalid
+vjServerErr
 v-Value
 e-edition %b0
 0arunnable #0 component %b0 capacity %b6 interval %n2@0
@@ -57,6 +58,7 @@ spscheduler spawn runnable %02 -> %v8
 sqscheduler timeout operation %62 -> %v8
 srscheduler tick timer %72 -> %v8
 ssscheduler wait %w3 -> %v8
+stslot %b1 fail -> %v8
 s-step %b0 who %b1 what %b2 %v3 -> %v8
 n-runnable !0
 n-variable !1

@@ -65,36 +65,34 @@ fn number_at(field: &[u8], o: usize) -> u32 {
     )
 }
 
-// The row of words that says a value: that of its kind, or the last for a bad value.
-fn value_row(kind: u8, number: u32) -> u8 {
-    if 7 < kind {
-        return 8;
+// A row of words says a value: that of its kind, where a number stands beside a Number alone; or the last, for a bad value.
+fn says_value(choice: u8, kind: u8, number: u32) -> bool {
+    if choice < b'a' {
+        return true;
+    }
+    if kind != choice - b'a' {
+        return false;
     }
     if kind == 1 {
-        return 1;
+        return true;
     }
-    if number == 0 {
-        return kind;
-    }
-    8
+    number == 0
 }
 
-// Where row k starts.
-pub(crate) fn row_at(forms: &[u8], k: u8) -> usize {
+// Where the row starts that says a value.
+fn value_row(forms: &[u8], kind: u8, number: u32) -> usize {
     let mut p: usize = 0;
-    let mut j: u8 = 0;
-    while j < k {
-        if p < forms.len() {
-            p = next_row(forms, p);
+    while p < forms.len() {
+        if says_value(after(forms, p, 1), kind, number) {
+            return p;
         }
-        j = j + 1;
+        p = next_row(forms, p);
     }
     p
 }
 
-// The word of row k.
-fn put_row(out: &mut [u8], at: usize, forms: &[u8], k: u8) -> usize {
-    let p = row_at(forms, k);
+// The word of the row at p.
+fn put_row(out: &mut [u8], at: usize, forms: &[u8], p: usize) -> usize {
     if p < forms.len() {
         let n = next_row(forms, p);
         if n - p < 3 {
@@ -115,13 +113,13 @@ fn put_spaced(out: &mut [u8], at: usize, n: u32) -> usize {
 fn put_value(out: &mut [u8], at: usize, forms: &[u8], field: &[u8], o: usize) -> usize {
     let kind = byte_at(field, o);
     let number = number_at(field, o);
-    let row = value_row(kind, number);
-    let next = put_row(out, at, forms, row);
-    if row == 8 {
+    let p = value_row(forms, kind, number);
+    let next = put_row(out, at, forms, p);
+    if after(forms, p, 1) < b'a' {
         let behind = put_spaced(out, next, kind as u32);
         return put_spaced(out, behind, number);
     }
-    if row == 1 {
+    if kind == 1 {
         return put_spaced(out, next, number);
     }
     next

@@ -208,23 +208,30 @@ fn take_long_behind(line: &[u8], at: usize, field: &mut [u8], o: usize) -> Took 
     take_long(line, k, field, o)
 }
 
-// The kind of value whose word stands here, and where the line goes on.
+// The kind of value whose word stands here, or for a bad value 256, and where the line goes on.
 fn take_kind(forms: &[u8], line: &[u8], at: usize) -> Number {
     let mut p: usize = 0;
-    let mut k: u32 = 0;
-    while k < 9 {
-        if forms.len() <= p {
+    while p < forms.len() {
+        if forms[p] != b'v' {
             return Number::None;
         }
         let n = next_row(forms, p);
         let t = take_row_word(forms, p, n, line, at);
         if let Took::To(next) = t {
-            return Number::Is(k, next);
+            return Number::Is(kind_at(forms, p), next);
         }
         p = n;
-        k = k + 1;
     }
     Number::None
+}
+
+// The kind that the second letter of a row stands for.
+fn kind_at(forms: &[u8], p: usize) -> u32 {
+    let choice = after(forms, p, 1);
+    if choice < b'a' {
+        return 256;
+    }
+    (choice - b'a') as u32
 }
 
 // The word of a row, behind its two letters.
@@ -257,7 +264,7 @@ fn take_value(forms: &[u8], line: &[u8], at: usize, field: &mut [u8], o: usize) 
     let Number::Is(kind, next) = t else {
         return Took::Missed(at, A_VALUE, 0);
     };
-    if 7 < kind {
+    if 255 < kind {
         return take_bad(line, next, field, o);
     }
     put_byte(field, o, kind as u8);

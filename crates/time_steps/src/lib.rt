@@ -75,6 +75,7 @@ fn fresh(r: u8, w: Owed) -> Slot
             waiting: false,
             on: 0,
             finished: false,
+            failed: false,
         },
         owed: w,
         stack: Stack::BLANK,

@@ -1,2 +1,2 @@
--- Document 01, "The parts, and how many": the eight kinds of value, and payloads.
+-- Document 01, "The parts, and how many": the kinds of value, and payloads.
 pub mod Values

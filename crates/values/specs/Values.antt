@@ -1,4 +1,4 @@
--- The eight kinds of value, payloads and bad values ("The parts, and how many"; "The files", last sentence).
+-- The kinds of value, payloads and bad values ("The parts, and how many"; "The files", last sentence; W-205).
 -- Assumes nothing.
 use Prim.Native.Nat.{ℕ}
 use mathlib.Core.Bool.{Bool}
@@ -40,6 +40,10 @@ neverReceivedV = record { kind = 6; number = 0 }
 abbrev pub invalidV : Value
 invalidV = record { kind = 7; number = 0 }
 
+-- the value ServerErr, kind 9 (W-205)
+abbrev pub serverErrV : Value
+serverErrV = record { kind = 9; number = 0 }
+
 -- Void, with nothing beside it ("The parts, and how many")
 unfoldable pub isVoid : Value → Bool
 isVoid v = both (eqb (v .kind) 0) (eqb (v .number) 0)
@@ -52,9 +56,13 @@ isNumber v = eqb (v .kind) 1
 unfoldable pub isPayload : Value → Bool
 isPayload v = either (isNumber v) (isVoid v)
 
--- a value is good if its kind is one of the eight and only a Number has a number; any other is a bad value ("The files", last sentence)
+-- a kind of value: the first eight, 0 to 7, and ServerErr; 8 is none ("The parts, and how many"; W-205)
+unfoldable pub isKind : ℕ → Bool
+isKind k = either (ltb k 8) (eqb k (serverErrV .kind))
+
+-- a value is good if its kind is among these and only a Number has a number; any other is a bad value ("The files", last sentence)
 unfoldable pub isGood : Value → Bool
-isGood v = either (isNumber v) (both (ltb (v .kind) 8) (eqb (v .number) 0))
+isGood v = either (isNumber v) (both (isKind (v .kind)) (eqb (v .number) 0))
 
 -- two values are the same if kind and number are ("Numbers of refusal", 17)
 unfoldable pub sameValue : Value → Value → Bool

@@ -1,6 +1,6 @@
 // Values, payloads, the recorded step and the answer to one. A value is its kind and its number, so that a bad value can be held, tested and refused.
 ghost use mathlib.Core.Path.{_≡_};
-ghost use Rattle.values.specs.Values.{numberV, isVoid, isPayload, isGood, sameValue};
+ghost use Rattle.values.specs.Values.{numberV, isVoid, isPayload, isKind, isGood, sameValue};
 
 pub struct Value {
     pub kind: u8,
@@ -21,6 +21,8 @@ impl Value {
     pub const NEVER_RECEIVED: Value = Value { kind: 6, number: 0 };
 
     pub const INVALID: Value = Value { kind: 7, number: 0 };
+
+    pub const SERVER_ERR: Value = Value { kind: 9, number: 0 };
 
     // The Number n.
     pub fn of(n: u32) -> Value
@@ -48,14 +50,14 @@ impl Value {
         self.is_void()
     }
 
-    // One of the eight kinds, with a number only where the kind is Number.
+    // One of the kinds, with a number only where the kind is Number.
     pub fn is_good(self) -> bool
         ensures { λ r. ⌜ r ≡ isGood self ⌝ }
     {
         if self.kind == 1 {
             return true;
         }
-        if self.kind < 8 {
+        if is_kind(self.kind) {
             return self.number == 0;
         }
         false
@@ -69,6 +71,13 @@ impl Value {
         }
         false
     }
+}
+
+// A kind of value: the first eight, and ServerErr.
+fn is_kind(k: u8) -> bool
+    ensures { λ r. ⌜ r ≡ isKind k ⌝ }
+{
+    k < 8 || k == Value::SERVER_ERR.kind
 }
 
 // A recorded step: its code, who takes it, what it is about, its argument and the answer that it claims.

@@ -6,19 +6,19 @@ use borrow.Author.Needs.{needs}
 use Rattle.causes.proofs.code_cause.Statement.{statement}
 use Rattle.causes.proofs.code_cause.Tie as tie
 
-form-cause-requires : tie.Need-form-cause-requires
-form-cause-requires c κs = search needs
+slot-cause-requires : tie.Need-slot-cause-requires
+slot-cause-requires c κs = search needs
 
 returns : tie.Need-returns
 unfolding codeCause
-returns c = rw (eq-eqb _ _ (c .before .if1 .taken), c .form-cause .ensures)
+returns c = rw (eq-eqb _ _ (c .before .if1 .taken), c .slot-cause .ensures)
 
-form-cause-requires-2 : tie.Need-form-cause-requires-2
-form-cause-requires-2 c κs = search needs
+form-cause-requires : tie.Need-form-cause-requires
+form-cause-requires c κs = search needs
 
 returns-2 : tie.Need-returns-2
 unfolding codeCause
-returns-2 c = rw (ne-eqb _ _ (c .before .before .before .before .before .if1 .left), eq-eqb _ _ (c .before .before .before .if2 .taken), eq-eqb _ _ (c .before .if3 .taken), c .form-cause2 .ensures)
+returns-2 c = rw (ne-eqb _ _ (c .before .before .before .before .before .if1 .left), eq-eqb _ _ (c .before .before .before .if2 .taken), eq-eqb _ _ (c .before .if3 .taken), c .form-cause .ensures)
 
 returns-3 : tie.Need-returns-3
 unfolding codeCause
@@ -32,9 +32,9 @@ pub code-cause-spec : {M : Type 1} → statement M
 code-cause-spec =
     tie.close
     (tie.spec
-    form-cause-requires
+    slot-cause-requires
     returns
-    form-cause-requires-2
+    form-cause-requires
     returns-2
     returns-3
     returns-4)

@@ -6,6 +6,9 @@ use borrow.Author.Needs.{needs}
 use Rattle.causes.proofs.why.Statement.{statement}
 use Rattle.causes.proofs.why.Tie as tie
 
+get-requires : tie.Need-get-requires
+get-requires c κs = search needs
+
 row-of-requires : tie.Need-row-of-requires
 row-of-requires c κs = search needs
 
@@ -65,7 +68,7 @@ returns-3 c = rw (c .own-cause .ensures, c .before .before .row-of .ensures, c .
 
 returns-4 : tie.Need-returns-4
 unfolding whyOf
-returns-4 c = rw (c .life-cause .ensures, c .before .match .keys4)
+returns-4 c = rw (c .life-cause .ensures, ← c .before .before .before .before .before .get .ensures, c .before .match .keys4)
 
 returns-5 : tie.Need-returns-5
 unfolding whyOf
@@ -117,6 +120,7 @@ pub why-spec : {M : Type 1} → statement M
 why-spec =
     tie.close
     (tie.spec
+    get-requires
     row-of-requires
     code-cause-requires
     there-cause-requires

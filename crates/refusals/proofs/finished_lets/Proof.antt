@@ -1,13 +1,25 @@
 -- `refusals::finished_lets` meets its contract.
 -- Assumes nothing.
+use borrow.Author.Tests.{eq-eqb, ne-eqb}
+use Rattle.rules.specs.Refusals.{finishedLets}
 use Rattle.refusals.proofs.finished_lets.Statement.{statement}
 use Rattle.refusals.proofs.finished_lets.Tie as tie
 
 returns : tie.Need-returns
-returns c = rw (c .if1 .taken)
+unfolding finishedLets
+returns c = rw (c .before .if1 .taken, eq-eqb _ _ (c .if2 .taken))
 
 returns-2 : tie.Need-returns-2
-returns-2 c = rw (c .if1 .left)
+unfolding finishedLets
+returns-2 c = rw (c .before .before .if1 .taken, ne-eqb _ _ (c .before .if2 .left), c .if3 .taken)
+
+returns-3 : tie.Need-returns-3
+unfolding finishedLets
+returns-3 c = rw (c .before .before .if1 .taken, ne-eqb _ _ (c .before .if2 .left), c .if3 .left)
+
+returns-4 : tie.Need-returns-4
+unfolding finishedLets
+returns-4 c = rw (c .if1 .left)
 
 pub finished-lets-spec : {M : Type 1} → statement M
-finished-lets-spec = tie.close (tie.spec returns returns-2)
+finished-lets-spec = tie.close (tie.spec returns returns-2 returns-3 returns-4)

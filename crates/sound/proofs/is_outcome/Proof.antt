@@ -1,6 +1,5 @@
 -- `sound::is_outcome` meets its contract.
 -- Assumes nothing.
-use borrow.Author.Tests.{eq-eqb, ne-eqb}
 use Rattle.rules.specs.Sound.{isOutcome}
 use Rattle.sound.proofs.is_outcome.Statement.{statement}
 use Rattle.sound.proofs.is_outcome.Tie as tie
@@ -11,12 +10,12 @@ returns c = rw (← c .before .is-payload .ensures, c .if1 .taken)
 
 returns-2 : tie.Need-returns-2
 unfolding isOutcome
-returns-2 c = rw (← c .before .before .before .before .is-payload .ensures, c .before .before .before .if1 .left, eq-eqb _ _ (c .before .if2 .taken))
+returns-2 c = rw (← c .before .before .before .before .is-payload .ensures, c .before .before .before .if1 .left, ← c .before .before .is-unanswered .ensures, c .before .if2 .taken)
 
 returns-3 : tie.Need-returns-3
 unfolding isOutcome
-returns-3 c = rw (← c .before .before .before .is-payload .ensures, c .before .before .if1 .left, ne-eqb _ _ (c .if2 .left))
+returns-3 c = rw (← c .before .before .before .is-payload .ensures, c .before .before .if1 .left, ← c .before .is-unanswered .ensures, c .if2 .left)
 
 pub is-outcome-spec : {M : Type 1} → statement M
 is-outcome-spec =
-    tie.close (tie.spec (λ c κs. tt) returns returns-2 returns-3)
+    tie.close (tie.spec (λ c κs. tt) returns (λ c κs. tt) returns-2 returns-3)

@@ -8,16 +8,16 @@ use Rattle.explain.proofs.sections.put_codes.Statement.{statement}
 use Rattle.explain.proofs.sections.put_codes.Tie as tie
 
 abbrev Inv-loop : tie.InvT-loop
-Inv-loop out₀ at cfg st names i next₀ code₀ out next code = (code ≤ 15) × (length out ≡ length out₀)
+Inv-loop out₀ at cfg st names i next₀ code₀ out next code = (code ≤ 255) × (length out ≡ length out₀)
 
 abbrev μ-loop : tie.MeasureT-loop
-μ-loop out₀ at cfg st names i next₀ code₀ out next code = 15 - code
+μ-loop out₀ at cfg st names i next₀ code₀ out next code = 255 - code
 
 loop-holds : tie.Need-loop-holds Inv-loop μ-loop
 loop-holds c = search needs
 
-put-code-requires : tie.Need-put-code-requires Inv-loop μ-loop
-put-code-requires c κs = search needs
+put-own-requires : tie.Need-put-own-requires Inv-loop μ-loop
+put-own-requires c κs = search needs
 
 add-code : tie.Need-add-code Inv-loop μ-loop
 add-code c = search needs
@@ -41,7 +41,7 @@ put-codes-spec =
     Inv-loop
     μ-loop
     loop-holds
-    put-code-requires
+    put-own-requires
     add-code
     loop-less
     loop-again

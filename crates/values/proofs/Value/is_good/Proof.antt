@@ -1,24 +1,21 @@
 -- `values::Value::is_good` meets its contract.
 -- Assumes nothing.
-use Rattle.laws.proofs.Choosing.{tests}
+use borrow.Author.Tests.{eq-eqb, ne-eqb}
 use Rattle.values.specs.Values.{isGood}
 use Rattle.values.proofs.Value.is_good.Statement.{statement}
 use Rattle.values.proofs.Value.is_good.Tie as tie
 
--- src/lib.rt:50:13
 returns : tie.Need-returns
 unfolding isGood
-returns c = search tests
+returns c = rw (eq-eqb _ _ (c .if1 .taken))
 
--- src/lib.rt:53:13
 returns-2 : tie.Need-returns-2
 unfolding isGood
-returns-2 c = search tests
+returns-2 c = rw (ne-eqb _ _ (c .before .before .before .if1 .left), ← c .before .before .is-kind .ensures, c .before .if2 .taken)
 
--- src/lib.rt:46:5
 returns-3 : tie.Need-returns-3
 unfolding isGood
-returns-3 c = search tests
+returns-3 c = rw (ne-eqb _ _ (c .before .before .if1 .left), ← c .before .is-kind .ensures, c .if2 .left)
 
 pub is-good-spec : {M : Type 1} → statement M
-is-good-spec = tie.close (tie.spec returns returns-2 returns-3)
+is-good-spec = tie.close (tie.spec returns (λ c κs. tt) returns-2 returns-3)
