@@ -137,9 +137,9 @@ fn put_claimed(out: &mut [u8], at: usize, names: &[u8], x: Step, c: Cause) -> us
             let a = put(out, at, b" says that `");
             let b = words::put_deed(out, a, names, x);
             let d = put(out, b, b"` answered ");
-            let e = words::put_value(out, d, x.claim);
+            let e = table::put_meant(out, d, x.code, x.claim);
             let f = put(out, e, b". It can't have: the answer is ");
-            let g = words::put_value(out, f, v);
+            let g = table::put_meant(out, f, x.code, v);
             put(out, g, b".")
         }
         _ => {
@@ -405,9 +405,17 @@ fn put_taken(out: &mut [u8], at: usize, steps: usize, whole: bool) -> usize {
         );
     }
     if whole {
-        let a = put(out, at, b"ACCEPTED: all of its ");
+        let a = put(
+            out,
+            at,
+            b"ACCEPTED: the recording is whole, and nothing in its ",
+        );
         let b = words::put_count(out, a, steps as u64, b"step");
-        return put(out, b, b" were allowed, and the recording is whole.\n\n");
+        return put(
+            out,
+            b,
+            b" is against the rules. How each call ended stands below.\n\n",
+        );
     }
     let a = put(out, at, b"UNFINISHED: the first ");
     let b = words::put_count(out, a, steps as u64, b"step");

@@ -28,7 +28,7 @@ pub(crate) fn show_top() {
         b"<style>body{font:15px/1.45 system-ui,sans-serif;margin:1em;color:#111;background:#fff}pre{white-space:pre-wrap;font:13px/1.5 ui-monospace,monospace}",
     );
     say(
-        b"div{overflow-x:auto}table{border-collapse:collapse;font:12px/1.35 ui-monospace,monospace}td,th{padding:1px 8px;text-align:left;vertical-align:top;white-space:nowrap}",
+        b"div{overflow-x:auto}section{content-visibility:auto;contain-intrinsic-size:auto 1900px}table{border-collapse:collapse;font:12px/1.35 ui-monospace,monospace}td,th{padding:1px 8px;text-align:left;vertical-align:top;white-space:nowrap}",
     );
     say(
         b"th{border-bottom:2px solid #555;background:#fff}td.n{text-align:right;color:#555}td.l{background:#eef4fb;border-left:3px solid #4a7ebb}td.f{background:#f3e3ee;border-left:3px dashed #8a2f6b}td.o{background:#fdf0d5;border-left:6px solid #d98e04}",
@@ -37,7 +37,7 @@ pub(crate) fn show_top() {
         b"td.d{color:#666;border-left:1px solid #ccc}tr.x td{background:#fbdcdc;border-top:2px solid #b00;border-bottom:2px solid #b00;font-weight:bold}tr.g td{color:#666}",
     );
     say(
-        b"@media print{div{overflow:visible}table{font-size:8px}td,th{padding:1px 3px;white-space:normal}tr{break-inside:avoid}}",
+        b"@media print{div{overflow:visible}section{content-visibility:visible}table{font-size:8px}td,th{padding:1px 3px;white-space:normal}tr{break-inside:avoid}}",
     );
     say(b"@media(max-width:600px){body{margin:.5em}table{font-size:11px}}</style></head><body>\n");
 }
@@ -55,11 +55,17 @@ pub(crate) fn close_text() {
     say(b"</pre>\n");
 }
 
+// The head of a column that is at least so many letters wide, in every part of the table alike.
+fn put_wide(out: &mut [u8], at: usize, width: u16) -> usize {
+    let a = put_with(out, at, b"<th style=min-width:", width as u64);
+    put(out, a, b"ch>")
+}
+
 fn put_lane_head(out: &mut [u8], at: usize, i: u8, width: u16) -> usize {
     if width == 0 {
         return at;
     }
-    let a = put(out, at, b"<th>");
+    let a = put_wide(out, at, width);
     let b = put_slot(out, a, i);
     put(out, b, b"</th>")
 }
@@ -78,7 +84,7 @@ fn put_operation_head(out: &mut [u8], at: usize, names: &[u8], o: u8, width: u16
     if width == 0 {
         return at;
     }
-    let a = put(out, at, b"<th>");
+    let a = put_wide(out, at, width);
     let b = put_part(out, a, names, 0x16, o);
     put(out, b, b"</th>")
 }
@@ -94,12 +100,20 @@ fn put_operation_heads(out: &mut [u8], at: usize, names: &[u8], w: Widths) -> us
 }
 
 pub(crate) fn show_head(names: &[u8], w: Widths) {
+    say(b"<div>");
+    show_part(names, w);
+}
+
+// A part of the table, under its heads. A browser lays out the parts that are in view, so that many steps are there as soon as few.
+fn show_part(names: &[u8], w: Widths) {
     let mut line = [0u8; 8192];
     let mut at = put(
         &mut line,
         0,
-        b"<div><table><thead><tr><th>step</th><th>ms</th><th>scheduler</th>",
+        b"<section><table><thead><tr><th style=min-width:5ch>step</th><th style=min-width:8ch>ms</th>",
     );
+    at = put_wide(&mut line, at, w.scheduler);
+    at = put(&mut line, at, b"scheduler</th>");
     at = put_lane_heads(&mut line, at, w);
     at = put_operation_heads(&mut line, at, names, w);
     at = put(&mut line, at, b"</tr></thead><tbody>\n");
@@ -107,7 +121,17 @@ pub(crate) fn show_head(names: &[u8], w: Widths) {
 }
 
 pub(crate) fn show_foot() {
-    say(b"</tbody></table></div>\n");
+    say(b"</tbody></table></section></div>\n");
+}
+
+// Every hundred steps a new part.
+fn show_break(names: &[u8], w: Widths, place: usize) {
+    if place % 100 == 1 {
+        if 1 < place {
+            say(b"</tbody></table></section>\n");
+            show_part(names, w);
+        }
+    }
 }
 
 // A lane's cell: a step, a start, or only that an instance lives there, or has failed.
@@ -137,7 +161,7 @@ fn put_lane(
     let y = slots.get(i);
     let l = y.life;
     if l.failed {
-        return put(out, at, b"<td class=f>");
+        return put(out, at, b"<td class=f>(failed)");
     }
     if y.used {
         return put(out, at, b"<td class=l>");
@@ -235,6 +259,7 @@ pub(crate) fn show_row(
     place: usize,
     ms: u64,
 ) {
+    show_break(names, w, place);
     let mut line = [0u8; 16384];
     let mut at = put(&mut line, 0, b"<tr>");
     at = put_front(&mut line, at, place, ms);

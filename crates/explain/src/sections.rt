@@ -448,15 +448,10 @@ fn show_sums(names: &[u8], t: Sums, o: u8) {
     let mut at = put_part(&mut line, 0, names, 0x16, o);
     at = put(&mut line, at, b": ");
     at = put_count(&mut line, at, t.started as u64, b"call");
-    at = put_with(&mut line, at, b"; ended by an instance ", t.back as u64);
-    at = put_with(&mut line, at, b", by the timeout ", t.timeouts as u64);
-    at = put_sum(
-        &mut line,
-        at,
-        b", by an instance that had failed ",
-        t.failures,
-    );
-    at = put_sum(&mut line, at, b"; handed back too late ", t.late);
+    at = put_with(&mut line, at, b"; answered in time: ", t.back as u64);
+    at = put_with(&mut line, at, b", timed out: ", t.timeouts as u64);
+    at = put_sum(&mut line, at, b", failed: ", t.failures);
+    at = put_sum(&mut line, at, b"; handed back too late: ", t.late);
     at = put(&mut line, at, b"\n");
     show(&line, at);
 }

@@ -20,6 +20,7 @@ use config::Config;
 use recording::Field;
 use state::State;
 use values::Step;
+use values::Value;
 
 // How wide each column is; 0 for one that is not shown.
 pub struct Widths {
@@ -177,14 +178,22 @@ pub(crate) fn put_start(out: &mut [u8], at: usize, s: &[u8], after: State, i: u8
 }
 
 // What a hand back came to.
-fn put_remark(out: &mut [u8], at: usize, x: Step) -> usize {
-    let v = x.claim;
-    if x.code == 13 {
+fn put_remark(out: &mut [u8], at: usize, code: u8, v: Value) -> usize {
+    if code == 13 {
         if v.number == 0 {
             return put(out, at, b", too late");
         }
+        if v.number == 1 {
+            return put(out, at, b", in time");
+        }
     }
     at
+}
+
+// An answer, and what it means.
+pub(crate) fn put_meant(out: &mut [u8], at: usize, code: u8, v: Value) -> usize {
+    let a = put_value(out, at, v);
+    put_remark(out, a, code, v)
 }
 
 // An accepted step in its lane or in the scheduler's column.
@@ -194,7 +203,7 @@ pub(crate) fn put_done(out: &mut [u8], at: usize, names: &[u8], x: Step) -> usiz
     }
     let a = put_deed(out, at, names, x);
     let b = put_answer(out, a, x.claim);
-    put_remark(out, b, x)
+    put_remark(out, b, x.code, x.claim)
 }
 
 // The refused step there: what was recorded and what is right, or that it is not possible.
@@ -203,9 +212,9 @@ pub(crate) fn put_refused(out: &mut [u8], at: usize, names: &[u8], x: Step, c: C
     match c {
         Cause::Differs(v) => {
             let b = put(out, a, b": RECORDED ");
-            let d = put_value(out, b, x.claim);
-            let e = put(out, d, b", RIGHT ");
-            put_value(out, e, v)
+            let d = put_meant(out, b, x.code, x.claim);
+            let e = put(out, d, b"; RIGHT ");
+            put_meant(out, e, x.code, v)
         }
         _ => put(out, a, b": NOT POSSIBLE"),
     }
@@ -236,7 +245,7 @@ fn put_lane(
     let y = slots.get(i);
     let l = y.life;
     if l.failed {
-        return put_byte(out, at, b'!');
+        return put(out, at, b"(failed)");
     }
     if y.used {
         return put_byte(out, at, b'|');
@@ -252,7 +261,10 @@ pub(crate) fn put_operation(out: &mut [u8], at: usize, st: State, o: u8) -> usiz
         let a = put_with(out, at, b"open, ", x.count as u64);
         return put(out, a, b" ms left");
     }
-    let b = put(out, at, b"done: ");
+    if x.number == 0 {
+        return put(out, at, b"not called yet");
+    }
+    let b = put(out, at, b"closed: ");
     put_value(out, b, x.done)
 }
 
