@@ -467,6 +467,35 @@ mender-put-told κs a x y s t p q = written-once _ _ _ _ _ _ _ p q
 pub mender-size-of : One Rattle.mender.proofs.size_of.Kinds.ps Rattle.mender.proofs.size_of.Kinds.r Rattle.mender.proofs.size_of.Reads.Post
 mender-size-of κs a x y s t p q = same (p .0) (q .0)
 
+-- ---- showing
+
+pub showing-Board-none : One Rattle.showing.proofs.Board.none.Kinds.ps Rattle.showing.proofs.Board.none.Kinds.r Rattle.showing.proofs.Board.none.Reads.Post
+showing-Board-none κs a x y s t = same
+
+pub showing-Board-rows : One Rattle.showing.proofs.Board.rows.Kinds.ps Rattle.showing.proofs.Board.rows.Kinds.r Rattle.showing.proofs.Board.rows.Reads.Post
+showing-Board-rows κs a x y s t = same
+
+pub showing-Board-row : One Rattle.showing.proofs.Board.row.Kinds.ps Rattle.showing.proofs.Board.row.Kinds.r Rattle.showing.proofs.Board.row.Reads.Post
+showing-Board-row κs a x y s t = same
+
+pub showing-Board-post : One Rattle.showing.proofs.Board.post.Kinds.ps Rattle.showing.proofs.Board.post.Kinds.r Rattle.showing.proofs.Board.post.Reads.Post
+showing-Board-post κs a x y s t = same
+
+pub showing-show : One Rattle.showing.proofs.show.Kinds.ps Rattle.showing.proofs.show.Kinds.r Rattle.showing.proofs.show.Reads.Post
+showing-show κs a x y s t = same
+
+pub showing-show-files : One Rattle.showing.proofs.show_files.Kinds.ps Rattle.showing.proofs.show_files.Kinds.r Rattle.showing.proofs.show_files.Reads.Post
+showing-show-files κs a x y s t = same
+
+pub board-lines-put-shown : Lent Rattle.board_lines.proofs.put_shown.Kinds.ps Rattle.board_lines.proofs.put_shown.Kinds.r Rattle.board_lines.proofs.put_shown.Reads.Post (λ κs s. s .0 .now)
+board-lines-put-shown κs a x y s t p q = written-once _ _ _ _ _ _ _ (p .0) (q .0)
+
+pub board-lines-put-told : Lent Rattle.board_lines.proofs.put_told.Kinds.ps Rattle.board_lines.proofs.put_told.Kinds.r Rattle.board_lines.proofs.put_told.Reads.Post (λ κs s. s .0 .now)
+board-lines-put-told κs a x y s t p q = written-once _ _ _ _ _ _ _ p q
+
+pub board-lines-put-history : Lent Rattle.board_lines.proofs.put_history.Kinds.ps Rattle.board_lines.proofs.put_history.Kinds.r Rattle.board_lines.proofs.put_history.Reads.Post (λ κs s. s .0 .now)
+board-lines-put-history κs a x y s t p q = written-once _ _ _ _ _ _ _ p q
+
 -- ---- causes
 
 pub causes-passes : One Rattle.causes.proofs.passes.Kinds.ps Rattle.causes.proofs.passes.Kinds.r Rattle.causes.proofs.passes.Reads.Post

@@ -1,0 +1,2 @@
+-- The bytes of the plan board (W-213).
+pub mod Printed

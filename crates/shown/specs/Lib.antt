@@ -1,0 +1,2 @@
+-- What the board promises (W-213).
+pub mod Claims
