@@ -2,10 +2,11 @@
 ghost use mathlib.Core.Path.{_≡_};
 ghost use Prim.Native.Nat.{ℕ};
 ghost use lib.Dec.{eqb, leb};
-ghost use Rattle.laws.specs.Choice.{pick, both};
+ghost use Rattle.laws.specs.Choice.{pick, both, either, bit};
 ghost use Rattle.laws.specs.Loop.{anyBelow};
 ghost use Rattle.values.specs.Values.{serverErrV, isNumber};
 ghost use Rattle.config.specs.Tables.{returnEventIn};
+ghost use Rattle.rules.specs.Sound.{waitsOn, waitersOf, isBound};
 ghost use Rattle.effects.specs.Steps.{opening, asking, waitingOn, callOf, runningOn, pollOf, collectOf, resultOf, closing, returnedRunnables, answers, finishing, handBackOf, timeoutOf, leaving, endOf, failing, failOf};
 use config::Config;
 use config::OperationConf;
@@ -21,6 +22,7 @@ use state::Owed;
 use state::Runnable;
 use state::Runnables;
 use state::Slot;
+use state::Slots;
 use state::State;
 use state::Stepped;
 use values::Value;
@@ -36,6 +38,45 @@ fn opening(timeout: u32, x: Operation) -> Operation
         count: timeout,
         done: Value::VOID,
     }
+}
+
+// A test as a number.
+fn bit(b: bool) -> u8
+    ensures { λ n. ⌜ n ≡ bit b ⌝ }
+{
+    if b { 1 } else { 0 }
+}
+
+// The instance waits on the operation o.
+fn waits_on(o: u8, x: Slot) -> bool
+    ensures { λ r. ⌜ r ≡ waitsOn o x ⌝ }
+{
+    let l = x.life;
+    l.waiting && l.on == o
+}
+
+// How many slots there are, as a number of a slot.
+const SLOTS: u8 = Slots::MAX as u8;
+
+// How many instances wait on the operation o. Each slot is asked for by `get`: a table that is indexed here is copied place by place in every step.
+fn waiters_of(t: Slots, o: u8) -> u8
+    ensures { λ r. ⌜ r ≡ waitersOf t o ⌝ }
+{
+    let mut n: u8 = 0;
+    let mut k: u8 = 0;
+    while k < SLOTS {
+        let x = t.get(k);
+        n = n + bit(waits_on(o, x));
+        k = k + 1;
+    }
+    n
+}
+
+// A call finds the operation open, or bound by an instance that waits on it.
+fn is_busy(x: Operation, t: Slots, o: u8) -> bool
+    ensures { λ r. ⌜ r ≡ either (x .calling) (isBound t o) ⌝ }
+{
+    x.calling || 0 < waiters_of(t, o)
 }
 
 // The server's queue has no room.
@@ -67,22 +108,23 @@ fn waiting_on(x: Slot, o: u8) -> Slot
 }
 
 // The caller of a synchronous operation waits on it.
-fn caller_after(c: OperationConf, o: u8, x: Slot) -> Slot
-    ensures { λ r. ⌜ r ≡ pick (c .asynchronous) x (waitingOn x o) ⌝ }
+fn caller_after(conf: OperationConf, o: u8, x: Slot) -> Slot
+    ensures { λ r. ⌜ r ≡ pick (conf .asynchronous) x (waitingOn x o) ⌝ }
 {
-    if c.asynchronous {
+    if conf.asynchronous {
         return x;
     }
     waiting_on(x, o)
 }
 
-// On an open call Limit, and nothing changes.
+// On an operation that is open or bound Limit, and nothing changes.
 pub fn call(cfg: Config, st: State, i: u8, o: u8, v: Value) -> Stepped
     ensures { λ r. ⌜ r ≡ callOf cfg st i o v ⌝ }
 {
     let operations = st.operations;
     let x = operations.get(o);
-    if x.calling {
+    let slots = st.slots;
+    if is_busy(x, slots, o) {
         return shared_steps::take(Value::LIMIT, st);
     }
     if x.number == Operation::LAST_NUMBER {
@@ -102,7 +144,6 @@ pub fn call(cfg: Config, st: State, i: u8, o: u8, v: Value) -> Stepped
         number: x.number,
         argument: v,
     };
-    let slots = st.slots;
     let mut next = st;
     next.operations = operations.with(o, opening(c.timeout, x));
     next.runnables = runnables.with(s, asking(r, client));

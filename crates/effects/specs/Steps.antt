@@ -15,6 +15,7 @@ use Rattle.state.specs.Parts.{lastNumber, noOwed, noStack, noSlot, noRunnable, 
 use Rattle.state.specs.Fields.{withInterval, withPending, withInstances, withRequests, withValue, withUpdated, withQueue, withCount, lifeWaiting, lifeRunning, lifeFinished, lifeFailed, lifeOf, withLife, withOwed, withStack}
 use Rattle.state.specs.Tables.{maxSlots, runnableIn, variableIn, areaIn, elementIn, operationIn, timerIn, slotIn, withRunnable, withVariable, withArea, withElement, withOperation, withTimer, withSlot, withRunnables, withVariables, withAreas, withElements, withOperations, withTimers, withSlots}
 use Rattle.state.specs.Queues.{upOne, pushRequest, firstRequest, restRequests, pushValue, firstValue, restValues, pushArea, topArea, popArea}
+use Rattle.rules.specs.Sound.{isBound}
 use Rattle.effects.specs.declared.Found.{Found}
 use Rattle.effects.specs.declared.Found.the-variants.{At, Nothing}
 
@@ -195,6 +196,10 @@ receiveOf st q = pick (isBare st q) (took noDataV st) (took (firstValue (element
 abbrev pub isOpen : State → ℕ → Bool
 isOpen st o = operationIn (st .operations) o .calling
 
+-- a call on the operation finds it open or bound (W-202)
+abbrev pub isBusy : State → ℕ → Bool
+isBusy st o = either (isOpen st o) (isBound (st .slots) o)
+
 -- the number of an operation is the last one ("Numbers of refusal", 9)
 abbrev pub isSpent : State → ℕ → Bool
 isSpent st o = eqb (operationIn (st .operations) o .number) lastNumber
@@ -229,10 +234,10 @@ called cfg st i o v =
     (asking (runnableIn (st .runnables) (operationConfIn (cfg .operations) o .server)) (record { operation = o; number = operationIn (st .operations) o .number; argument = v }))))
     (withSlot (st .slots) i (callerAfter cfg o (slotIn (st .slots) i)))
 
--- Limit during a call, and nothing changes; else 9, 8, or a call is started ("The eighteen steps", Call; "Numbers of refusal", 9 and 8)
+-- Limit while the operation is open or bound, and nothing changes; else 9, 8, or a call is started ("The eighteen steps", Call; "Numbers of refusal", 9 and 8; W-202)
 unfoldable pub callOf : Config → State → ℕ → ℕ → Value → Stepped
 callOf cfg st i o v =
-    pick (isOpen st o) (took limitV st)
+    pick (isBusy st o) (took limitV st)
     (pick (isSpent st o) (refused numbersSpent st)
     (pick (requestsFull cfg (st .runnables) (operationConfIn (cfg .operations) o .server)) (refused queueFull st)
     (took okV (called cfg st i o v))))

@@ -8,7 +8,7 @@ use lib.ListN.{replicate, set}
 use Rattle.laws.specs.Choice.{allOf}
 use Rattle.laws.specs.Loop.{allBelow, anyBelow, sumBelow, firstBelow}
 use Rattle.laws.specs.Row.{eachBelow, shifted, placeFilled, filled}
-use Rattle.values.specs.Values.{isVoid, isPayload, isKind, isGood, sameValue, voidV, numberV, okV, serverErrV}
+use Rattle.values.specs.Values.{isVoid, isPayload, isKind, isGood, sameValue, voidV, numberV, okV, timeoutV, serverErrV}
 use Rattle.config.specs.Tables.{runnableConfIn, addRunnableConf, variableConfIn, addVariableConf, areaConfIn, addAreaConf, requiredConfIn, addRequiredConf, providedConfIn, addProvidedConf, linkIn, addLink, operationConfIn, addOperationConf, timerConfIn, addTimerConf, dataEventIn, addDataEvent, returnEventIn, addReturnEvent, noConfig, noRunnableConf, noAreaConf, noRequiredConf, noOperationConf, noVariableConfs, noProvidedConfs, noLinks, noTimerConfs, noDataEvents, noReturnEvents}
 use Rattle.state.specs.Parts.{noRequests, noRunnable, noValues, noElement, noStack, noSlot, noClient, noOwed, noVariable, noArea, noOperation, noTimer}
 use Rattle.state.specs.Tables.{withRunnables, withVariables, withAreas, withElements, withOperations, withTimers, withSlots, noRunnables, runnableIn, withRunnable, noVariables, variableIn, withVariable, noAreas, areaIn, withArea, noElements, elementIn, withElement, noOperations, operationIn, withOperation, noTimers, timerIn, withTimer, noSlots, slotIn, withSlot}
@@ -16,7 +16,7 @@ use Rattle.state.specs.Queues.{pushRequest, firstRequest, restRequests, pushVal
 use Rattle.state.specs.Start.{startVariable, startElement, startRunnables, startVariables, startElements, startOf}
 use Rattle.entries.specs.Entries.{maxOf, countOf, placesOf, entryOf, placed}
 use Rattle.entries.specs.Faults.{inRange, namesThere, isServer, isQueued, rises, risesAt, pairsWell, entryFault, isNoEntry, placeSound, kindSound, configSound}
-use Rattle.rules.specs.Sound.{isNoClient, clientFits, requestsSound, valuesSound, runnableSound, variableSound, isStored, elementSound, isOutcome, callingSound, doneSound, operationSound, timerSound, waitsWell, lifeSound, owedSound, areaFits, stackSound, isNoSlot, slotSound, ofRunnable, slotsOf, countSound, timesIn, holders, areaSound, isClient, queuedAs, servedAs, clientsAs, numbered, clientSound, queuedSound, servedSound, calledSound, runnablesSound, variablesSound, elementsSound, operationsSound, timersSound, slotsSound, countsSound, areasSound, clientsSound, shaped, soundOf}
+use Rattle.rules.specs.Sound.{isNoClient, clientFits, requestsSound, valuesSound, runnableSound, variableSound, isStored, elementSound, isOutcome, callingSound, doneSound, operationSound, timerSound, waitsWell, lifeSound, owedSound, areaFits, stackSound, isNoSlot, slotSound, ofRunnable, slotsOf, countSound, timesIn, holders, areaSound, isClient, queuedAs, servedAs, clientsAs, numbered, clientSound, queuedSound, servedSound, calledSound, waitsOn, waitersOf, waiterSound, runnablesSound, variablesSound, elementsSound, operationsSound, timersSound, slotsSound, countsSound, areasSound, clientsSound, waitersSound, shaped, soundOf}
 use Rattle.effects.specs.Steps.{failing}
 use Rattle.types.specs.Types.{Value, Config, Client, Requests, Runnables, Elements, Operations, Life, Stack, Slot, Slots, State}
 
@@ -80,6 +80,10 @@ life waiting finished = record { runnable = 1; waiting = waiting; on = 0; finish
 -- an instance of the runnable r that neither waits nor serves
 pub idle : ℕ → Stack → Slot
 idle r stack = record { used = true; life = record { runnable = r; waiting = false; on = 0; finished = false; failed = false }; owed = noOwed; stack = stack }
+
+-- an instance of the third runnable that waits on the first operation
+pub waiter : Slot
+waiter = record { used = true; life = record { runnable = 2; waiting = true; on = 0; finished = false; failed = false }; owed = noOwed; stack = noStack }
 
 pub first : Slot
 first = caller 0 false nested
@@ -153,6 +157,7 @@ clauses cfg st =
     ∷ countsSound (st .runnables) (st .slots)
     ∷ areasSound cfg (st .areas) (st .slots)
     ∷ clientsSound (st .operations) (st .runnables) (st .slots)
+    ∷ waitersSound cfg (st .operations) (st .slots)
     ∷ []
 
 -- they are all there are
@@ -161,7 +166,7 @@ unfolding soundOf clauses
 clauses-are cfg st = refl
 
 pub state-sound : soundOf config state ≡ true
-unfolding allOf allBelow anyBelow sumBelow firstBelow eachBelow shifted placeFilled filled isVoid isPayload isKind isGood sameValue runnableConfIn addRunnableConf variableConfIn addVariableConf areaConfIn addAreaConf requiredConfIn addRequiredConf providedConfIn addProvidedConf linkIn addLink operationConfIn addOperationConf timerConfIn addTimerConf dataEventIn addDataEvent returnEventIn addReturnEvent noConfig noRequests noRunnable noValues noElement noStack noSlot noRunnables runnableIn withRunnable noVariables variableIn withVariable noAreas areaIn withArea noElements elementIn withElement noOperations operationIn withOperation noTimers timerIn withTimer noSlots slotIn withSlot pushRequest firstRequest restRequests pushValue firstValue restValues pushArea topArea popArea startVariable startElement startRunnables startVariables startElements startOf maxOf countOf placesOf entryOf placed inRange namesThere isServer isQueued rises risesAt pairsWell entryFault isNoEntry placeSound kindSound configSound isNoClient clientFits requestsSound valuesSound runnableSound variableSound isStored elementSound isOutcome callingSound doneSound operationSound timerSound waitsWell lifeSound owedSound areaFits stackSound isNoSlot slotSound ofRunnable slotsOf countSound timesIn holders areaSound isClient queuedAs servedAs clientsAs numbered clientSound queuedSound servedSound calledSound runnablesSound variablesSound elementsSound operationsSound timersSound slotsSound countsSound areasSound clientsSound shaped soundOf configWith config caller nested one served life idle first second slotsWith runnablesWith asked queueOne queueTwo operationsWith doneWith elementsWith state
+unfolding allOf allBelow anyBelow sumBelow firstBelow eachBelow shifted placeFilled filled isVoid isPayload isKind isGood sameValue runnableConfIn addRunnableConf variableConfIn addVariableConf areaConfIn addAreaConf requiredConfIn addRequiredConf providedConfIn addProvidedConf linkIn addLink operationConfIn addOperationConf timerConfIn addTimerConf dataEventIn addDataEvent returnEventIn addReturnEvent noConfig noRequests noRunnable noValues noElement noStack noSlot noRunnables runnableIn withRunnable noVariables variableIn withVariable noAreas areaIn withArea noElements elementIn withElement noOperations operationIn withOperation noTimers timerIn withTimer noSlots slotIn withSlot pushRequest firstRequest restRequests pushValue firstValue restValues pushArea topArea popArea startVariable startElement startRunnables startVariables startElements startOf maxOf countOf placesOf entryOf placed inRange namesThere isServer isQueued rises risesAt pairsWell entryFault isNoEntry placeSound kindSound configSound isNoClient clientFits requestsSound valuesSound runnableSound variableSound isStored elementSound isOutcome callingSound doneSound operationSound timerSound waitsWell lifeSound owedSound areaFits stackSound isNoSlot slotSound ofRunnable slotsOf countSound timesIn holders areaSound isClient queuedAs servedAs clientsAs numbered clientSound queuedSound servedSound calledSound waitsOn waitersOf waiterSound runnablesSound variablesSound elementsSound operationsSound timersSound slotsSound countsSound areasSound clientsSound waitersSound shaped soundOf configWith config caller nested one served life idle waiter first second slotsWith runnablesWith asked queueOne queueTwo operationsWith doneWith elementsWith state
 state-sound = refl
 
 -- ---- near it, and unsound for one clause alone
@@ -172,9 +177,9 @@ pub record Near : Type 0 where
   pub state : State
   pub fails : ℕ
 
--- all eleven hold but one
+-- all twelve hold but one
 pub allBut : ℕ → List Bool
-allBut k = set (replicate 11 true) k false
+allBut k = set (replicate 12 true) k false
 
 -- an operation has no time: the configuration is at fault
 unconfigured : Near
@@ -228,13 +233,13 @@ errNumbered = record { config = config; state = withOperations state (doneWith (
 timerUnused : Near
 timerUnused = record { config = config; state = withTimers state (record { at = set (replicate 8 noTimer) 0 (record { count = 1 }) }); fails = 6 }
 
--- an instance waits on an asynchronous operation
+-- an instance waits on an asynchronous operation; another waits on the synchronous one
 waitsAsync : Near
-waitsAsync = record { config = config; state = withSlots state (slotsWith (caller 1 false nested) second noSlot); fails = 7 }
+waitsAsync = record { config = config; state = withSlots (withRunnables state (runnablesWith 1 false (queueOne (asked 3)) 1)) (slotsWith (caller 1 false nested) second waiter); fails = 7 }
 
--- an instance waits on an operation of another component
+-- an instance waits on an operation of another component, and nobody else does
 waitsForeign : Near
-waitsForeign = record { config = config; state = withSlots state (slotsWith first (served 0 4 (life true false) noStack) noSlot); fails = 7 }
+waitsForeign = record { config = config; state = withSlots state (slotsWith (idle 0 nested) (served 0 4 (life true false) noStack) noSlot); fails = 7 }
 
 -- a finished instance still has its client
 owesFinished : Near
@@ -280,6 +285,14 @@ numberAbove = record { config = config; state = withSlots state (slotsWith first
 clientTwice : Near
 clientTwice = record { config = config; state = withRunnables state (runnablesWith 1 false (queueTwo (asked 3) (asked 3)) 0); fails = 10 }
 
+-- nobody waits on a synchronous operation whose call is open
+callUnbound : Near
+callUnbound = record { config = config; state = withSlots state (slotsWith (idle 0 nested) second noSlot); fails = 11 }
+
+-- two instances wait on one operation
+waitersTwo : Near
+waitersTwo = record { config = config; state = withSlots (withRunnables state (runnablesWith 1 false (queueOne (asked 3)) 1)) (slotsWith first second waiter); fails = 11 }
+
 pub near : List Near
 near =
     unconfigured
@@ -308,23 +321,27 @@ near =
     ∷ callAlone
     ∷ numberAbove
     ∷ clientTwice
+    ∷ callUnbound
+    ∷ waitersTwo
     ∷ []
 
 -- of each, the clauses hold as it says: all but one
 pub near-unsound : map (λ (x : Near). clauses (x .config) (x .state)) near ≡ map (λ (x : Near). allBut (x .fails)) near
-unfolding allOf allBelow anyBelow sumBelow firstBelow eachBelow shifted placeFilled filled isVoid isPayload isKind isGood sameValue runnableConfIn addRunnableConf variableConfIn addVariableConf areaConfIn addAreaConf requiredConfIn addRequiredConf providedConfIn addProvidedConf linkIn addLink operationConfIn addOperationConf timerConfIn addTimerConf dataEventIn addDataEvent returnEventIn addReturnEvent noConfig noRequests noRunnable noValues noElement noStack noSlot noRunnables runnableIn withRunnable noVariables variableIn withVariable noAreas areaIn withArea noElements elementIn withElement noOperations operationIn withOperation noTimers timerIn withTimer noSlots slotIn withSlot pushRequest firstRequest restRequests pushValue firstValue restValues pushArea topArea popArea startVariable startElement startRunnables startVariables startElements startOf maxOf countOf placesOf entryOf placed inRange namesThere isServer isQueued rises risesAt pairsWell entryFault isNoEntry placeSound kindSound configSound isNoClient clientFits requestsSound valuesSound runnableSound variableSound isStored elementSound isOutcome callingSound doneSound operationSound timerSound waitsWell lifeSound owedSound areaFits stackSound isNoSlot slotSound ofRunnable slotsOf countSound timesIn holders areaSound isClient queuedAs servedAs clientsAs numbered clientSound queuedSound servedSound calledSound runnablesSound variablesSound elementsSound operationsSound timersSound slotsSound countsSound areasSound clientsSound shaped soundOf configWith config caller nested one served life idle first second slotsWith runnablesWith asked queueOne queueTwo operationsWith doneWith elementsWith state clauses near allBut unconfigured slotsMore serverPending twiceWithout otherServer variableUnused queueLong queueOk behindQueue countAbove numberTop errNumbered timerUnused waitsAsync waitsForeign owesFinished finishedPlain foreignArea emptyUsed emptyFailed noInstance heldFree heldTwice callAlone numberAbove clientTwice
+unfolding allOf allBelow anyBelow sumBelow firstBelow eachBelow shifted placeFilled filled isVoid isPayload isKind isGood sameValue runnableConfIn addRunnableConf variableConfIn addVariableConf areaConfIn addAreaConf requiredConfIn addRequiredConf providedConfIn addProvidedConf linkIn addLink operationConfIn addOperationConf timerConfIn addTimerConf dataEventIn addDataEvent returnEventIn addReturnEvent noConfig noRequests noRunnable noValues noElement noStack noSlot noRunnables runnableIn withRunnable noVariables variableIn withVariable noAreas areaIn withArea noElements elementIn withElement noOperations operationIn withOperation noTimers timerIn withTimer noSlots slotIn withSlot pushRequest firstRequest restRequests pushValue firstValue restValues pushArea topArea popArea startVariable startElement startRunnables startVariables startElements startOf maxOf countOf placesOf entryOf placed inRange namesThere isServer isQueued rises risesAt pairsWell entryFault isNoEntry placeSound kindSound configSound isNoClient clientFits requestsSound valuesSound runnableSound variableSound isStored elementSound isOutcome callingSound doneSound operationSound timerSound waitsWell lifeSound owedSound areaFits stackSound isNoSlot slotSound ofRunnable slotsOf countSound timesIn holders areaSound isClient queuedAs servedAs clientsAs numbered clientSound queuedSound servedSound calledSound waitsOn waitersOf waiterSound runnablesSound variablesSound elementsSound operationsSound timersSound slotsSound countsSound areasSound clientsSound waitersSound shaped soundOf configWith config caller nested one served life idle waiter first second slotsWith runnablesWith asked queueOne queueTwo operationsWith doneWith elementsWith state clauses near allBut unconfigured slotsMore serverPending twiceWithout otherServer variableUnused queueLong queueOk behindQueue countAbove numberTop errNumbered timerUnused waitsAsync waitsForeign owesFinished finishedPlain foreignArea emptyUsed emptyFailed noInstance heldFree heldTwice callAlone numberAbove clientTwice callUnbound waitersTwo
 near-unsound = refl
 
 -- ---- near it, and sound
 
--- an operation is Done with ServerErr; an instance that waits has failed; a server's instance has failed and has its client
+-- an operation is Done with ServerErr; an instance that waits has failed; a server's instance has failed and has its client; the call that an instance waits for has timed out; an instance waits where no call was ever made
 pub soundToo : List State
 soundToo =
     withOperations state (doneWith serverErrV)
     ∷ withSlots state (slotsWith (failing first) second noSlot)
     ∷ withSlots state (slotsWith first (failing second) noSlot)
+    ∷ withOperations state (withOperation (operationsWith 50 3 0) 0 (record { number = 5; calling = false; count = 0; done = timeoutV }))
+    ∷ withOperations (withSlots (withRunnables state (runnablesWith 1 false noRequests 0)) (slotsWith first (served 1 3 (life false false) noStack) noSlot)) (withOperation (operationsWith 50 3 0) 0 noOperation)
     ∷ []
 
-pub near-sound : map (λ (x : State). soundOf config x) soundToo ≡ true ∷ true ∷ true ∷ []
-unfolding allOf allBelow anyBelow sumBelow firstBelow eachBelow shifted placeFilled filled isVoid isPayload isKind isGood sameValue runnableConfIn addRunnableConf variableConfIn addVariableConf areaConfIn addAreaConf requiredConfIn addRequiredConf providedConfIn addProvidedConf linkIn addLink operationConfIn addOperationConf timerConfIn addTimerConf dataEventIn addDataEvent returnEventIn addReturnEvent noConfig noRequests noRunnable noValues noElement noStack noSlot noRunnables runnableIn withRunnable noVariables variableIn withVariable noAreas areaIn withArea noElements elementIn withElement noOperations operationIn withOperation noTimers timerIn withTimer noSlots slotIn withSlot pushRequest firstRequest restRequests pushValue firstValue restValues pushArea topArea popArea startVariable startElement startRunnables startVariables startElements startOf maxOf countOf placesOf entryOf placed inRange namesThere isServer isQueued rises risesAt pairsWell entryFault isNoEntry placeSound kindSound configSound isNoClient clientFits requestsSound valuesSound runnableSound variableSound isStored elementSound isOutcome callingSound doneSound operationSound timerSound waitsWell lifeSound owedSound areaFits stackSound isNoSlot slotSound ofRunnable slotsOf countSound timesIn holders areaSound isClient queuedAs servedAs clientsAs numbered clientSound queuedSound servedSound calledSound runnablesSound variablesSound elementsSound operationsSound timersSound slotsSound countsSound areasSound clientsSound shaped soundOf configWith config caller nested one served life idle first second slotsWith runnablesWith asked queueOne queueTwo operationsWith doneWith elementsWith state soundToo
+pub near-sound : map (λ (x : State). soundOf config x) soundToo ≡ true ∷ true ∷ true ∷ true ∷ true ∷ []
+unfolding allOf allBelow anyBelow sumBelow firstBelow eachBelow shifted placeFilled filled isVoid isPayload isKind isGood sameValue runnableConfIn addRunnableConf variableConfIn addVariableConf areaConfIn addAreaConf requiredConfIn addRequiredConf providedConfIn addProvidedConf linkIn addLink operationConfIn addOperationConf timerConfIn addTimerConf dataEventIn addDataEvent returnEventIn addReturnEvent noConfig noRequests noRunnable noValues noElement noStack noSlot noRunnables runnableIn withRunnable noVariables variableIn withVariable noAreas areaIn withArea noElements elementIn withElement noOperations operationIn withOperation noTimers timerIn withTimer noSlots slotIn withSlot pushRequest firstRequest restRequests pushValue firstValue restValues pushArea topArea popArea startVariable startElement startRunnables startVariables startElements startOf maxOf countOf placesOf entryOf placed inRange namesThere isServer isQueued rises risesAt pairsWell entryFault isNoEntry placeSound kindSound configSound isNoClient clientFits requestsSound valuesSound runnableSound variableSound isStored elementSound isOutcome callingSound doneSound operationSound timerSound waitsWell lifeSound owedSound areaFits stackSound isNoSlot slotSound ofRunnable slotsOf countSound timesIn holders areaSound isClient queuedAs servedAs clientsAs numbered clientSound queuedSound servedSound calledSound waitsOn waitersOf waiterSound runnablesSound variablesSound elementsSound operationsSound timersSound slotsSound countsSound areasSound clientsSound waitersSound shaped soundOf configWith config caller nested one served life idle waiter first second slotsWith runnablesWith asked queueOne queueTwo operationsWith doneWith elementsWith state soundToo
 near-sound = refl

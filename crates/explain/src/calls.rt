@@ -215,6 +215,23 @@ pub(crate) fn served(st: State, i: u8) -> u8 {
     255
 }
 
+// The slot whose instance waits on an operation, and so has not collected yet; 255 where none does.
+pub(crate) fn waiter(st: State, o: u8) -> u8 {
+    let slots = st.slots;
+    let mut i: u8 = 0;
+    while i < 32 {
+        let x = slots.get(i);
+        let l = x.life;
+        if l.waiting {
+            if l.on == o {
+                return i;
+            }
+        }
+        i = i + 1;
+    }
+    255
+}
+
 // The time after a step.
 pub(crate) fn later(ms: u64, s: Step) -> u64 {
     let v = s.argument;

@@ -151,12 +151,12 @@ fn put_claimed(out: &mut [u8], at: usize, names: &[u8], x: Step, c: Cause) -> us
 }
 
 // Why, with what the calls before it came to.
-fn show_why(names: &[u8], t: calls::Calls, f: Focus, x: Step, c: Cause, k: u8) {
+fn show_why(names: &[u8], st: State, t: calls::Calls, f: Focus, x: Step, c: Cause, k: u8) {
     let mut line = [0u8; 2048];
     let mut at = put_with(&mut line, 0, b"\nWhy: rule ", k as u64);
     at = put(&mut line, at, b": ");
     at = reasons::put_cause(&mut line, at, names, x, c);
-    at = sections::put_story(&mut line, at, names, t, f.operation);
+    at = sections::put_story(&mut line, at, names, st, t, f.operation);
     at = put(&mut line, at, b"\n");
     show(&line, at);
 }
@@ -225,7 +225,7 @@ fn show_reasons(
 ) {
     let c = causes::cause_of(cfg, st, x);
     start_text(a);
-    show_why(names, t, focused(focus_of(st, x), c), x, c, k);
+    show_why(names, st, t, focused(focus_of(st, x), c), x, c, k);
     sections::show_allowed(cfg, st, names);
     sections::show_place(s, place);
     sections::show_rest(s, place);

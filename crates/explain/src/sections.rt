@@ -2,6 +2,7 @@
 use crate::calls::Calls;
 use crate::calls::Told;
 use crate::calls::later;
+use crate::calls::waiter;
 use crate::putting::byte_at;
 use crate::putting::put;
 use crate::putting::put_byte;
@@ -324,8 +325,15 @@ fn put_how(out: &mut [u8], at: usize, t: Told) -> usize {
     put_value(out, d, t.back)
 }
 
-// What the latest call of an operation came to.
-pub(crate) fn put_story(out: &mut [u8], at: usize, names: &[u8], calls: Calls, o: u8) -> usize {
+// What the latest call of an operation came to, and whether it was collected.
+pub(crate) fn put_story(
+    out: &mut [u8],
+    at: usize,
+    names: &[u8],
+    st: State,
+    calls: Calls,
+    o: u8,
+) -> usize {
     if 7 < o {
         return at;
     }
@@ -338,7 +346,25 @@ pub(crate) fn put_story(out: &mut [u8], at: usize, names: &[u8], calls: Calls, o
     let a = put_with(out, at, b" The call of step ", t.called as u64);
     let b = put_how(out, a, t);
     let c = put_late(out, b, t);
-    put(out, c, b".")
+    let d = put_uncollected(out, c, t, waiter(st, o));
+    put(out, d, b".")
+}
+
+// Who has not collected what a call ended with.
+fn put_uncollected(out: &mut [u8], at: usize, t: Told, i: u8) -> usize {
+    if t.ended == 0 {
+        return at;
+    }
+    if 31 < i {
+        return at;
+    }
+    let a = put(out, at, b"; its caller, ");
+    let b = put_slot(out, a, i);
+    put(
+        out,
+        b,
+        b", has not collected yet, and until it has, a call here is answered Limit",
+    )
 }
 
 fn put_late(out: &mut [u8], at: usize, t: Told) -> usize {

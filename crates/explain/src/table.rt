@@ -1,5 +1,6 @@
 // The steps as a table: a row for each, with the time that has passed, the scheduler, a lane for each slot, and the operations that matter.
 use crate::calls::later;
+use crate::calls::waiter;
 use crate::putting::byte_at;
 use crate::putting::letters;
 use crate::putting::pad;
@@ -253,7 +254,7 @@ fn put_lane(
     at
 }
 
-// An operation after a step.
+// An operation after a step; what its call ended with may wait for its caller.
 pub(crate) fn put_operation(out: &mut [u8], at: usize, st: State, o: u8) -> usize {
     let t = st.operations;
     let x = t.get(o);
@@ -265,7 +266,11 @@ pub(crate) fn put_operation(out: &mut [u8], at: usize, st: State, o: u8) -> usiz
         return put(out, at, b"not called yet");
     }
     let b = put(out, at, b"closed: ");
-    put_value(out, b, x.done)
+    let c = put_value(out, b, x.done);
+    if waiter(st, o) < 32 {
+        return put(out, c, b", not collected");
+    }
+    c
 }
 
 // ---- columns measured
@@ -309,6 +314,13 @@ fn scheduler_width(names: &[u8], x: Step) -> u16 {
     letters(&cell, 0, n)
 }
 
+// An operation that the step is about is shown: 20 letters have room for its longest count.
+fn state_width(after: State, o: u8) -> u16 {
+    let mut cell = [0u8; 512];
+    let n = put_operation(&mut cell, 0, after, o);
+    wider(letters(&cell, 0, n), 20)
+}
+
 // The columns with room for one more row.
 pub(crate) fn widened(w: Widths, names: &[u8], s: &[u8], o: u8, after: State, x: Step) -> Widths {
     let mut u = w;
@@ -323,8 +335,7 @@ pub(crate) fn widened(w: Widths, names: &[u8], s: &[u8], o: u8, after: State, x:
             u = widened_lane(u, v.number, n);
         }
     }
-    // an operation that the step is about is shown: 20 letters have room for its longest count
-    widened_operation(u, o, 20)
+    widened_operation(u, o, state_width(after, o))
 }
 
 // ---- rows

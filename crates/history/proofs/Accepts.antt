@@ -93,10 +93,10 @@ module _ (cfg : Config) (st : State) (s : Step) where
   deed-way g c k (go.receiveNone e) = calm c refl refl (calm-same st)
   deed-way g c k (go.receive z) = calm c refl refl (elements-calm st _)
   deed-way g c k (go.send z) = calm c refl refl (fed-calm cfg st _ _)
-  deed-way g c k (go.callOpen e) = calm-by c refl (quiet-open s c k) (calm-same st)
+  deed-way g c k (go.callBusy e) = calm-by c refl (quiet-open s c k) (calm-same st)
   deed-way g c k (go.call z) = call c k z refl
-  deed-way g c k (go.pollOpen e) = calm c refl refl (calm-same st)
-  deed-way g c k (go.poll e) = calm c refl refl (calm-same st)
+  deed-way g c k (go.pollOpen a e) = calm c refl refl (calm-same st)
+  deed-way g c k (go.poll a e) = calm c refl refl (calm-same st)
   deed-way g c k (go.collect z) = calm c refl refl (collect-calm st _)
   deed-way g c k (go.answer z e) = answer c k z e refl
   deed-way g c k (go.late z e) = late c k z refl

@@ -15,7 +15,7 @@ use lib.ListN.{getD}
 use lib.Seq.{getD-set-same}
 use borrow.Author.Tests.{lt-ltb, leb-true, eqb-true, eq-eqb, ne-eqb}
 use Rattle.numbers.specs.Codes.{callCode, resultCode, handBackCode, spawnCode}
-use Rattle.laws.specs.Choice.{pick, both, bit}
+use Rattle.laws.specs.Choice.{pick, both, either, bit}
 use Rattle.laws.specs.Loop.{sumBelow}
 use Rattle.laws.proofs.Choosing.{clash, both-left, both-right, all-told}
 use Rattle.laws.proofs.Looping.{all-at, sum-term, sum-two, sum-find, count-most}
@@ -24,10 +24,10 @@ use Rattle.values.specs.Values.{voidV, numberV, okV, limitV, noDataV, serverErr
 use Rattle.config.specs.Tables.{requiredConfIn}
 use Rattle.entries.specs.Faults.{isServer}
 use Rattle.state.specs.Tables.{areaIn, elementIn, operationIn, slotIn}
-use Rattle.rules.specs.Sound.{isStored, valuesSound, elementSound, elementsSound, timesIn, holders, isNoSlot, slotSound, slotsSound}
-use Rattle.effects.specs.Steps.{isOpen, answers, clientOf, hasFailed, lowestEmpty}
+use Rattle.rules.specs.Sound.{isStored, valuesSound, elementSound, elementsSound, timesIn, holders, isNoSlot, slotSound, slotsSound, isBound}
+use Rattle.effects.specs.Steps.{isOpen, isBusy, answers, clientOf, hasFailed, lowestEmpty}
 use Rattle.stays_sound.specs.Facts.{Sound, CanSpawn}
-use Rattle.stays_sound.proofs.Ways.{Way, callOpen, call, pollOpen, poll, collect, answer, late}
+use Rattle.stays_sound.proofs.Ways.{Way, callBusy, call, pollOpen, poll, collect, answer, late}
 use Rattle.history.specs.History.{noRequest, How, byTimeout, byInstance, byFailure, Ending, History, takenBy, queuedAt, latestOn, observe, endsOf, lastOn, isUnended, given, delivered}
 use Rattle.history.proofs.Tied.{AllProper, Tied, Proper}
 use Rattle.history.proofs.Deeds.{server-adds}
@@ -93,13 +93,14 @@ open-unended st h o t = go (isOpen st o) refl
 
 -- ---- what is answered
 
--- a call is Limit in a call, and else Ok
-call-way : (cfg : Config) (st : State) (s : Step) {w : Value} {t : State} → Way cfg st s callCode w t → w ≡ pick (isOpen st (s .what)) limitV okV
-call-way cfg st s (callOpen e) = rw e
-call-way cfg st s (call z) = rw (z .shut)
+-- a call is Limit on an operation that is open or bound, and else Ok
+call-way : (cfg : Config) (st : State) (s : Step) {w : Value} {t : State} → Way cfg st s callCode w t → w ≡ pick (isBusy st (s .what)) limitV okV
+call-way cfg st s (callBusy e) = rw e
+call-way cfg st s (call z) = rw (z .shut, z .free)
 
-pub call-alone : (cfg : Config) (st : State) (s : Step) (h : History) {w : Value} {t : State} → Tied st h → Way cfg st s callCode w t → w ≡ pick (isUnended h (s .what)) limitV okV
-call-alone cfg st s h t way = call-way cfg st s way ∙ ap (λ (b : Bool). pick b limitV okV) (open-unended st h (s .what) t)
+pub call-alone : (cfg : Config) (st : State) (s : Step) (h : History) (b : Bool) {w : Value} {t : State} → Tied st h → isBound (st .slots) (s .what) ≡ b → Way cfg st s callCode w t
+    → w ≡ pick (either (isUnended h (s .what)) b) limitV okV
+call-alone cfg st s h b t e way = call-way cfg st s way ∙ (λ i. pick (either (open-unended st h (s .what) t i) (e i)) limitV okV)
 
 -- a hand back in time is of the call that its instance was spawned for, which has no ending; in any other that call has one
 pub back-way : (cfg : Config) (st : State) (s : Step) (h : History) {w : Value} {t : State} → Tied st h → Way cfg st s handBackCode w t
@@ -125,8 +126,8 @@ back-failed cfg st s f (late z e) = back-void cfg st (s .who) (s .argument) z f
 
 -- a result is NoData in a call, and else what the operation is Done with
 result-way : (cfg : Config) (st : State) (s : Step) {w : Value} {t : State} → Way cfg st s resultCode w t → w ≡ pick (isOpen st (s .what)) noDataV (operationIn (st .operations) (s .what) .done)
-result-way cfg st s (pollOpen e) = rw e
-result-way cfg st s (poll e) = rw e
+result-way cfg st s (pollOpen a e) = rw e
+result-way cfg st s (poll a e) = rw e
 result-way cfg st s (collect z) = rw (z .shut)
 
 pub result-delivered : (cfg : Config) (st : State) (s : Step) (h : History) {w : Value} {t : State} → Tied st h → Way cfg st s resultCode w t → w ≡ pick (isUnended h (s .what)) noDataV (delivered (lastOn (s .what) (h .endings)))

@@ -1,11 +1,12 @@
--- What an accepted step was let through with, beyond its way: whoever takes it as an instance is in its slot (`taker-used`) and, if it has failed, does what is left to it (`failed-lets`), as it does if it is finished (`finished-lets`); and a result of a synchronous operation finds no call open there (`collected-shut`).
+-- What an accepted step was let through with, beyond its way: whoever takes it as an instance is in its slot (`taker-used`) and, if it has failed, does what is left to it (`failed-lets`), as it does if it is finished (`finished-lets`) or waits (`waiting-lets`); and a result of a synchronous operation finds no call open there (`collected-shut`).
 -- Assumes nothing.
 use mathlib.Core.Bool.{Bool, true, false}
 use mathlib.Core.Path.{_≡_, refl}
 use lib.Dec.{eqb}
+use borrow.Author.Tests.{eqb-true}
 use Rattle.numbers.specs.Codes.{exitCode, resultCode, handBackCode, endCode}
 use Rattle.laws.specs.Choice.{both, either}
-use Rattle.laws.proofs.Choosing.{all-told}
+use Rattle.laws.proofs.Choosing.{both-left, both-right, all-told}
 use Rattle.types.specs.Types.{Step, Taken, Config, State}
 use Rattle.config.specs.Tables.{operationConfIn}
 use Rattle.state.specs.Tables.{slotIn}
@@ -31,6 +32,12 @@ module _ (cfg : Config) (st : State) (s : Step) (a : stepOf cfg st s .answer ≡
   pub finished-lets : rowOf (s .code) .who ≡ aSlot → slotIn (st .slots) (s .who) .life .finished ≡ true → either (eqb (s .code) endCode) (both (hasFailed st (s .who)) (eqb (s .code) exitCode)) ≡ true
   unfolding lifeLets finishedLets
   finished-lets w f = rw f at (all-told _ (let-told cfg st s refl let-through w .life) .1 .0)
+
+  pub waiting-lets : rowOf (s .code) .who ≡ aSlot → slotIn (st .slots) (s .who) .life .waiting ≡ true → (s .code ≡ resultCode) × (slotIn (st .slots) (s .who) .life .on ≡ s .what)
+  unfolding lifeLets
+  waiting-lets w f =
+      let t = rw f at (all-told _ (let-told cfg st s refl let-through w .life) .0) in
+      (eqb-true _ _ (both-left (eqb (s .code) resultCode) _ t), eqb-true _ _ (both-right (eqb (s .code) resultCode) _ t))
 
   pub collected-shut : s .code ≡ resultCode → operationConfIn (cfg .operations) (s .what) .asynchronous ≡ false → isOpen st (s .what) ≡ false
   unfolding resultOf collectOf

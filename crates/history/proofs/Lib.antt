@@ -20,6 +20,7 @@ pub mod Held
 pub mod Unended
 pub mod Lives
 pub mod Backs
+pub mod Waiting
 pub mod Goes
 pub mod Reached
 pub mod Proofs

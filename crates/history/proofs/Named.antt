@@ -17,14 +17,14 @@ use Rattle.history.proofs.Deeds.{Deed, pass, call, answer, late, end, s
 
 -- ---- steps at their places
 
-started-more : (rs xs : List Step) (k o : ℕ) → Started rs k o → Started (rs ++ xs) k o
+pub started-more : (rs xs : List Step) (k o : ℕ) → Started rs k o → Started (rs ++ xs) k o
 unfolding Started
 started-more [] xs k o h = absurd h
 started-more (s ∷ rs) xs zero o h = absurd h
 started-more (s ∷ rs) xs (suc zero) o h = h
 started-more (s ∷ rs) xs (suc (suc k)) o h = started-more rs xs (suc k) o h
 
-started-here : (rs : List Step) (s : Step) → s .code ≡ callCode → s .claim ≡ okV → Started (rs ++ (s ∷ [])) (suc (length rs)) (s .what)
+pub started-here : (rs : List Step) (s : Step) → s .code ≡ callCode → s .claim ≡ okV → Started (rs ++ (s ∷ [])) (suc (length rs)) (s .what)
 unfolding Started
 started-here [] s c k = (c, refl, k)
 started-here (x ∷ rs) s c k = started-here rs s c k

@@ -3,12 +3,13 @@
 -- a recording is read off the run before it (`halves`).
 -- Assumes nothing.
 use Prim.Native.Nat.{ℕ, _+_, _<_}
-use mathlib.Core.Bool.{true}
+use mathlib.Core.Bool.{Bool, true, false}
 use mathlib.Core.List.{List, _∷_, _++_}
 use mathlib.Core.Option.{some}
 use mathlib.Core.Path.{_≡_, refl, sym, _∙_, ap}
 use native.Mathlib.Nat.{add-zero}
 use native.Mathlib.Omega.{arith}
+use lib.Dec.{ltb}
 use lib.ListN.{length, getD, length-drop}
 use lib.Seq.{getD-drop}
 use borrow.Author.Tests.{ltb-true, ltb-false, lt-ltb, eq-eqb}
@@ -20,22 +21,24 @@ use Rattle.state.specs.Start.{startOf}
 use Rattle.state.specs.Tables.{slotIn}
 use Rattle.effects.specs.Steps.{lowestEmpty}
 use Rattle.effects.specs.Step.{stepOf}
+use Rattle.rules.specs.Sound.{waitersOf}
 use Rattle.stays_sound.specs.Facts.{Sound}
 use Rattle.rules.proofs.Configured.{runnables-most, areas-most, server-there}
 use Rattle.stays_sound.proofs.Kept.{here, lowest-empty}
 use Rattle.stays_sound.proofs.Areas.{times-none, exit-stack}
 use Rattle.stays_sound.proofs.Clients.{requests-told}
 use Rattle.stays_sound.proofs.Ways.{Way}
-use Rattle.stays_sound.proofs.Accepted.{way, enter-told, exit-told, result-told, answer-told, end-told, spawn-told, timeout-told, tick-told}
-use Rattle.history.specs.History.{noRequest, History, historyOf, takenBy, latestOn, endsOf, isUnended, livesIn, holderOf, allQueued, allSpawns}
-use Rattle.history.specs.Promises.{Run, OfRuns, OfSteps, StaysSound, HeldBy, AreasHeld, EntersFree, ExitsHeld, EndsEmpty, SpawnsEmpty, ActsAlive, HolderStays, FailedStops, BackIsLast, EndsPaid, FailedGoesOn, RequestsFit, ValuesFit, CallsOneByOne, BackIsAnswered, EndsOnce, EndsProperly, TimeoutAtZero, TimeoutInTime, BackInTime, OpenInTime, TicksInTime, TimersInTime, ResultIsDelivered, DoneIsDelivered, NumberIsFinal, DoneIsFinal, FailureIsFinal, DoneIsFailure, UsedIsLived, FailedFollowed, FinishedFollowed, OpenIsUnended, UnendedIsLatest, LatestStarted, CountIsRest, QueuesFollowed, ServedFollowed, FirstInFirstOut, SpawnTakesNext}
+use Rattle.stays_sound.proofs.Accepted.{way, enter-told, exit-told, collect-told, result-told, answer-told, end-told, spawn-told, timeout-told, tick-told}
+use Rattle.history.specs.History.{noRequest, History, historyOf, takenBy, latestOn, endsOf, lastOn, isUnended, livesIn, boundIn, awaitsIn, holderOf, allQueued, allSpawns}
+use Rattle.history.specs.Promises.{Run, OfRuns, OfSteps, StaysSound, HeldBy, AreasHeld, EntersFree, ExitsHeld, EndsEmpty, SpawnsEmpty, ActsAlive, HolderStays, FailedStops, BackIsLast, EndsPaid, FailedGoesOn, RequestsFit, ValuesFit, CallsOneByOne, WaiterWaits, BackIsAnswered, EndsOnce, EndsProperly, TimeoutAtZero, TimeoutInTime, BackInTime, OpenInTime, TicksInTime, TimersInTime, ResultIsDelivered, ResultIsOwn, DoneIsDelivered, NumberIsFinal, DoneIsFinal, FailureIsFinal, DoneIsFailure, UsedIsLived, FailedFollowed, FinishedFollowed, WaitingFollowed, BoundFollowed, OpenIsUnended, UnendedIsLatest, LatestStarted, CountIsRest, QueuesFollowed, ServedFollowed, FirstInFirstOut, SpawnTakesNext}
 use Rattle.history.proofs.Runs.{Halves, halves, first, history-one}
 use Rattle.history.proofs.Deeds.{due-server}
 use Rattle.history.proofs.Ended.{ended-at, answer-latest}
-use Rattle.history.proofs.Reached.{sound-along, sound-at, tied-at, named-at, fifo-at, timed-at, ticked-at, ended-along, holds-at, unended-at, lives-at, backs-at, runs-at, paid-at, ends-grow}
-use Rattle.history.proofs.Lets.{taker-used, failed-lets, finished-lets, collected-shut}
+use Rattle.history.proofs.Reached.{sound-along, sound-at, tied-at, named-at, fifo-at, timed-at, ticked-at, ended-along, holds-at, unended-at, lives-at, backs-at, runs-at, paid-at, bounds-at, awaits-at, ends-grow}
+use Rattle.history.proofs.Lets.{taker-used, failed-lets, finished-lets, waiting-lets, collected-shut}
 use Rattle.history.proofs.Unended.{started-some}
 use Rattle.history.proofs.Lives.{lives-one, lives-on}
+use Rattle.history.proofs.Waiting.{Waiter, waiter-started, own-ending}
 use Rattle.history.proofs.Goes.{back-open, exit-open, end-open}
 use Rattle.history.proofs.Held.{Holds, held-by, free-none, stack-holder}
 use Rattle.history.proofs.Finals.{values-told, open-unended, call-alone, back-way, back-failed, result-delivered, done-final, failed-final, took-oldest}
@@ -154,7 +157,22 @@ values-fit cfg rs st c e q b = values-told cfg st q (sound-at cfg rs st c e) b
 pub calls-one-by-one : OfSteps CallsOneByOne
 calls-one-by-one cfg before after s st c e q =
     let m = found cfg before after s st c e in
-    call-alone cfg (m .mid) s (historyOf cfg before) (tied-at cfg before (m .mid) (m .before)) (way-there cfg before after s st c e q)
+    call-alone cfg (m .mid) s (historyOf cfg before) (boundIn cfg (s .what) before) (tied-at cfg before (m .mid) (m .before)) (bounds-at cfg before (m .mid) (m .before) .bound (s .what)) (way-there cfg before after s st c e q)
+
+-- who waits for a call: it does so in the state, and its call is at its place
+waits-there : (cfg : Config) (rs : List Step) (st : State) (i : ℕ) → Run cfg rs st → 0 < awaitsIn cfg i rs → slotIn (st .slots) i .life .waiting ≡ true
+waits-there cfg rs st i e p = by (slotIn (st .slots) i .life .waiting) refl
+  where
+    by : (b : Bool) → slotIn (st .slots) i .life .waiting ≡ b → slotIn (st .slots) i .life .waiting ≡ true
+    by true w = w
+    by false w = absurd (omega (arith, p, awaits-at cfg rs st e .idle i w))
+
+pub waiter-waits : OfSteps WaiterWaits
+waiter-waits cfg before after s st c e w p =
+    let m = found cfg before after s st c e in
+    let f = waits-there cfg before (m .mid) (s .who) (m .before) p in
+    let l = waiting-lets cfg (m .mid) s (taken-there cfg before after s st c e) w f in
+    (l .0, rw (l .1) at (waiter-started _ _ _ _ _ (awaits-at cfg before (m .mid) (m .before) .each (s .who) f)))
 
 pub back-is-answered : OfSteps BackIsAnswered
 back-is-answered cfg before after s st c e q =
@@ -216,6 +234,16 @@ result-is-delivered cfg before after s st c e q =
       λ f. sym (open-unended (m .mid) (historyOf cfg before) (s .what) t) ∙ collected-shut cfg (m .mid) s (taken-there cfg before after s st c e) q f,
     )
 
+-- the latest ending there is that of the caller's own call, since it is that of the latest one
+pub result-is-own : OfSteps ResultIsOwn
+result-is-own cfg before after s st c e q f =
+    let m = found cfg before after s st c e in
+    let h = historyOf cfg before in
+    let t = tied-at cfg before (m .mid) (m .before) in
+    let z = collect-told cfg (m .mid) s f (way-there cfg before after s st c e q) in
+    let w : Waiter before h (s .who) (s .what) (awaitsIn cfg (s .who) before) = rw (z .0 .on) at (awaits-at cfg before (m .mid) (m .before) .each (s .who) (z .0 .waiting)) in
+    own-ending cfg before s h (lastOn (s .what) (h .endings)) refl w (t .calls .ended (s .what) (z .0 .shut)) (z .1 ∙ t .calls .last (s .what) (z .0 .shut))
+
 pub done-is-delivered : OfRuns DoneIsDelivered
 done-is-delivered cfg rs st c e o b q = let t = tied-at cfg rs st e in (t .calls .last o q, t .calls .ended o q)
 
@@ -249,6 +277,18 @@ failed-followed cfg rs st c e i b = tied-at cfg rs st e .failed .each i
 
 pub finished-followed : OfRuns FinishedFollowed
 finished-followed cfg rs st c e i b = backs-at cfg rs st e .finished i
+
+pub waiting-followed : OfRuns WaitingFollowed
+waiting-followed cfg rs st c e i b = by (slotIn (st .slots) i .life .waiting) refl
+  where
+    by : (w : Bool) → slotIn (st .slots) i .life .waiting ≡ w → slotIn (st .slots) i .life .waiting ≡ ltb 0 (awaitsIn cfg i rs)
+    by true w = w ∙ sym (lt-ltb 0 (awaitsIn cfg i rs) (omega (arith, awaits-at cfg rs st e .each i w .place)))
+    by false w = w ∙ sym (ap (ltb 0) (awaits-at cfg rs st e .idle i w))
+
+pub bound-followed : OfRuns BoundFollowed
+bound-followed cfg rs st c e o b =
+    let k = bounds-at cfg rs st e .bound o in
+    (k, λ f u. sym k ∙ lt-ltb 0 (waitersOf (st .slots) o) (sound-at cfg rs st c e .waiters .bound o b (open-unended st (historyOf cfg rs) o (tied-at cfg rs st e) ∙ u) f))
 
 pub open-is-unended : OfRuns OpenIsUnended
 open-is-unended cfg rs st c e o b = open-unended st (historyOf cfg rs) o (tied-at cfg rs st e)

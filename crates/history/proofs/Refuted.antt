@@ -1,4 +1,4 @@
--- Steps that no machine accepts which keeps the promises: those that seven wrong machines of docs/machines.md accept, each with the promises that fail of them, whatever state they reach. The instance in the slot 0
+-- Steps that no machine accepts which keeps the promises: those that ten wrong machines of docs/machines.md accept, each with the promises that fail of them, whatever state they reach. The instance in the slot 0
 -- is of the runnable 0, which is plain; it calls the operation 0, which is asynchronous, and enters the area 0.
 -- The instance in the slot 1 is of the runnable 1, the server of that operation; it was spawned for the call.
 -- Assumes nothing.
@@ -7,7 +7,7 @@ use mathlib.Core.Bool.{true, false}
 use mathlib.Core.List.{[], _∷_}
 use mathlib.Core.Path.{_≡_, refl, ap}
 use native.Mathlib.Omega.{arith}
-use Rattle.numbers.specs.Codes.{writeVariableCode, enterCode, callCode, resultCode, handBackCode, spawnCode, timeoutCode, tickCode, waitCode, failCode}
+use Rattle.numbers.specs.Codes.{writeVariableCode, enterCode, callCode, resultCode, handBackCode, endCode, spawnCode, timeoutCode, tickCode, waitCode, failCode}
 use Rattle.laws.proofs.Choosing.{clash}
 use Rattle.types.specs.Types.{Value, Step, Config, State}
 use Rattle.values.specs.Values.{voidV, numberV, okV, limitV, timeoutV, sameValue}
@@ -15,8 +15,9 @@ use Rattle.config.specs.Tables.{operationConfIn}
 use Rattle.entries.specs.Faults.{isServer}
 use Rattle.state.specs.Tables.{operationIn}
 use Rattle.rules.specs.Rows.{rows, rowOf}
-use Rattle.history.specs.History.{nothing, observe, historyFrom, historyOf, endsOf, lastOn, isUnended, Started, timeOf, timeIn, livesAfter, livesFrom, livesIn, holderAfter, holderFrom, holderOf}
-use Rattle.history.specs.Promises.{SpawnsEmpty, FailedStops, HolderStays, CallsOneByOne, EndsOnce, OpenInTime, ResultIsDelivered, DoneIsDelivered, UnendedIsLatest}
+use Rattle.rules.specs.Refusals.{asksSynchronous}
+use Rattle.history.specs.History.{nothing, observe, historyFrom, historyOf, endsOf, lastOn, isUnended, endedCall, Started, timeOf, timeIn, livesAfter, livesFrom, livesIn, binds, boundAfter, boundFrom, boundIn, awaitsAfter, awaitsFrom, awaitsIn, holderAfter, holderFrom, holderOf}
+use Rattle.history.specs.Promises.{SpawnsEmpty, FailedStops, HolderStays, CallsOneByOne, WaiterWaits, EndsOnce, OpenInTime, ResultIsDelivered, ResultIsOwn, DoneIsDelivered, UnendedIsLatest}
 
 -- a step on the part 0, by the instance in the slot 0 or by the scheduler
 abbrev step : ℕ → Value → Value → Step
@@ -46,7 +47,7 @@ module _ (cfg : Config) (st : State) (q : isServer cfg 0 ≡ false) where
 
   -- `call_limits_full`: with the queue full, a call on the operation 1 is answered as if one were open there
   pub call-limits-full : CallsOneByOne cfg (spawns ∷ calls ∷ []) (record { code = callCode; who = 0; what = 1; argument = voidV; claim = limitV }) [] → ⊥
-  unfolding historyOf historyFrom observe nothing sameValue endsOf isUnended
+  unfolding historyOf historyFrom observe nothing sameValue endsOf isUnended boundIn boundFrom boundAfter
   call-limits-full h = omega (arith, ap (λ (v : Value). v .kind) (rw q at (h refl)))
 
   -- `spawn_over_living`: the second instance has the area that the first one entered
@@ -105,3 +106,46 @@ module _ (cfg : Config) (st : State) (q : isServer cfg 0 ≡ false) (y : isServe
   pub failed-number-delivered : (n : ℕ) → ResultIsDelivered cfg (spawns ∷ calls ∷ serves ∷ fails ∷ backs (numberV n) ∷ []) (gets (numberV n)) [] → ⊥
   unfolding historyOf historyFrom observe nothing sameValue endsOf lastOn isUnended
   failed-number-delivered n h = omega (arith, ap (λ (v : Value). v .kind) (rw (q, y, e) at (h refl .0)))
+
+-- ---- a caller that waits: the operation 0 is synchronous here, and the runnable 0 has a second instance, in the slot 1
+
+-- a step of the other instance on the operation 0
+abbrev other : ℕ → Value → Value → Step
+other n v w = record { code = n; who = 1; what = 0; argument = v; claim = w }
+
+-- it is spawned
+abbrev joins : Step
+joins = record { code = spawnCode; who = 0; what = 0; argument = voidV; claim = numberV 1 }
+
+module _ (cfg : Config) (q : isServer cfg 0 ≡ false) (f : operationConfIn (cfg .operations) 0 .asynchronous ≡ false) where
+  -- `limit_while_open`: the first caller's call has timed out, it has not collected, and the second caller's is answered Ok
+  pub limit-while-open : (t : ℕ) → CallsOneByOne cfg (spawns ∷ joins ∷ calls ∷ waits t ∷ step timeoutCode voidV voidV ∷ []) (other callCode voidV okV) [] → ⊥
+  unfolding historyOf historyFrom observe nothing sameValue endsOf isUnended boundIn boundFrom boundAfter binds asksSynchronous
+  limit-while-open t h = omega (arith, ap (λ (v : Value). v .kind) (rw (q, f) at (h refl)))
+
+  -- and so the first collects what the second's call came to, a timeout here
+  pub others-result : (t u : ℕ)
+      → ResultIsOwn cfg (spawns ∷ joins ∷ calls ∷ waits t ∷ step timeoutCode voidV voidV ∷ other callCode voidV okV ∷ waits u ∷ step timeoutCode voidV voidV ∷ []) (gets timeoutV) [] → ⊥
+  unfolding historyOf historyFrom observe nothing sameValue lastOn awaitsIn awaitsFrom awaitsAfter binds asksSynchronous
+  others-result t u h = let r = h refl f in omega (arith, rw q at (ap endedCall (r .1)), rw f at (r .3 .waits))
+
+  -- `caller_runs_on`: who waits for its call writes the variable 0
+  pub caller-runs-on : WaiterWaits cfg (spawns ∷ calls ∷ []) (step writeVariableCode (numberV 7) voidV) [] → ⊥
+  unfolding rowOf rows sameValue awaitsIn awaitsFrom awaitsAfter binds asksSynchronous
+  caller-runs-on h = omega (arith, h refl (rw f (omega arith)) .0)
+
+  -- it ends
+  pub waiter-ends : WaiterWaits cfg (spawns ∷ calls ∷ []) (step endCode voidV voidV) [] → ⊥
+  unfolding rowOf rows sameValue awaitsIn awaitsFrom awaitsAfter binds asksSynchronous
+  waiter-ends h = omega (arith, h refl (rw f (omega arith)) .0)
+
+  -- it collects again what it has collected
+  pub collects-twice : (t : ℕ) → ResultIsOwn cfg (spawns ∷ calls ∷ waits t ∷ step timeoutCode voidV voidV ∷ gets timeoutV ∷ []) (gets timeoutV) [] → ⊥
+  unfolding historyOf historyFrom observe nothing sameValue lastOn awaitsIn awaitsFrom awaitsAfter binds asksSynchronous
+  collects-twice t h = let r = h refl f in omega (arith, rw q at (ap endedCall (r .1)), rw f at (r .3 .waits))
+
+-- `bound_asynchronous`: the operation 0 is asynchronous, its call has ended, and the next is answered Limit all the same
+pub bound-asynchronous : (cfg : Config) (t : ℕ) → isServer cfg 0 ≡ false → operationConfIn (cfg .operations) 0 .asynchronous ≡ true
+    → CallsOneByOne cfg (spawns ∷ calls ∷ waits t ∷ step timeoutCode voidV voidV ∷ []) (step callCode voidV limitV) [] → ⊥
+unfolding historyOf historyFrom observe nothing sameValue endsOf isUnended boundIn boundFrom boundAfter binds asksSynchronous
+bound-asynchronous cfg t q f h = omega (arith, ap (λ (v : Value). v .kind) (rw (q, f) at (h refl)))

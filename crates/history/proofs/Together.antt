@@ -6,13 +6,15 @@ use Rattle.types.specs.Types.{Step}
 use Rattle.state.specs.Start.{startOf}
 use Rattle.history.specs.Promises.{Run, OfRuns, OfSteps, Followed, AtMoment, AtStep, Demand3}
 use Rattle.history.proofs.Runs.{halves}
-use Rattle.history.proofs.Proofs.{stays-sound, areas-held, enters-free, exits-held, ends-empty, spawns-empty, acts-alive, holder-stays, failed-stops, back-is-last, ends-paid, failed-goes-on, requests-fit, values-fit, calls-one-by-one, back-is-answered, ends-once, ends-properly, timeout-at-zero, timeout-in-time, back-in-time, open-in-time, ticks-in-time, timers-in-time, result-is-delivered, done-is-delivered, number-is-final, done-is-final, failure-is-final, done-is-failure, used-is-lived, failed-followed, finished-followed, open-is-unended, unended-is-latest, latest-started, count-is-rest, queues-followed, served-followed, first-in-first-out, spawn-takes-next}
+use Rattle.history.proofs.Proofs.{stays-sound, areas-held, enters-free, exits-held, ends-empty, spawns-empty, acts-alive, holder-stays, failed-stops, back-is-last, ends-paid, failed-goes-on, requests-fit, values-fit, calls-one-by-one, waiter-waits, back-is-answered, ends-once, ends-properly, timeout-at-zero, timeout-in-time, back-in-time, open-in-time, ticks-in-time, timers-in-time, result-is-delivered, result-is-own, done-is-delivered, number-is-final, done-is-final, failure-is-final, done-is-failure, used-is-lived, failed-followed, finished-followed, waiting-followed, bound-followed, open-is-unended, unended-is-latest, latest-started, count-is-rest, queues-followed, served-followed, first-in-first-out, spawn-takes-next}
 
 followed : OfRuns Followed
 followed cfg rs st c e = record {
   used = used-is-lived cfg rs st c e;
   failed = failed-followed cfg rs st c e;
   finished = finished-followed cfg rs st c e;
+  waiting = waiting-followed cfg rs st c e;
+  bound = bound-followed cfg rs st c e;
   unended = open-is-unended cfg rs st c e;
   newest = unended-is-latest cfg rs st c e;
   latest = latest-started cfg rs st c e;
@@ -52,12 +54,14 @@ at-step cfg before after s st c e = record {
   last = back-is-last cfg before after s st c e;
   paid = ends-paid cfg before after s st c e;
   call = calls-one-by-one cfg before after s st c e;
+  waiter = waiter-waits cfg before after s st c e;
   answer = back-is-answered cfg before after s st c e;
   zero = timeout-at-zero cfg before after s st c e;
   timeout = timeout-in-time cfg before after s st c e;
   back = back-in-time cfg before after s st c e;
   tick = ticks-in-time cfg before after s st c e;
   result = result-is-delivered cfg before after s st c e;
+  own = result-is-own cfg before after s st c e;
   number = number-is-final cfg before after s st c e;
   failure = failure-is-final cfg before after s st c e;
   spawn = spawn-takes-next cfg before after s st c e;

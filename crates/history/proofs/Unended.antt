@@ -47,9 +47,9 @@ started-some [] k o h = absurd h
 started-some (s ∷ rs) zero o h = absurd h
 started-some (s ∷ rs) (suc k) o h = omega arith
 
--- a step that starts no call leaves those that were started
-started-older : (rs : List Step) (s : Step) (k o : ℕ) → (s .code ≡ callCode → s .claim ≡ okV → ⊥) → Started (rs ++ (s ∷ [])) k o → Started rs k o
-started-older rs s k o q h = started-fewer rs s k o (λ e. let l = started-last rs s o (subst (λ (j : ℕ). Started (rs ++ (s ∷ [])) j o) e h) in q (l .0) (l .2)) h
+-- a step that starts no call on o leaves those that were started there
+pub started-older : (rs : List Step) (s : Step) (k o : ℕ) → (s .code ≡ callCode → s .claim ≡ okV → s .what ≡ o → ⊥) → Started (rs ++ (s ∷ [])) k o → Started rs k o
+started-older rs s k o q h = started-fewer rs s k o (λ e. let l = started-last rs s o (subst (λ (j : ℕ). Started (rs ++ (s ∷ [])) j o) e h) in q (l .0) (l .2) (l .1)) h
 
 -- ---- what a step adds
 
@@ -64,11 +64,13 @@ grows cfg h s k =
     (λ c. pick-has P (eqb (s .code) timeoutCode) _ _ (λ c. omega arith)
     (λ c. pick-has P (eqb (s .code) failCode) _ _ (λ c. omega arith) (λ c. omega arith))))))
 
-latest-still : (cfg : Config) (h : History) (s : Step) → (s .code ≡ callCode → s .claim ≡ okV → ⊥) → observe cfg h s .latest ≡ h .latest
+-- the latest call on o stays unless one starts there
+pub latest-still : (cfg : Config) (h : History) (s : Step) (o : ℕ) → (s .code ≡ callCode → s .claim ≡ okV → s .what ≡ o → ⊥) → latestOn (observe cfg h s) o ≡ latestOn h o
 unfolding observe
-latest-still cfg h s q =
-    let P : History → Type 0 = λ x. x .latest ≡ h .latest in
-    pick-has P (eqb (s .code) callCode) _ _ (λ c. pick-has P (sameValue (s .claim) okV) _ _ (λ e. absurd (q (eqb-true _ _ c) (same-value _ _ e))) (λ e. refl))
+latest-still cfg h s o q =
+    let P : History → Type 0 = λ x. latestOn x o ≡ latestOn h o in
+    pick-has P (eqb (s .code) callCode) _ _
+    (λ c. pick-has P (sameValue (s .claim) okV) _ _ (λ e. getD-set-other (h .latest) (s .what) o (h .place + 1) 0 (λ z. q (eqb-true _ _ c) (same-value _ _ e) (sym z))) (λ e. refl))
     (λ c. pick-has P (eqb (s .code) handBackCode) _ _ (λ c. pick-has P (eqb (s .claim .number) 1) _ _ (λ e. refl) (λ e. refl))
     (λ c. pick-has P (eqb (s .code) endCode) _ _ (λ c. refl)
     (λ c. pick-has P (eqb (s .code) spawnCode) _ _ (λ c. pick-has P (isServer cfg (s .what)) _ _ (λ e. refl) (λ e. refl))
@@ -86,7 +88,7 @@ unended-start = record { latest = λ k o x z. absurd x }
 
 module _ (cfg : Config) (st : State) (s : Step) (rs : List Step) (h : History) (u : Unended rs h) where
   unended-still : (s .code ≡ callCode → s .claim ≡ okV → ⊥) → Unended (rs ++ (s ∷ [])) (observe cfg h s)
-  unended-still q = record { latest = λ k o x z. rw (latest-still cfg h s q) (u .latest k o (started-older rs s k o q x) (omega (arith, z, grows cfg h s k))) }
+  unended-still q = record { latest = λ k o x z. u .latest k o (started-older rs s k o (λ c e w. q c e) x) (omega (arith, z, grows cfg h s k)) ∙ sym (latest-still cfg h s o (λ c e w. q c e)) }
 
   unended-call : s .what < length (h .latest) → isOpen st (s .what) ≡ false → Tied st h → Named rs h → Unended (rs ++ (s ∷ [])) (begins cfg h (s .what) (s .argument))
   unended-call b shut t n = record { latest = λ k o x z. go k o x z (ℕ-discrete k (suc (length rs))) }

@@ -1,8 +1,8 @@
--- The calls of a recording, the time that passes in it, who lives in its slots, who has failed and who holds its areas, as its steps and their answers show them under its configuration. No state of the machine is used here, and no number of an operation.
+-- The calls of a recording, the time that passes in it, who lives in its slots, who has failed, who waits and who holds its areas, as its steps and their answers show them under its configuration. No state of the machine is used here, and no number of an operation.
 -- The name of a call is where its step stands in the recording, from 1 on, and 0 names none; an accepted step has the answer that it claims.
 -- Assumes nothing.
 use Prim.Native.Nat.{ℕ, zero, suc, _+_, _≤_}
-use mathlib.Core.Bool.{Bool, true, false}
+use mathlib.Core.Bool.{Bool, true, false, not}
 use mathlib.Core.List.{List, [], _∷_, _++_}
 use mathlib.Core.Option.{Option, none, some}
 use mathlib.Core.Path.{_≡_}
@@ -15,6 +15,7 @@ use Rattle.values.specs.Values.{voidV, numberV, okV, timeoutV, serverErrV, same
 use Rattle.config.specs.Tables.{maxRunnableConfs, maxOperationConfs, operationConfIn}
 use Rattle.entries.specs.Faults.{isServer}
 use Rattle.state.specs.Tables.{maxSlots}
+use Rattle.rules.specs.Refusals.{asksSynchronous}
 
 -- a request: its call's name, the operation called and the argument passed ("How tight the contracts are", demand 3)
 pub record Request : Type 0 where
@@ -255,6 +256,42 @@ backFrom i w (s ∷ rs) = backFrom i (backAfter i w s) rs
 -- the instance in the slot i has handed back, after the steps of a recording ("The eighteen steps", 13, 14 and Spawn)
 unfoldable pub backIn : ℕ → List Step → Bool
 backIn i rs = backFrom i false rs
+
+-- ---- waiting callers, as calls and results tell it
+
+-- the step s starts a call on a synchronous operation (W-202)
+unfoldable pub binds : Config → Step → Bool
+binds cfg s = both (eqb (s .code) callCode) (both (sameValue (s .claim) okV) (not (operationConfIn (cfg .operations) (s .what) .asynchronous)))
+
+-- the step s collects the result of a synchronous operation (W-202)
+abbrev pub frees : Config → Step → Bool
+frees cfg s = asksSynchronous cfg (s .code) (s .what)
+
+-- whether the operation o is bound after the step s, if w says so before: a call that starts there binds it, and its result frees it (W-202)
+unfoldable pub boundAfter : Config → ℕ → Bool → Step → Bool
+boundAfter cfg o w s = pick (eqb (s .what) o) (pick (binds cfg s) true (pick (frees cfg s) false w)) w
+
+-- the same after more steps (W-202)
+unfoldable pub boundFrom : Config → ℕ → Bool → List Step → Bool
+boundFrom cfg o w [] = w
+boundFrom cfg o w (s ∷ rs) = boundFrom cfg o (boundAfter cfg o w s) rs
+
+-- the operation o is bound, after the steps of a recording (W-202)
+unfoldable pub boundIn : Config → ℕ → List Step → Bool
+boundIn cfg o rs = boundFrom cfg o false rs
+
+-- the call that the instance in the slot i waits for after the step s at place n, if it was w before: its own call on a synchronous operation, until it has collected, and 0 for none (W-202)
+unfoldable pub awaitsAfter : Config → ℕ → ℕ → ℕ → Step → ℕ
+awaitsAfter cfg i n w s = pick (eqb (s .who) i) (pick (binds cfg s) n (pick (frees cfg s) 0 w)) w
+
+-- the same after more steps, before which n stand (W-202)
+unfoldable pub awaitsFrom : Config → ℕ → ℕ → ℕ → List Step → ℕ
+awaitsFrom cfg i w n [] = w
+awaitsFrom cfg i w n (s ∷ rs) = awaitsFrom cfg i (awaitsAfter cfg i (n + 1) w s) (n + 1) rs
+
+-- the call that the instance in the slot i waits for, after the steps of a recording (W-202)
+unfoldable pub awaitsIn : Config → ℕ → List Step → ℕ
+awaitsIn cfg i rs = awaitsFrom cfg i 0 0 rs
 
 -- ---- areas, as enters and exits tell it
 

@@ -20,9 +20,9 @@ use Rattle.state.specs.Queues.{topArea}
 use Rattle.state.specs.Tables.{maxSlots, runnableIn, areaIn, elementIn, operationIn, slotIn}
 use Rattle.state.specs.Start.{startOf}
 use Rattle.rules.specs.Rows.{aSlot, rowOf}
-use Rattle.rules.specs.Sound.{timesIn, soundOf}
+use Rattle.rules.specs.Sound.{timesIn, isBound, soundOf}
 use Rattle.effects.specs.Step.{possibleOf, stepOf}
-use Rattle.history.specs.History.{Request, noRequest, byInstance, byFailure, Ending, historyOf, queuedAt, takenBy, failedBy, latestOn, endsOf, lastOn, isUnended, delivered, endedCall, Started, EndedBy, timeSince, lastTick, InTime, livesIn, backIn, holderOf, allQueued, allSpawns}
+use Rattle.history.specs.History.{Request, noRequest, byInstance, byFailure, Ending, historyOf, queuedAt, takenBy, failedBy, latestOn, endsOf, lastOn, isUnended, given, delivered, endedCall, Started, EndedBy, timeSince, lastTick, InTime, livesIn, backIn, boundIn, awaitsIn, holderOf, allQueued, allSpawns}
 
 -- an answer says that the step was taken, with this value: by the number and the value that stand for it; no refusal has the number 0 (`never-zero` in crate stays_sound) ("Numbers of refusal")
 abbrev pub Answers : Answer → Value → Type 0
@@ -122,9 +122,14 @@ RequestsFit cfg rs st = (r : ℕ) → r < maxRunnableConfs → runnableIn (st .r
 abbrev pub ValuesFit : Config → List Step → State → Type 0
 ValuesFit cfg rs st = (q : ℕ) → q < maxRequiredConfs → elementIn (st .elements) q .queue .queued ≤ requiredConfIn (cfg .required) q .capacity
 
--- a call is answered Limit while a call is open there, and Ok at any other time ("The eighteen steps", Call)
+-- a call is answered Limit while a call is open there or its caller has not collected, and Ok at any other time ("The eighteen steps", Call; W-202)
 abbrev pub CallsOneByOne : Config → List Step → Step → List Step → Type 0
-CallsOneByOne cfg before s after = s .code ≡ callCode → s .claim ≡ pick (isUnended (historyOf cfg before) (s .what)) limitV okV
+CallsOneByOne cfg before s after = s .code ≡ callCode → s .claim ≡ pick (either (isUnended (historyOf cfg before) (s .what)) (boundIn cfg (s .what) before)) limitV okV
+
+-- who waits for a call takes no step but one: it asks for the result on that call's operation ("Numbers of refusal", 5; W-202)
+abbrev pub WaiterWaits : Config → List Step → Step → List Step → Type 0
+WaiterWaits cfg before s after =
+    rowOf (s .code) .who ≡ aSlot → 0 < awaitsIn cfg (s .who) before → (s .code ≡ resultCode) × Started before (awaitsIn cfg (s .who) before) (s .what)
 
 -- a hand back is answered 1, and so ends the call that its instance was spawned for, exactly if that call has no ending yet ("The eighteen steps", Hand back)
 abbrev pub BackIsAnswered : Config → List Step → Step → List Step → Type 0
@@ -188,6 +193,25 @@ ResultIsDelivered cfg before s after =
     → (s .claim ≡ pick (isUnended (historyOf cfg before) (s .what)) noDataV (delivered (lastOn (s .what) (historyOf cfg before .endings))))
     × (operationConfIn (cfg .operations) (s .what) .asynchronous ≡ false → isUnended (historyOf cfg before) (s .what) ≡ false)
 
+-- what the step s collects, the ending e, is of its own call: that call was made by the instance that asks, which lives where it lived then and has waited for it since, and no other was started there behind it (W-202)
+pub record Own (cfg : Config) (before : List Step) (s : Step) (e : Ending) : Type 0 where
+  pub earlier : List Step
+  pub call : Step
+  pub between : List Step
+  pub whole : before ≡ earlier ++ (call ∷ between)
+  pub place : e .call ≡ length earlier + 1
+  pub started : (call .code ≡ callCode) × (call .what ≡ s .what) × (call .claim ≡ okV)
+  pub caller : call .who ≡ s .who
+  pub lives : (0 < livesIn (s .who) earlier) × (livesIn (s .who) before ≡ livesIn (s .who) earlier)
+  pub waits : awaitsIn cfg (s .who) before ≡ e .call
+  pub alone : (k : ℕ) → Started between k (s .what) → ⊥
+
+-- a synchronous result is that of the caller's own call: the latest ending there is of that very call, and gave it (W-202)
+abbrev pub ResultIsOwn : Config → List Step → Step → List Step → Type 0
+ResultIsOwn cfg before s after =
+    s .code ≡ resultCode → operationConfIn (cfg .operations) (s .what) .asynchronous ≡ false
+    → (e : Ending) × (lastOn (s .what) (historyOf cfg before .endings) ≡ some e) × (s .claim ≡ given (e .how)) × Own cfg before s e
+
 -- an operation in no call holds exactly what the latest ending there gave, Void before any, and that ending was its latest call's ("The eighteen steps", 13 and 16)
 abbrev pub DoneIsDelivered : Config → List Step → State → Type 0
 DoneIsDelivered cfg rs st =
@@ -231,6 +255,17 @@ FailedFollowed cfg rs st = (i : ℕ) → i < maxSlots → slotIn (st .slots) i .
 -- an instance is finished exactly if it has handed back ("The eighteen steps", Hand back)
 abbrev pub FinishedFollowed : Config → List Step → State → Type 0
 FinishedFollowed cfg rs st = (i : ℕ) → i < maxSlots → slotIn (st .slots) i .life .finished ≡ backIn i rs
+
+-- an instance waits exactly if it has a call that it has not collected (W-202)
+abbrev pub WaitingFollowed : Config → List Step → State → Type 0
+WaitingFollowed cfg rs st = (i : ℕ) → i < maxSlots → slotIn (st .slots) i .life .waiting ≡ ltb 0 (awaitsIn cfg i rs)
+
+-- an operation is bound, by an instance that waits on it, exactly if the recording says so; and so is every synchronous one whose latest call has no ending yet (W-202)
+abbrev pub BoundFollowed : Config → List Step → State → Type 0
+BoundFollowed cfg rs st =
+    (o : ℕ) → o < maxOperationConfs
+    → (isBound (st .slots) o ≡ boundIn cfg o rs)
+    × (operationConfIn (cfg .operations) o .asynchronous ≡ false → isUnended (historyOf cfg rs) o ≡ true → boundIn cfg o rs ≡ true)
 
 -- an operation is open exactly if its latest call has no ending yet ("How tight the contracts are", demand 3)
 abbrev pub OpenIsUnended : Config → List Step → State → Type 0
@@ -284,6 +319,8 @@ pub record Followed (cfg : Config) (rs : List Step) (st : State) : Type 0 where
   pub used : UsedIsLived cfg rs st
   pub failed : FailedFollowed cfg rs st
   pub finished : FinishedFollowed cfg rs st
+  pub waiting : WaitingFollowed cfg rs st
+  pub bound : BoundFollowed cfg rs st
   pub unended : OpenIsUnended cfg rs st
   pub newest : UnendedIsLatest cfg rs st
   pub latest : LatestStarted cfg rs st
@@ -321,12 +358,14 @@ pub record AtStep (cfg : Config) (before : List Step) (s : Step) (after : List S
   pub last : BackIsLast cfg before s after
   pub paid : EndsPaid cfg before s after
   pub call : CallsOneByOne cfg before s after
+  pub waiter : WaiterWaits cfg before s after
   pub answer : BackIsAnswered cfg before s after
   pub zero : TimeoutAtZero cfg before s after
   pub timeout : TimeoutInTime cfg before s after
   pub back : BackInTime cfg before s after
   pub tick : TicksInTime cfg before s after
   pub result : ResultIsDelivered cfg before s after
+  pub own : ResultIsOwn cfg before s after
   pub number : NumberIsFinal cfg before s after
   pub failure : FailureIsFinal cfg before s after
   pub spawn : SpawnTakesNext cfg before s after

@@ -226,6 +226,26 @@ servedSound os rs ss k = either (not (slotIn ss k .owed .serving)) (clientSound 
 unfoldable pub calledSound : Operations → Runnables → Slots → ℕ → Bool
 calledSound os rs ss o = either (not (operationIn os o .calling)) (eqb (clientsAs rs ss o (operationIn os o .number)) 1)
 
+-- ---- waiters: an operation has one at most, and while a synchronous call is open it has one
+
+-- the instance of a slot waits on the operation o (W-202)
+unfoldable pub waitsOn : ℕ → Slot → Bool
+waitsOn o x = both (x .life .waiting) (eqb (x .life .on) o)
+
+-- how many instances wait on the operation o (W-202)
+unfoldable pub waitersOf : Slots → ℕ → ℕ
+waitersOf t o = countBelow (λ (k : ℕ). waitsOn o (slotIn t k)) maxSlots
+
+-- an operation is bound exactly while an instance waits on it (W-202)
+abbrev pub isBound : Slots → ℕ → Bool
+isBound t o = ltb 0 (waitersOf t o)
+
+-- an operation has at most one waiter, and an open synchronous call is always bound (W-202)
+unfoldable pub waiterSound : Config → Operations → Slots → ℕ → Bool
+waiterSound cfg os ss o =
+    both (leb (waitersOf ss o) 1)
+    (either (not (operationIn os o .calling)) (either (operationConfIn (cfg .operations) o .asynchronous) (isBound ss o)))
+
 -- ---- the clauses over whole tables
 
 -- every runnable is sound, each unused place too ("A sound state")
@@ -266,6 +286,10 @@ clientsSound os rs ss =
     both (allBelow (queuedSound os rs ss) maxRunnableConfs)
     (both (allBelow (servedSound os rs ss) maxSlots) (allBelow (calledSound os rs ss) maxOperationConfs))
 
+-- every operation has the waiters that it may have ("A sound state"; W-202)
+unfoldable pub waitersSound : Config → Operations → Slots → Bool
+waitersSound cfg os ss = allBelow (waiterSound cfg os ss) maxOperationConfs
+
 -- the seven tables have their lengths ("The parts, and how many")
 unfoldable pub shaped : State → Bool
 shaped st =
@@ -294,4 +318,5 @@ soundOf cfg st =
     ∷ countsSound (st .runnables) (st .slots)
     ∷ areasSound cfg (st .areas) (st .slots)
     ∷ clientsSound (st .operations) (st .runnables) (st .slots)
+    ∷ waitersSound cfg (st .operations) (st .slots)
     ∷ [])

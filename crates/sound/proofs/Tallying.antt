@@ -17,7 +17,7 @@ use Rattle.laws.proofs.Choosing.{both-left, both-true, all-told}
 use Rattle.laws.proofs.Looping.{all-at, sum-more, sum-same, sum-bound, count-most}
 use Rattle.types.specs.Types.{Config, Client, Owed, Stack, Slot, Slots}
 use Rattle.state.specs.Tables.{slotIn}
-use Rattle.rules.specs.Sound.{slotSound, lifeSound, owedSound, stackSound, isNoSlot, ofRunnable, timesIn, isClient, servedAs}
+use Rattle.rules.specs.Sound.{slotSound, lifeSound, owedSound, stackSound, isNoSlot, ofRunnable, timesIn, isClient, servedAs, waitsOn}
 use Rattle.sound.specs.declared.Held.{Held}
 use Rattle.sound.specs.declared.Noted.{Noted}
 use Rattle.sound.specs.Tally.{noTally, counted, entered, heldBelow, noting, tallied, tallyOf, notedAt, notedAs, Tallies}
@@ -29,7 +29,7 @@ unfolding counted
 counted-long l true r = length-set l r _
 counted-long l false r = refl
 
--- a count goes up where the slot is that runnable's
+-- a count goes up at its own place
 counted-at : (l : List ℕ) (used : Bool) (r i : ℕ) → i < length l → getD l i 0 < 255 → getD (counted l used r) i 0 ≡ getD l i 0 + bit (both used (eqb r i))
 unfolding counted
 counted-at l false r i b h = omega arith
@@ -38,6 +38,10 @@ counted-at l true r i b h = go (ℕ-discrete r i)
     go : Dec (r ≡ i) → getD (counted l true r) i 0 ≡ getD l i 0 + bit (eqb r i)
     go (yes e) = rw (e, getD-set-same l i _ 0 b, eq-eqb i i refl) (omega arith)
     go (no n) = rw (getD-set-other l r i _ 0 (λ e. n (sym e)), ne-eqb r i n) (omega arith)
+
+-- a count of the first k slots, one slot on
+counted-more : (l : List ℕ) (more : Bool) (r i : ℕ) (p : ℕ → Bool) (k : ℕ) → k < 32 → i < length l → getD l i 0 ≡ countBelow p k → getD (counted l more r) i 0 ≡ countBelow p k + bit (both more (eqb r i))
+counted-more l more r i p k b c e = counted-at l more r i c (omega (arith, e, count-most p k)) ∙ omega (arith, e)
 
 entered-at : (l : Held) (a i : ℕ) → i < length (l .at) → getD (l .at) i 0 < 65535 → getD (entered l a .at) i 0 ≡ getD (l .at) i 0 + bit (eqb a i)
 unfolding entered
@@ -148,12 +152,13 @@ module _ (cfg : Config) (ss : Slots) where
   unfolding allBelow
   sound-before k h = both-left (allBelow (λ (j : ℕ). slotSound cfg (slotIn ss j)) k) (slotSound cfg (slotIn ss k)) h
 
-  tally-long : (k : ℕ) → (length (tallyOf ss k .instances) ≡ 16) × (length (tallyOf ss k .held .at) ≡ 16)
+  tally-long : (k : ℕ) → (length (tallyOf ss k .instances) ≡ 16) × (length (tallyOf ss k .waiters) ≡ 8) × (length (tallyOf ss k .held .at) ≡ 16)
   unfolding tallyOf tallied noTally
-  tally-long zero = (refl, refl)
+  tally-long zero = (refl, refl, refl)
   tally-long (suc k) = (
     counted-long (tallyOf ss k .instances) (slotIn ss k .used) (slotIn ss k .life .runnable) ∙ tally-long k .0,
-    held-long (slotIn ss k .stack) (slotIn ss k .stack .held) (tallyOf ss k .held) ∙ tally-long k .1,
+    counted-long (tallyOf ss k .waiters) (slotIn ss k .life .waiting) (slotIn ss k .life .on) ∙ tally-long k .1,
+    held-long (slotIn ss k .stack) (slotIn ss k .stack .held) (tallyOf ss k .held) ∙ tally-long k .2,
   )
 
   tally-few : (k : ℕ) → k ≤ 32 → (length (tallyOf ss k .noted .operations) ≡ 32) × (length (tallyOf ss k .noted .numbers) ≡ 32) × (tallyOf ss k .noted .n ≤ k)
@@ -168,9 +173,13 @@ module _ (cfg : Config) (ss : Slots) where
   unfolding tallyOf tallied noTally sumBelow ofRunnable
   tally-instances zero b r l = getD-replicate 16 r 0 0 l
   tally-instances (suc k) b r l =
-      let e = tally-instances k (omega arith) r l in
-      let m = count-most (λ (j : ℕ). ofRunnable r (slotIn ss j)) k in
-      counted-at (tallyOf ss k .instances) (slotIn ss k .used) (slotIn ss k .life .runnable) r (omega (arith, tally-long k .0)) (omega (arith, e, m)) ∙ omega (arith, e)
+      counted-more (tallyOf ss k .instances) (slotIn ss k .used) (slotIn ss k .life .runnable) r (λ (j : ℕ). ofRunnable r (slotIn ss j)) k (omega arith) (omega (arith, tally-long k .0)) (tally-instances k (omega arith) r l)
+
+  tally-waiters : (k : ℕ) → k ≤ 32 → (o : ℕ) → o < 8 → getD (tallyOf ss k .waiters) o 0 ≡ countBelow (λ (j : ℕ). waitsOn o (slotIn ss j)) k
+  unfolding tallyOf tallied noTally sumBelow waitsOn
+  tally-waiters zero b o l = getD-replicate 8 o 0 0 l
+  tally-waiters (suc k) b o l =
+      counted-more (tallyOf ss k .waiters) (slotIn ss k .life .waiting) (slotIn ss k .life .on) o (λ (j : ℕ). waitsOn o (slotIn ss j)) k (omega arith) (omega (arith, tally-long k .1)) (tally-waiters k (omega arith) o l)
 
   tally-held : (k : ℕ) → k ≤ 32 → Sound k → (a : ℕ) → a < 16 → getD (tallyOf ss k .held .at) a 0 ≡ sumBelow (λ (j : ℕ). timesIn a (slotIn ss j .stack)) k
   unfolding tallyOf tallied noTally sumBelow timesIn
@@ -179,7 +188,7 @@ module _ (cfg : Config) (ss : Slots) where
       let g : (j : ℕ) → j < suc k → slotIn ss j .stack .held ≤ 16 = λ j c. slot-held cfg (slotIn ss j) (all-at (λ (j : ℕ). slotSound cfg (slotIn ss j)) (suc k) h j c) in
       let e = tally-held k (omega arith) (sound-before k h) a l in
       let m = sum-bound (λ (j : ℕ). timesIn a (slotIn ss j .stack)) 16 k (λ j c. omega (arith, count-most (λ (i : ℕ). eqb (getD (slotIn ss j .stack .at) i 0) a) (slotIn ss j .stack .held), g j (omega arith))) in
-      held-at (slotIn ss k .stack) (slotIn ss k .stack .held) (tallyOf ss k .held) a (omega (arith, tally-long k .1)) (omega (arith, e, m, g k (omega arith))) ∙ omega (arith, e)
+      held-at (slotIn ss k .stack) (slotIn ss k .stack .held) (tallyOf ss k .held) a (omega (arith, tally-long k .2)) (omega (arith, e, m, g k (omega arith))) ∙ omega (arith, e)
 
   tally-clients : (k : ℕ) → k ≤ 32 → (o m : ℕ) → notedAs o m (tallyOf ss k .noted) ≡ sumBelow (λ (j : ℕ). servedAs o m (slotIn ss j .owed)) k
   unfolding tallyOf tallied noTally sumBelow notedAs
@@ -190,7 +199,7 @@ module _ (cfg : Config) (ss : Slots) where
 
   -- as the walk goes on, the tally means what it is said to
   pub tally-tallies : (k : ℕ) → k ≤ 32 → Sound k → Tallies ss k (tallyOf ss k)
-  tally-tallies k b h = record { instances = tally-instances k b; held = tally-held k b h; clients = tally-clients k b }
+  tally-tallies k b h = record { instances = tally-instances k b; waiters = tally-waiters k b; held = tally-held k b h; clients = tally-clients k b }
 
   -- a test of the clients noted is one of the clients of the slots
   pub tally-all : (p : ℕ → ℕ → Bool) (k : ℕ) → k ≤ 32 → allBelow (λ (j : ℕ). p (notedAt (tallyOf ss k .noted) j .operation) (notedAt (tallyOf ss k .noted) j .number)) (tallyOf ss k .noted .n) ≡ allBelow (λ (j : ℕ). either (not (slotIn ss j .owed .serving)) (p (slotIn ss j .owed .client .operation) (slotIn ss j .owed .client .number))) k

@@ -21,12 +21,12 @@ use Rattle.config.specs.Tables.{runnableConfIn, operationConfIn}
 use Rattle.entries.specs.Faults.{isServer, configSound}
 use Rattle.state.specs.Parts.{noClient, noRequests}
 use Rattle.state.specs.Tables.{runnableIn, areaIn, operationIn, slotIn}
-use Rattle.rules.specs.Sound.{clientFits, isNoClient, requestsSound, runnableSound, operationSound, callingSound, doneSound, lifeSound, owedSound, stackSound, isNoSlot, slotSound, slotsOf, countSound, holders, areaSound, isClient, queuedAs, servedAs, clientsAs, numbered, clientSound, queuedSound, servedSound, calledSound, runnablesSound, operationsSound, slotsSound, countsSound, areasSound, clientsSound, shaped, soundOf}
+use Rattle.rules.specs.Sound.{clientFits, isNoClient, requestsSound, runnableSound, operationSound, callingSound, doneSound, lifeSound, owedSound, stackSound, isNoSlot, slotSound, slotsOf, countSound, holders, areaSound, isClient, queuedAs, servedAs, clientsAs, numbered, clientSound, queuedSound, servedSound, calledSound, waitersOf, waiterSound, runnablesSound, operationsSound, slotsSound, countsSound, areasSound, clientsSound, waitersSound, shaped, soundOf}
 use Rattle.rules.proofs.Configured.{runnables-most, capacity-most, operation-there}
 use Rattle.sound.specs.declared.Tally.{Tally}
 use Rattle.sound.specs.declared.Walked.{Walked}
 use Rattle.sound.specs.Tally.{noTally, tallyOf, notedAs, Tallies}
-use Rattle.sound.specs.Walk.{clientsWith, clientAlone, queueAlone, queueOf, notedAlone, runnableTallied, operationTallied, areaTallied, runnablesTallied, operationsTallied, areasTallied, restTests, walkOf, wholeTest}
+use Rattle.sound.specs.Walk.{clientsWith, clientAlone, queueAlone, queueOf, notedAlone, runnableTallied, waiterTallied, operationTallied, areaTallied, runnablesTallied, operationsTallied, areasTallied, restTests, walkOf, wholeTest}
 use Rattle.sound.proofs.Tallying.{all-same, tally-tallies, tally-all}
 
 -- a sum of which one term counts
@@ -168,11 +168,15 @@ module _ (cfg : Config) (st : State) (config : configSound cfg ≡ true) (slots 
           let p : callingSound cfg o (operationIn (st .operations) o) ≡ true = rw e at (both-right (leb (operationIn (st .operations) o .number) 65535) (pick (operationIn (st .operations) o .calling) (callingSound cfg o (operationIn (st .operations) o)) (doneSound cfg o (operationIn (st .operations) o))) h) in
           ap (λ (n : ℕ). eqb n 1) (clients-are o (operationIn (st .operations) o .number) (ltb-true _ _ (all-told _ p .0)))
 
-  -- ---- counts and areas
+  -- ---- counts, waiters and areas
 
   count-is : (r : ℕ) → r < 16 → eqb (runnableIn (st .runnables) r .instances) (getD (tally .instances) r 0) ≡ countSound (st .runnables) (st .slots) r
   unfolding countSound slotsOf
   count-is r b = ap (eqb (runnableIn (st .runnables) r .instances)) (means .instances r b)
+
+  waiter-is : (o : ℕ) → o < 8 → waiterTallied cfg (getD (tally .waiters) o 0) o (operationIn (st .operations) o) ≡ waiterSound cfg (st .operations) (st .slots) o
+  unfolding waiterTallied waiterSound waitersOf
+  waiter-is o b = ap (λ (n : ℕ). both (leb n 1) (either (not (operationIn (st .operations) o .calling)) (either (operationConfIn (cfg .operations) o .asynchronous) (ltb 0 n)))) (means .waiters o b)
 
   area-is : (a : ℕ) → a < 16 → areaTallied (cfg .areas .n) (getD (tally .held .at) a 0) a (areaIn (st .areas) a) ≡ areaSound cfg (st .areas) (st .slots) a
   unfolding areaTallied areaSound holders
@@ -187,13 +191,13 @@ alike-both false false f g = refl
 module _ (cfg : Config) (st : State) (config : configSound cfg ≡ true) (long : shaped st ≡ true) where
   -- what passes the walk is sound
   walk-sound : wholeTest cfg st ≡ true → soundOf cfg st ≡ true
-  unfolding wholeTest soundOf runnablesTallied runnableTallied operationsTallied operationTallied areasTallied runnablesSound operationsSound countsSound areasSound clientsSound
+  unfolding wholeTest soundOf runnablesTallied runnableTallied operationsTallied operationTallied areasTallied runnablesSound operationsSound countsSound areasSound clientsSound waitersSound
   walk-sound h =
       let slots : slotsSound cfg (st .slots) ≡ true = both-left (slotsSound cfg (st .slots)) _ h in
       let t = all-told (restTests cfg st (tallyOf (st .slots) 32)) (both-right (slotsSound cfg (st .slots)) _ h) in
       let y = tallyOf (st .slots) 32 in
       let each : (r : ℕ) → r < 16 → runnableTallied cfg (st .operations) (y .noted) (getD (y .instances) r 0) r (runnableIn (st .runnables) r) ≡ true = all-at _ 16 (t .0) in
-      let calls : (o : ℕ) → o < 8 → operationTallied cfg (st .runnables) (y .noted) o (operationIn (st .operations) o) ≡ true = all-at _ 8 (t .1 .1 .1 .0) in
+      let calls : (o : ℕ) → o < 8 → operationTallied cfg (st .runnables) (y .noted) (getD (y .waiters) o 0) o (operationIn (st .operations) o) ≡ true = all-at _ 8 (t .1 .1 .1 .0) in
       let runnables : runnablesSound cfg (st .runnables) ≡ true = all-of _ 16 (λ r b. both-left (runnableSound cfg r (runnableIn (st .runnables) r)) _ (each r b)) in
       let behind : (r : ℕ) → r < 16 → both (eqb (runnableIn (st .runnables) r .instances) (getD (y .instances) r 0)) (queueAlone (st .operations) (runnableIn (st .runnables) r .requests) (y .noted)) ≡ true = λ r b. both-right (runnableSound cfg r (runnableIn (st .runnables) r)) _ (each r b) in
       let operations : (o : ℕ) → o < 8 → operationSound cfg o (operationIn (st .operations) o) ≡ true = λ o b. both-left (operationSound cfg o (operationIn (st .operations) o)) _ (calls o b) in
@@ -201,12 +205,14 @@ module _ (cfg : Config) (st : State) (config : configSound cfg ≡ true) (long :
       let areas : areasSound cfg (st .areas) (st .slots) ≡ true = all-of _ 16 (λ a b. sym (area-is cfg st config slots runnables a b) ∙ all-at _ 16 (t .1 .1 .1 .1 .1 .0) a b) in
       let queued : allBelow (queuedSound (st .operations) (st .runnables) (st .slots)) 16 ≡ true = all-of _ 16 (λ r b. sym (queue-is cfg st config slots runnables r b) ∙ both-right (eqb (runnableIn (st .runnables) r .instances) (getD (y .instances) r 0)) _ (behind r b)) in
       let served : allBelow (servedSound (st .operations) (st .runnables) (st .slots)) 32 ≡ true = sym (noted-is cfg st config slots runnables queued) ∙ t .1 .1 .1 .1 .1 .1 .0 in
-      let called : allBelow (calledSound (st .operations) (st .runnables) (st .slots)) 8 ≡ true = all-of _ 8 (λ o b. sym (called-is cfg st config slots runnables o (operations o b)) ∙ both-right (operationSound cfg o (operationIn (st .operations) o)) _ (calls o b)) in
-      all-made _ (config, (long, (runnables, (t .1 .0, (t .1 .1 .0, (all-of _ 8 operations, (t .1 .1 .1 .1 .0, (slots, (counts, (areas, (both-make _ _ queued (both-make _ _ served called), tt)))))))))))
+      let waits : (o : ℕ) → o < 8 → both (waiterTallied cfg (getD (y .waiters) o 0) o (operationIn (st .operations) o)) (either (not (operationIn (st .operations) o .calling)) (eqb (clientsWith (queueOf cfg (st .runnables) o) (y .noted) o (operationIn (st .operations) o .number)) 1)) ≡ true = λ o b. both-right (operationSound cfg o (operationIn (st .operations) o)) _ (calls o b) in
+      let called : allBelow (calledSound (st .operations) (st .runnables) (st .slots)) 8 ≡ true = all-of _ 8 (λ o b. sym (called-is cfg st config slots runnables o (operations o b)) ∙ both-right (waiterTallied cfg (getD (y .waiters) o 0) o (operationIn (st .operations) o)) _ (waits o b)) in
+      let waiters : waitersSound cfg (st .operations) (st .slots) ≡ true = all-of _ 8 (λ o b. sym (waiter-is cfg st config slots runnables o b) ∙ both-left (waiterTallied cfg (getD (y .waiters) o 0) o (operationIn (st .operations) o)) _ (waits o b)) in
+      all-made _ (config, (long, (runnables, (t .1 .0, (t .1 .1 .0, (all-of _ 8 operations, (t .1 .1 .1 .1 .0, (slots, (counts, (areas, (both-make _ _ queued (both-make _ _ served called), (waiters, tt))))))))))))
 
   -- and what is sound passes it
   sound-walks : soundOf cfg st ≡ true → wholeTest cfg st ≡ true
-  unfolding wholeTest soundOf runnablesTallied runnableTallied operationsTallied operationTallied areasTallied runnablesSound operationsSound countsSound areasSound clientsSound
+  unfolding wholeTest soundOf runnablesTallied runnableTallied operationsTallied operationTallied areasTallied runnablesSound operationsSound countsSound areasSound clientsSound waitersSound
   sound-walks h =
       let t = all-told _ h in
       let y = tallyOf (st .slots) 32 in
@@ -218,7 +224,7 @@ module _ (cfg : Config) (st : State) (config : configSound cfg ≡ true) (long :
       let served = both-left (allBelow (servedSound (st .operations) (st .runnables) (st .slots)) 32) _ (both-right (allBelow (queuedSound (st .operations) (st .runnables) (st .slots)) 16) _ clients) in
       let called = both-right (allBelow (servedSound (st .operations) (st .runnables) (st .slots)) 32) _ (both-right (allBelow (queuedSound (st .operations) (st .runnables) (st .slots)) 16) _ clients) in
       let each : (r : ℕ) → r < 16 → runnableTallied cfg (st .operations) (y .noted) (getD (y .instances) r 0) r (runnableIn (st .runnables) r) ≡ true = λ r b. both-make _ _ (all-at _ 16 runnables r b) (both-make _ _ (count-is cfg st config slots runnables r b ∙ all-at _ 16 (t .1 .1 .1 .1 .1 .1 .1 .1 .0) r b) (queue-is cfg st config slots runnables r b ∙ all-at _ 16 queued r b)) in
-      let calls : (o : ℕ) → o < 8 → operationTallied cfg (st .runnables) (y .noted) o (operationIn (st .operations) o) ≡ true = λ o b. both-make _ _ (all-at _ 8 operations o b) (called-is cfg st config slots runnables o (all-at _ 8 operations o b) ∙ all-at _ 8 called o b) in
+      let calls : (o : ℕ) → o < 8 → operationTallied cfg (st .runnables) (y .noted) (getD (y .waiters) o 0) o (operationIn (st .operations) o) ≡ true = λ o b. both-make _ _ (all-at _ 8 operations o b) (both-make _ _ (waiter-is cfg st config slots runnables o b ∙ all-at _ 8 (t .1 .1 .1 .1 .1 .1 .1 .1 .1 .1 .1 .0) o b) (called-is cfg st config slots runnables o (all-at _ 8 operations o b) ∙ all-at _ 8 called o b)) in
       let areas : areasTallied (cfg .areas .n) (y .held) (st .areas) ≡ true = all-of _ 16 (λ a b. area-is cfg st config slots runnables a b ∙ all-at _ 16 (t .1 .1 .1 .1 .1 .1 .1 .1 .1 .0) a b) in
       both-make _ _ slots (all-made _ (all-of _ 16 each, (t .1 .1 .1 .0, (t .1 .1 .1 .1 .0, (all-of _ 8 calls, (t .1 .1 .1 .1 .1 .1 .0, (areas, (noted-is cfg st config slots runnables queued ∙ served, tt))))))))
 

@@ -3,7 +3,7 @@
 use Prim.Native.Nat.{ℕ, _+_}
 use mathlib.Core.Bool.{Bool, not}
 use mathlib.Core.List.{List, [], _∷_}
-use lib.Dec.{ltb, eqb}
+use lib.Dec.{ltb, leb, eqb}
 use lib.ListN.{getD}
 use Rattle.laws.specs.Choice.{pick, both, either, bit, allOf}
 use Rattle.laws.specs.Loop.{allBelow}
@@ -42,9 +42,13 @@ queueOf cfg rs o = runnableIn rs (operationConfIn (cfg .operations) o .server) .
 unfoldable pub runnableTallied : Config → Operations → Noted → ℕ → ℕ → Runnable → Bool
 runnableTallied cfg os l n r x = both (runnableSound cfg r x) (both (eqb (x .instances) n) (queueAlone os (x .requests) l))
 
--- an operation by itself, and the one client of an open call (ours)
-unfoldable pub operationTallied : Config → Runnables → Noted → ℕ → Operation → Bool
-operationTallied cfg rs l o x = both (operationSound cfg o x) (either (not (x .calling)) (eqb (clientsWith (queueOf cfg rs o) l o (x .number)) 1))
+-- the n waiters of an operation: one at most, and one while a synchronous call is open (ours)
+unfoldable pub waiterTallied : Config → ℕ → ℕ → Operation → Bool
+waiterTallied cfg n o x = both (leb n 1) (either (not (x .calling)) (either (operationConfIn (cfg .operations) o .asynchronous) (ltb 0 n)))
+
+-- an operation by itself, the n waiters that it has, and the one client of an open call (ours)
+unfoldable pub operationTallied : Config → Runnables → Noted → ℕ → ℕ → Operation → Bool
+operationTallied cfg rs l n o x = both (operationSound cfg o x) (both (waiterTallied cfg n o x) (either (not (x .calling)) (eqb (clientsWith (queueOf cfg rs o) l o (x .number)) 1)))
 
 -- an area, and how often it stands in the stacks; there are n areas (ours)
 unfoldable pub areaTallied : ℕ → ℕ → ℕ → Area → Bool
@@ -55,8 +59,8 @@ unfoldable pub runnablesTallied : Config → Operations → Tally → Runnables 
 runnablesTallied cfg os y t = allBelow (λ (r : ℕ). runnableTallied cfg os (y .noted) (getD (y .instances) r 0) r (runnableIn t r)) maxRunnableConfs
 
 -- every operation (ours)
-unfoldable pub operationsTallied : Config → Runnables → Noted → Operations → Bool
-operationsTallied cfg rs l t = allBelow (λ (o : ℕ). operationTallied cfg rs l o (operationIn t o)) maxOperationConfs
+unfoldable pub operationsTallied : Config → Runnables → Tally → Operations → Bool
+operationsTallied cfg rs y t = allBelow (λ (o : ℕ). operationTallied cfg rs (y .noted) (getD (y .waiters) o 0) o (operationIn t o)) maxOperationConfs
 
 -- every area (ours)
 unfoldable pub areasTallied : ℕ → Held → Areas → Bool
@@ -68,7 +72,7 @@ restTests cfg st y =
     runnablesTallied cfg (st .operations) y (st .runnables)
     ∷ variablesSound cfg (st .variables)
     ∷ elementsSound cfg (st .elements)
-    ∷ operationsTallied cfg (st .runnables) (y .noted) (st .operations)
+    ∷ operationsTallied cfg (st .runnables) y (st .operations)
     ∷ timersSound cfg (st .timers)
     ∷ areasTallied (cfg .areas .n) (y .held) (st .areas)
     ∷ notedAlone (st .operations) (y .noted)

@@ -14,7 +14,7 @@ ghost use Rattle.state.specs.Parts.{noClient, maxRequests, maxValues};
 ghost use Rattle.rules.specs.Sound.{isNoClient, clientFits, requestsSound, valuesSound, runnableSound, variableSound, isStored, elementSound, isOutcome, callingSound, doneSound, operationSound, timerSound, waitsWell, lifeSound, owedSound, areaFits, isZero, stackSound, isNoSlot, slotSound, isClient, queuedAs, numbered, variablesSound, elementsSound, timersSound, soundOf};
 ghost use Rattle.sound.specs.Only.{onlyVariables, onlyAreas, onlyRequired, onlyOperations, onlyTimers};
 ghost use Rattle.sound.specs.Tally.{counted, entered, heldBelow, noting, tallied, notedAt, notedAs};
-ghost use Rattle.sound.specs.Walk.{clientsWith, clientAlone, queueAlone, queueOf, notedAlone, runnableTallied, operationTallied, areaTallied, runnablesTallied, operationsTallied, areasTallied, restTests, walkOf};
+ghost use Rattle.sound.specs.Walk.{clientsWith, clientAlone, queueAlone, queueOf, notedAlone, runnableTallied, waiterTallied, operationTallied, areaTallied, runnablesTallied, operationsTallied, areasTallied, restTests, walkOf};
 use config::AreaConfs;
 use config::Config;
 use config::OperationConfs;
@@ -49,8 +49,6 @@ use values::Value;
 const VARIABLES: u8 = VariableConfs::MAX as u8;
 
 const AREAS: u8 = AreaConfs::MAX as u8;
-
-const OPERATIONS: u8 = OperationConfs::MAX as u8;
 
 const TIMERS: u8 = TimerConfs::MAX as u8;
 
@@ -570,9 +568,10 @@ struct Held {
     at: [u16; AreaConfs::MAX],
 }
 
-// What the walk over the slots remembers: how many instances each runnable has, how often each area stands in a stack, and the clients.
+// What the walk over the slots remembers: how many instances each runnable has, how many wait on each operation, how often each area stands in a stack, and the clients.
 struct Tally {
     instances: [u8; RunnableConfs::MAX],
+    waiters: [u8; OperationConfs::MAX],
     held: Held,
     noted: Noted,
 }
@@ -580,6 +579,7 @@ struct Tally {
 impl Tally {
     const BLANK: Tally = Tally {
         instances: [0; RunnableConfs::MAX],
+        waiters: [0; OperationConfs::MAX],
         held: Held {
             at: [0; AreaConfs::MAX],
         },
@@ -604,6 +604,22 @@ fn counted(l: [u8; RunnableConfs::MAX], used: bool, r: u8) -> [u8; RunnableConfs
     let k = r as usize;
     if used {
         if k < RunnableConfs::MAX {
+            let mut t = l;
+            t[k] = state::up_one(l[k]);
+            return t;
+        }
+        return l;
+    }
+    l
+}
+
+// One waiter more of the operation o, if the instance waits.
+fn counted_waiter(l: [u8; OperationConfs::MAX], waiting: bool, o: u8) -> [u8; OperationConfs::MAX]
+    ensures { λ t. ⌜ t ≡ counted l waiting o ⌝ }
+{
+    let k = o as usize;
+    if waiting {
+        if k < OperationConfs::MAX {
             let mut t = l;
             t[k] = state::up_one(l[k]);
             return t;
@@ -664,6 +680,7 @@ fn tallied(t: Tally, x: Slot) -> Tally
     ensures { λ r. ⌜ r ≡ tallied t x ⌝ }
 {
     let instances = t.instances;
+    let waiters = t.waiters;
     let held = t.held;
     let clients = t.noted;
     let l = x.life;
@@ -671,6 +688,7 @@ fn tallied(t: Tally, x: Slot) -> Tally
     let s = x.stack;
     Tally {
         instances: counted(instances, x.used, l.runnable),
+        waiters: counted_waiter(waiters, l.waiting, l.on),
         held: held_by(held, s),
         noted: noting(clients, w),
     }
@@ -836,11 +854,35 @@ fn area_tallied(n: u8, held: u16, a: u8, x: Area) -> bool
     held == 0
 }
 
-// An operation by itself; while it is Calling, one client has its number, neither more nor fewer.
-fn operation_tallied(confs: OperationConfs, rs: Runnables, l: Noted, o: u8, x: Operation) -> bool
-    ensures { λ b. ⌜ b ≡ operationTallied (onlyOperations confs) rs l o x ⌝ }
+// The n waiters of an operation: one at most, and one while a synchronous call is open.
+fn waiter_tallied(confs: OperationConfs, n: u8, o: u8, x: Operation) -> bool
+    ensures { λ b. ⌜ b ≡ waiterTallied (onlyOperations confs) n o x ⌝ }
+{
+    if n > 1 {
+        return false;
+    }
+    if x.calling {
+        let conf = confs.get(o);
+        return conf.asynchronous || 0 < n;
+    }
+    true
+}
+
+// An operation by itself; it has n waiters; while it is Calling, one client has its number, neither more nor fewer.
+fn operation_tallied(
+    confs: OperationConfs,
+    rs: Runnables,
+    l: Noted,
+    n: u8,
+    o: u8,
+    x: Operation,
+) -> bool
+    ensures { λ b. ⌜ b ≡ operationTallied (onlyOperations confs) rs l n o x ⌝ }
 {
     if !operation_sound(confs, o, x) {
+        return false;
+    }
+    if !waiter_tallied(confs, n, o, x) {
         return false;
     }
     if x.calling {
@@ -898,13 +940,14 @@ fn elements_sound(confs: RequiredConfs, t: Elements) -> bool
     true
 }
 
-fn operations_tallied(confs: OperationConfs, rs: Runnables, l: Noted, t: Operations) -> bool
-    ensures { λ b. ⌜ b ≡ operationsTallied (onlyOperations confs) rs l t ⌝ }
+fn operations_tallied(confs: OperationConfs, rs: Runnables, y: Tally, t: Operations) -> bool
+    ensures { λ b. ⌜ b ≡ operationsTallied (onlyOperations confs) rs y t ⌝ }
 {
-    let mut k: u8 = 0;
-    while k < OPERATIONS {
-        let x = t.get(k);
-        if operation_tallied(confs, rs, l, k, x) {
+    let l = y.noted;
+    let mut k: usize = 0;
+    while k < OperationConfs::MAX {
+        let x = t.at[k];
+        if operation_tallied(confs, rs, l, y.waiters[k], k as u8, x) {
             k = k + 1;
         } else {
             return false;
@@ -962,8 +1005,7 @@ fn rest_sound(cfg: Config, st: State, y: Tally) -> bool
     if !elements_sound(cfg.required, elements) {
         return false;
     }
-    let l = y.noted;
-    if !operations_tallied(cfg.operations, runnables, l, operations) {
+    if !operations_tallied(cfg.operations, runnables, y, operations) {
         return false;
     }
     let timers = st.timers;
@@ -975,6 +1017,7 @@ fn rest_sound(cfg: Config, st: State, y: Tally) -> bool
     if !areas_tallied(cfg.areas.n, held, areas) {
         return false;
     }
+    let l = y.noted;
     noted_alone(operations, l)
 }
 

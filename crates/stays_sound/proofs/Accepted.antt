@@ -5,17 +5,19 @@ use mathlib.Core.Bool.{Bool, true, false}
 use mathlib.Core.Path.{_≡_, refl, sym, ap, subst}
 use native.Mathlib.Omega.{arith}
 use Rattle.numbers.specs.Refusals.{notSound, otherAnswer}
-use Rattle.numbers.specs.Codes.{enterCode, exitCode, resultCode, handBackCode, endCode, spawnCode, timeoutCode, tickCode}
+use Rattle.numbers.specs.Codes.{enterCode, exitCode, callCode, resultCode, handBackCode, endCode, spawnCode, timeoutCode, tickCode}
 use Rattle.laws.specs.Choice.{pick}
+use Rattle.laws.proofs.Choosing.{clash}
 use Rattle.types.specs.Types.{Value, Step, Answer, Taken, Refused, Config, State, Stepped}
-use Rattle.values.specs.Values.{numberV, noDataV, sameValue}
+use Rattle.values.specs.Values.{numberV, okV, noDataV, sameValue}
+use Rattle.config.specs.Tables.{operationConfIn}
 use Rattle.state.specs.Tables.{operationIn}
 use Rattle.rules.specs.Sound.{soundOf}
 use Rattle.effects.specs.Steps.{refused, isOpen, answers, clientOf, lowestEmpty}
 use Rattle.effects.specs.Step.{possibleOf, onAnswer, claimedOf, innerOf, stepOf}
 use Rattle.effects.proofs.Codes.{never}
-use Rattle.stays_sound.specs.Facts.{CanEnter, CanExit, CanHandBack, CanEnd, CanSpawn, CanTimeout, CanTick}
-use Rattle.stays_sound.proofs.Ways.{Way, enter, exit, pollOpen, poll, collect, answer, late, end, spawn, timeout, tick, Went, bars, goes, went}
+use Rattle.stays_sound.specs.Facts.{CanEnter, CanExit, CanCall, CanCollect, CanHandBack, CanEnd, CanSpawn, CanTimeout, CanTick}
+use Rattle.stays_sound.proofs.Ways.{Way, enter, exit, callBusy, call, pollOpen, poll, collect, answer, late, end, spawn, timeout, tick, Went, bars, goes, went}
 
 -- ---- the step before its claim
 
@@ -63,10 +65,22 @@ module _ (cfg : Config) (st : State) (s : Step) where
   pub exit-told : {w : Value} {t : State} → Way cfg st s exitCode w t → CanExit cfg st (s .who) (s .what)
   exit-told (exit z) = z
 
+  -- a call that starts
+  pub call-told : {w : Value} {t : State} → w ≡ okV → Way cfg st s callCode w t → CanCall cfg st (s .who) (s .what) (s .argument)
+  call-told k (callBusy e) = absurd (omega (arith, ap (λ (v : Value). v .kind) k))
+  call-told k (call z) = z
+
+  -- a synchronous result
+  pub collect-told : {w : Value} {t : State} → operationConfIn (cfg .operations) (s .what) .asynchronous ≡ false → Way cfg st s resultCode w t
+      → CanCollect cfg st (s .who) (s .what) × (w ≡ operationIn (st .operations) (s .what) .done)
+  collect-told f (pollOpen a e) = absurd (clash _ a f)
+  collect-told f (poll a e) = absurd (clash _ a f)
+  collect-told f (collect z) = (z, refl)
+
   -- a result that is not NoData
   pub result-told : (v : Value) {w : Value} {t : State} → w ≡ v → (v ≡ noDataV → ⊥) → Way cfg st s resultCode w t → (isOpen st (s .what) ≡ false) × (operationIn (st .operations) (s .what) .done ≡ v)
-  result-told v k n (pollOpen e) = absurd (n (sym k))
-  result-told v k n (poll e) = (e, k)
+  result-told v k n (pollOpen a e) = absurd (n (sym k))
+  result-told v k n (poll a e) = (e, k)
   result-told v k n (collect z) = (z .shut, k)
 
   -- a hand back that ends a call

@@ -22,7 +22,8 @@ use Rattle.stays_sound.proofs.Slots.{enter-keeps-slots, exit-keeps-slot
 use Rattle.stays_sound.proofs.Counts.{enter-keeps-counts, exit-keeps-counts, feed-keeps-counts, call-keeps-counts, collect-keeps-counts, fail-keeps-counts, late-keeps-counts, answer-keeps-counts, end-keeps-counts, spawn-keeps-counts, timeout-keeps-counts, tick-keeps-counts, wait-keeps-counts}
 use Rattle.stays_sound.proofs.Areas.{enter-keeps-areas, exit-keeps-areas, call-keeps-areas, collect-keeps-areas, fail-keeps-areas, hand-back-keeps-areas, end-keeps-areas, spawn-keeps-areas}
 use Rattle.stays_sound.proofs.Clients.{enter-keeps-clients, exit-keeps-clients, feed-keeps-clients, call-keeps-clients, collect-keeps-clients, fail-keeps-clients, late-keeps-clients, answer-keeps-clients, timeout-keeps-clients, end-keeps-clients, spawn-keeps-clients, tick-keeps-clients, wait-keeps-clients}
-use Rattle.stays_sound.proofs.Ways.{Way, readVariable, writeVariable, enter, exit, read, write, updated, invalidate, receiveNone, receive, send, callOpen, call, pollOpen, poll, collect, answer, late, end, spawn, timeout, tick, wait, fail, Went, bars, goes, went}
+use Rattle.stays_sound.proofs.Waiters.{enter-keeps-waiters, exit-keeps-waiters, call-keeps-waiters, collect-keeps-waiters, fail-keeps-waiters, late-keeps-waiters, answer-keeps-waiters, timeout-keeps-waiters, end-keeps-waiters, spawn-keeps-waiters, wait-keeps-waiters}
+use Rattle.stays_sound.proofs.Ways.{Way, readVariable, writeVariable, enter, exit, read, write, updated, invalidate, receiveNone, receive, send, callBusy, call, pollOpen, poll, collect, answer, late, end, spawn, timeout, tick, wait, fail, Went, bars, goes, went}
 
 -- ---- the state after each step that is taken
 
@@ -31,10 +32,10 @@ module _ (cfg : Config) (st : State) (s : Sound cfg st) where
   write-variable-keeps i v x z = search (write-variable-keeps-shape, write-variable-keeps-variables)
 
   pub enter-keeps : (i a : ℕ) → CanEnter cfg st i a → Sound cfg (entered st i a)
-  enter-keeps i a z = search (enter-keeps-shape, enter-keeps-slots, enter-keeps-counts, enter-keeps-areas, enter-keeps-clients)
+  enter-keeps i a z = search (enter-keeps-shape, enter-keeps-slots, enter-keeps-counts, enter-keeps-areas, enter-keeps-clients, enter-keeps-waiters)
 
   pub exit-keeps : (i a : ℕ) → CanExit cfg st i a → Sound cfg (exited st i a)
-  exit-keeps i a z = search (exit-keeps-shape, exit-keeps-slots, exit-keeps-counts, exit-keeps-areas, exit-keeps-clients)
+  exit-keeps i a z = search (exit-keeps-shape, exit-keeps-slots, exit-keeps-counts, exit-keeps-areas, exit-keeps-clients, exit-keeps-waiters)
 
   pub read-keeps : (i q : ℕ) → CanRead cfg st i q → Sound cfg (looked st q)
   read-keeps i q z = search (read-keeps-shape, read-keeps-elements)
@@ -52,40 +53,40 @@ module _ (cfg : Config) (st : State) (s : Sound cfg st) where
 
   pub call-keeps : (i o : ℕ) (v : Value) → CanCall cfg st i o v → Sound cfg (called cfg st i o v)
   unfolding called
-  call-keeps i o v z = search (call-keeps-shape, call-keeps-runnables, call-keeps-operations, call-keeps-slots, call-keeps-counts, call-keeps-areas, call-keeps-clients)
+  call-keeps i o v z = search (call-keeps-shape, call-keeps-runnables, call-keeps-operations, call-keeps-slots, call-keeps-counts, call-keeps-areas, call-keeps-clients, call-keeps-waiters)
 
   pub collect-keeps : (i o : ℕ) → CanCollect cfg st i o → Sound cfg (collected st i)
-  collect-keeps i o z = search (collect-keeps-shape, collect-keeps-slots, collect-keeps-counts, collect-keeps-areas, collect-keeps-clients)
+  collect-keeps i o z = search (collect-keeps-shape, collect-keeps-slots, collect-keeps-counts, collect-keeps-areas, collect-keeps-clients, collect-keeps-waiters)
 
   -- a hand back that ends the client's call, and one that comes late
   pub answer-keeps : (i : ℕ) (v : Value) → CanHandBack cfg st i v → answers (st .operations) (clientOf st i) ≡ true → Sound cfg (answered cfg st i (handedBack st i v))
   unfolding closed
   answer-keeps i v z e =
-      search (answer-keeps-shape, answer-keeps-runnables, answer-keeps-operations, hand-back-keeps-slots cfg st i v s z, answer-keeps-counts, hand-back-keeps-areas cfg st i v s z, answer-keeps-clients)
+      search (answer-keeps-shape, answer-keeps-runnables, answer-keeps-operations, hand-back-keeps-slots cfg st i v s z, answer-keeps-counts, hand-back-keeps-areas cfg st i v s z, answer-keeps-clients, answer-keeps-waiters)
 
   pub late-keeps : (i : ℕ) (v : Value) → CanHandBack cfg st i v → answers (st .operations) (clientOf st i) ≡ false → Sound cfg (finished st st i)
-  late-keeps i v z e = search (late-keeps-shape, hand-back-keeps-slots, late-keeps-counts, hand-back-keeps-areas, late-keeps-clients)
+  late-keeps i v z e = search (late-keeps-shape, hand-back-keeps-slots, late-keeps-counts, hand-back-keeps-areas, late-keeps-clients, late-keeps-waiters)
 
   pub end-keeps : (i : ℕ) → CanEnd st i → Sound cfg (emptied st i)
-  end-keeps i z = search (end-keeps-shape, end-keeps-runnables, end-keeps-slots, end-keeps-counts, end-keeps-areas, end-keeps-clients)
+  end-keeps i z = search (end-keeps-shape, end-keeps-runnables, end-keeps-slots, end-keeps-counts, end-keeps-areas, end-keeps-clients, end-keeps-waiters)
 
   pub spawn-keeps : (r : ℕ) → CanSpawn cfg st r → Sound cfg (spawned cfg st r (lowestEmpty (st .slots)))
   unfolding spawned
-  spawn-keeps r z = search (spawn-keeps-shape, spawn-keeps-runnables, spawn-keeps-slots, spawn-keeps-counts, spawn-keeps-areas, spawn-keeps-clients)
+  spawn-keeps r z = search (spawn-keeps-shape, spawn-keeps-runnables, spawn-keeps-slots, spawn-keeps-counts, spawn-keeps-areas, spawn-keeps-clients, spawn-keeps-waiters)
 
   pub timeout-keeps : (o : ℕ) → CanTimeout cfg st o → Sound cfg (closed cfg st o timeoutV)
   unfolding closed
-  timeout-keeps o z = search (timeout-keeps-shape, timeout-keeps-runnables, timeout-keeps-operations, timeout-keeps-counts, timeout-keeps-clients)
+  timeout-keeps o z = search (timeout-keeps-shape, timeout-keeps-runnables, timeout-keeps-operations, timeout-keeps-counts, timeout-keeps-clients, timeout-keeps-waiters)
 
   pub tick-keeps : (t : ℕ) → CanTick cfg st t → Sound cfg (ticked cfg st t)
   tick-keeps t z = search (tick-keeps-shape, tick-keeps-runnables, tick-keeps-timers, tick-keeps-counts, tick-keeps-clients)
 
   pub wait-keeps : (t : ℕ) → CanWait cfg st t → Sound cfg (waited cfg st t)
   unfolding waited
-  wait-keeps t z = search (wait-keeps-shape, wait-keeps-runnables, wait-keeps-operations, wait-keeps-timers, wait-keeps-counts, wait-keeps-clients)
+  wait-keeps t z = search (wait-keeps-shape, wait-keeps-runnables, wait-keeps-operations, wait-keeps-timers, wait-keeps-counts, wait-keeps-clients, wait-keeps-waiters)
 
   pub fail-keeps : (i : ℕ) → CanFail st i → Sound cfg (failed st i)
-  fail-keeps i z = search (fail-keeps-shape, fail-keeps-slots, fail-keeps-counts, fail-keeps-areas, fail-keeps-clients)
+  fail-keeps i z = search (fail-keeps-shape, fail-keeps-slots, fail-keeps-counts, fail-keeps-areas, fail-keeps-clients, fail-keeps-waiters)
 
   -- ---- each way, and each step
 
@@ -104,10 +105,10 @@ module _ (cfg : Config) (st : State) (s : Sound cfg st) where
   way-keeps (receiveNone e) = s
   way-keeps (receive z) = receive-keeps _ _ z
   way-keeps (send z) = feed-keeps _ _ _ z
-  way-keeps (callOpen e) = s
+  way-keeps (callBusy e) = s
   way-keeps (call z) = call-keeps _ _ _ z
-  way-keeps (pollOpen e) = s
-  way-keeps (poll e) = s
+  way-keeps (pollOpen a e) = s
+  way-keeps (poll a e) = s
   way-keeps (collect z) = collect-keeps _ _ z
   way-keeps (answer z e) = answer-keeps _ _ z e
   way-keeps (late z e) = late-keeps _ _ z e

@@ -5,6 +5,7 @@ pub mod Counts
 pub mod Areas
 pub mod Tallies
 pub mod Clients
+pub mod Waiters
 pub mod Instances
 pub mod Runnables
 pub mod Slots

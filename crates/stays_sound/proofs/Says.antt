@@ -15,10 +15,10 @@ use Rattle.config.specs.Tables.{runnableConfIn, areaConfIn, requiredConfIn, ope
 use Rattle.entries.specs.Entries.{countOf, entryOf}
 use Rattle.entries.specs.Faults.{isQueued}
 use Rattle.state.specs.Tables.{maxSlots, runnableIn, elementIn, slotIn}
-use Rattle.rules.specs.Sound.{componentOf}
+use Rattle.rules.specs.Sound.{componentOf, waitersOf}
 use Rattle.rules.specs.Rows.{aSlot, scheduler, rows, rowOf}
 use Rattle.rules.specs.Refusals.{argues, formed, partThere, queuesAs, partOwn, asksSynchronous, finishedLets, failedLets, lifeLets, ownedRefusal, instanceRefusal, schedulerRefusal, refusalBy, refusalOf}
-use Rattle.effects.specs.Steps.{isTaken, onTop, isBare, isOpen, isSpent, requestsFull, serves, hasFailed, handsNumber, holds, isOver, maySpawn, lowestEmpty, isUp, operationsLet, timersLet, allLet}
+use Rattle.effects.specs.Steps.{isTaken, onTop, isBare, isOpen, isBusy, isSpent, requestsFull, serves, hasFailed, handsNumber, holds, isOver, maySpawn, lowestEmpty, isUp, operationsLet, timersLet, allLet}
 use Rattle.stays_sound.specs.Facts.{Acts, CanWriteVariable, CanEnter, CanExit, CanRead, CanFeed, CanInvalidate, CanReceive, CanCall, CanCollect, CanHandBack, CanEnd, CanSpawn, CanTimeout, CanTick, CanWait, CanFail}
 
 -- ---- refusals 2 to 5, and 2 and 3
@@ -70,6 +70,11 @@ module _ (cfg : Config) (st : State) (code i k : ℕ) (v : Value) (z : Let cfg s
       let l = slotIn (st .slots) i .life in
       let t = all-told _ (rw (a, b, c) at (z .life)) in
       record { there = record { used = z .used }; running = rests (l .waiting) false refl (t .0); unfinished = rests (l .finished) (both (l .failed) false) (both-no (l .failed) false refl) (t .1 .0) }
+
+-- neither of two tests holds
+either-no : (a b : Bool) → either a b ≡ false → (a ≡ false) × (b ≡ false)
+either-no true b h = absurd (clash true refl h)
+either-no false b h = (refl, h)
 
 -- ---- each step
 
@@ -133,7 +138,7 @@ module _ (cfg : Config) (st : State) (i k : ℕ) (v : Value) where
   unfolding formed argues partThere rowOf rows countOf
   says-send z = record { who = acts cfg st sendCode i k v z refl refl refl; inside = ltb-true _ _ (z .part); payload = z .form }
 
-  pub says-call : Let cfg st callCode i k v → isOpen st k ≡ false → isSpent st k ≡ false → requestsFull cfg (st .runnables) (operationConfIn (cfg .operations) k .server) ≡ false → CanCall cfg st i k v
+  pub says-call : Let cfg st callCode i k v → isBusy st k ≡ false → isSpent st k ≡ false → requestsFull cfg (st .runnables) (operationConfIn (cfg .operations) k .server) ≡ false → CanCall cfg st i k v
   unfolding formed argues partThere rowOf rows countOf partOwn queuesAs entryOf requestsFull lifeLets failedLets
   says-call z a b c = record {
     who = acts cfg st callCode i k v z refl refl refl;
@@ -141,7 +146,8 @@ module _ (cfg : Config) (st : State) (i k : ℕ) (v : Value) where
     inside = ltb-true _ _ (z .part);
     own = eqb-true _ _ (both-left (eqb (operationConfIn (cfg .operations) k .component) (componentOf cfg (slotIn (st .slots) i .life .runnable))) true (z .own));
     payload = z .form;
-    shut = a;
+    shut = either-no (isOpen st k) _ a .0;
+    free = omega (arith, ltb-false 0 (waitersOf (st .slots) k) (either-no (isOpen st k) _ a .1));
     number = eqb-false _ _ b;
     room = leb-false _ _ c;
   }
@@ -155,6 +161,7 @@ module _ (cfg : Config) (st : State) (i k : ℕ) (v : Value) where
       record {
         there = record { used = z .used };
         inside = ltb-true _ _ (z .part);
+        synchronous = a;
         waiting = w;
         on = eqb-true _ _ (rw w at (t .0));
         shut = e;
@@ -165,7 +172,13 @@ module _ (cfg : Config) (st : State) (i k : ℕ) (v : Value) where
   says-hand-back z f e = record { who = acts cfg st handBackCode i k v z refl refl refl; payload = both-right (eqb k 0) _ (z .form); honest = f; serving = e }
 
   pub says-end : Let cfg st endCode i k v → serves st i ≡ false → holds st i ≡ false → CanEnd st i
-  says-end z e f = record { there = record { used = z .used }; none = e; flat = omega (arith, ltb-false 0 (slotIn (st .slots) i .stack .held) f) }
+  unfolding lifeLets
+  says-end z e f = record {
+    there = record { used = z .used };
+    running = rests (slotIn (st .slots) i .life .waiting) false refl (all-told _ (z .life) .0);
+    none = e;
+    flat = omega (arith, ltb-false 0 (slotIn (st .slots) i .stack .held) f);
+  }
 
   pub says-fail : Let cfg st failCode i k v → CanFail st i
   unfolding lifeLets failedLets

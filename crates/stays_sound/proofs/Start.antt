@@ -20,8 +20,8 @@ use Rattle.entries.specs.Faults.{isServer, configSound}
 use Rattle.state.specs.Parts.{noClient, noRequests, noRunnable, noVariable, noArea, noValues, noElement, noOperation, noTimer, noStack, noSlot, maxRequests}
 use Rattle.state.specs.Tables.{maxSlots, noRunnables, noVariables, noAreas, noElements, noOperations, noTimers, noSlots, runnableIn, variableIn, areaIn, elementIn, operationIn, timerIn, slotIn}
 use Rattle.state.specs.Start.{startRunnable, startVariable, startElement, startRunnables, startVariables, startElements, startOf}
-use Rattle.rules.specs.Sound.{isNoClient, requestsSound, valuesSound, runnableSound, variableSound, isStored, elementSound, isOutcome, doneSound, operationSound, timerSound, slotSound, ofRunnable, slotsOf, timesIn, holders, isClient, queuedAs, servedAs, clientsAs, runnablesSound, variablesSound, elementsSound, operationsSound, timersSound, slotsSound, shaped, soundOf}
-use Rattle.stays_sound.specs.Facts.{Counted, Held, Clients, Sound}
+use Rattle.rules.specs.Sound.{isNoClient, requestsSound, valuesSound, runnableSound, variableSound, isStored, elementSound, isOutcome, doneSound, operationSound, timerSound, slotSound, ofRunnable, slotsOf, timesIn, holders, isClient, queuedAs, servedAs, clientsAs, waitsOn, waitersOf, runnablesSound, variablesSound, elementsSound, operationsSound, timersSound, slotsSound, shaped, soundOf}
+use Rattle.stays_sound.specs.Facts.{Counted, Held, Clients, Waiters, Sound}
 use Rattle.rules.proofs.Configured.{init-there, init-plain}
 use Rattle.stays_sound.proofs.Told.{made, shape-made}
 use Rattle.stays_sound.proofs.Runnables.{sits-made}
@@ -183,6 +183,16 @@ module _ (cfg : Config) (h : configSound cfg ≡ true) where
     called = λ o l e. absurd (clash (operationIn noOperations o .calling) e (rw (shut o l)));
   }
 
+  none-waits : (o : ℕ) → waitersOf noSlots o ≡ 0
+  unfolding waitersOf waitsOn noSlot
+  none-waits o = sum-zero _ maxSlots (λ k b. ap (λ (x : Slot). bit (waitsOn o x)) (empty-slot k b))
+
+  start-waiters : Waiters cfg noOperations noSlots
+  start-waiters = record {
+    most = λ o l. omega (arith, none-waits o);
+    bound = λ o l e a. absurd (clash (operationIn noOperations o .calling) e (rw (shut o l)));
+  }
+
   -- ---- the whole
 
   start-shape : shaped (startOf cfg) ≡ true
@@ -213,6 +223,7 @@ module _ (cfg : Config) (h : configSound cfg ≡ true) where
     counts = start-counts;
     areas = start-areas;
     clients = start-clients;
+    waiters = start-waiters;
   }
 
   pub start-sound : soundOf cfg (startOf cfg) ≡ true

@@ -5,19 +5,19 @@ use mathlib.Core.Bool.{Bool, true, false, not}
 use mathlib.Core.Path.{_≡_, refl, ap}
 use native.Mathlib.Decide.{decLe}
 use native.Mathlib.Omega.{arith}
-use lib.Dec.{ltb, eqb}
+use lib.Dec.{ltb, leb, eqb}
 use lib.ListN.{length, getD}
-use borrow.Author.Tests.{ltb-true, eqb-true, lt-ltb, eq-eqb}
+use borrow.Author.Tests.{ltb-true, leb-true, eqb-true, lt-ltb, le-leb, eq-eqb}
 use Rattle.laws.specs.Choice.{both, either, bit}
 use Rattle.laws.specs.Loop.{allBelow, sumBelow}
 use Rattle.laws.proofs.Choosing.{both-left, both-right, both-make, either-right, all-told, all-made}
 use Rattle.laws.proofs.Looping.{all-at, all-of, sum-find, sum-term}
 use Rattle.types.specs.Types.{Config, Client, Runnables, Areas, Operations, Slots, State}
-use Rattle.config.specs.Tables.{maxRunnableConfs, maxAreaConfs, maxOperationConfs}
+use Rattle.config.specs.Tables.{maxRunnableConfs, maxAreaConfs, maxOperationConfs, operationConfIn}
 use Rattle.state.specs.Parts.{noClient}
 use Rattle.state.specs.Tables.{maxSlots, runnableIn, areaIn, operationIn, slotIn}
-use Rattle.rules.specs.Sound.{shaped, countSound, countsSound, areaSound, areasSound, isClient, queuedAs, servedAs, clientsAs, numbered, clientSound, queuedSound, servedSound, calledSound, clientsSound, soundOf}
-use Rattle.stays_sound.specs.Facts.{Counted, Held, Clients, Sound}
+use Rattle.rules.specs.Sound.{shaped, countSound, countsSound, areaSound, areasSound, isClient, queuedAs, servedAs, clientsAs, numbered, clientSound, queuedSound, servedSound, calledSound, clientsSound, waitersOf, isBound, waiterSound, waitersSound, soundOf}
+use Rattle.stays_sound.specs.Facts.{Counted, Held, Clients, Waiters, Sound}
 
 -- ---- the lengths of the tables
 
@@ -215,6 +215,25 @@ module _ (os : Operations) (rs : Runnables) (ss : Slots) where
       called o l true e = eq-eqb _ 1 (h .called o l e)
       called o l false e = refl
 
+-- ---- waiters
+
+module _ (cfg : Config) (os : Operations) (ss : Slots) where
+  pub waiters-told : waitersSound cfg os ss ≡ true → Waiters cfg os ss
+  unfolding waitersSound waiterSound
+  waiters-told h = record {
+    most = λ o l. leb-true _ _ (both-left (leb (waitersOf ss o) 1) _ (all-at (waiterSound cfg os ss) maxOperationConfs h o l));
+    bound = λ o l e f. ltb-true _ _ (either-right (operationConfIn (cfg .operations) o .asynchronous) _ (either-right (not (operationIn os o .calling)) _ (both-right (leb (waitersOf ss o) 1) _ (all-at (waiterSound cfg os ss) maxOperationConfs h o l)) (ap not e)) f);
+  }
+
+  pub waiters-made : Waiters cfg os ss → waitersSound cfg os ss ≡ true
+  unfolding waitersSound waiterSound
+  waiters-made h = all-of (waiterSound cfg os ss) maxOperationConfs (λ o l. both-make _ _ (le-leb _ _ (h .most o l)) (bound o l (operationIn os o .calling) refl (operationConfIn (cfg .operations) o .asynchronous) refl))
+    where
+      bound : (o : ℕ) → o < maxOperationConfs → (b : Bool) → operationIn os o .calling ≡ b → (a : Bool) → operationConfIn (cfg .operations) o .asynchronous ≡ a → either (not b) (either a (isBound ss o)) ≡ true
+      bound o l true e true f = refl
+      bound o l true e false f = lt-ltb _ _ (h .bound o l e f)
+      bound o l false e a f = refl
+
 -- ---- the whole
 
 pub told : (cfg : Config) (st : State) → soundOf cfg st ≡ true → Sound cfg st
@@ -233,6 +252,7 @@ told cfg st h =
       counts = counts-told (st .runnables) (st .slots) (t .1 .1 .1 .1 .1 .1 .1 .1 .0);
       areas = areas-told cfg (st .areas) (st .slots) (t .1 .1 .1 .1 .1 .1 .1 .1 .1 .0);
       clients = clients-told (st .operations) (st .runnables) (st .slots) (t .1 .1 .1 .1 .1 .1 .1 .1 .1 .1 .0);
+      waiters = waiters-told cfg (st .operations) (st .slots) (t .1 .1 .1 .1 .1 .1 .1 .1 .1 .1 .1 .0);
     }
 
 pub made : (cfg : Config) (st : State) → Sound cfg st → soundOf cfg st ≡ true
@@ -241,4 +261,5 @@ made cfg st h =
     let c = counts-made (st .runnables) (st .slots) (h .counts) in
     let a = areas-made cfg (st .areas) (st .slots) (h .areas) in
     let k = clients-made (st .operations) (st .runnables) (st .slots) (h .clients) in
-    all-made _ (h .config, (h .shape, (h .runnables, (h .variables, (h .elements, (h .operations, (h .timers, (h .slots, (c, (a, (k, tt)))))))))))
+    let w = waiters-made cfg (st .operations) (st .slots) (h .waiters) in
+    all-made _ (h .config, (h .shape, (h .runnables, (h .variables, (h .elements, (h .operations, (h .timers, (h .slots, (c, (a, (k, (w, tt))))))))))))

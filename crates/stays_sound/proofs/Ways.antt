@@ -17,7 +17,7 @@ use Rattle.state.specs.Queues.{firstValue}
 use Rattle.state.specs.Tables.{maxSlots, runnableIn, variableIn, elementIn, operationIn, slotIn}
 use Rattle.rules.specs.Rows.{rows, rowOf}
 use Rattle.rules.specs.Refusals.{refusalOf}
-use Rattle.effects.specs.Steps.{refused, took, stored, isTaken, entered, onTop, exited, looked, fed, invalidated, anyFull, isBare, received, isOpen, isSpent, requestsFull, called, collected, closed, answers, serves, clientOf, finished, answered, handsNumber, handedBack, failed, isOver, holds, emptied, maySpawn, lowestEmpty, spawned, isUp, ticked, allLet, waited, readVariableOf, writeVariableOf, enterOf, exitOf, readOf, writeOf, updatedOf, invalidateOf, receiveOf, sendOf, callOf, pollOf, collectOf, resultOf, handBackOf, endOf, spawnOf, timeoutOf, tickOf, waitOf, failOf}
+use Rattle.effects.specs.Steps.{refused, took, stored, isTaken, entered, onTop, exited, looked, fed, invalidated, anyFull, isBare, received, isOpen, isBusy, isSpent, requestsFull, called, collected, closed, answers, serves, clientOf, finished, answered, handsNumber, handedBack, failed, isOver, holds, emptied, maySpawn, lowestEmpty, spawned, isUp, ticked, allLet, waited, readVariableOf, writeVariableOf, enterOf, exitOf, readOf, writeOf, updatedOf, invalidateOf, receiveOf, sendOf, callOf, pollOf, collectOf, resultOf, handBackOf, endOf, spawnOf, timeoutOf, tickOf, waitOf, failOf}
 use Rattle.effects.specs.Step.{possibleOf}
 use Rattle.effects.proofs.Codes.{Code, coded, actBy, possible-by, possible-barred}
 use Rattle.effects.proofs.Codes as code
@@ -38,10 +38,10 @@ pub data Way (cfg : Config) (st : State) (s : Step) : ℕ → Value → State �
   receiveNone : isBare st (s .what) ≡ true → Way cfg st s receiveCode noDataV st
   receive : CanReceive cfg st (s .who) (s .what) → Way cfg st s receiveCode (firstValue (elementIn (st .elements) (s .what) .queue)) (received st (s .what))
   send : CanFeed cfg st (s .who) (s .what) (s .argument) → Way cfg st s sendCode (pick (anyFull cfg (st .elements) (s .what)) limitV okV) (fed cfg st (s .what) (s .argument))
-  callOpen : isOpen st (s .what) ≡ true → Way cfg st s callCode limitV st
+  callBusy : isBusy st (s .what) ≡ true → Way cfg st s callCode limitV st
   call : CanCall cfg st (s .who) (s .what) (s .argument) → Way cfg st s callCode okV (called cfg st (s .who) (s .what) (s .argument))
-  pollOpen : isOpen st (s .what) ≡ true → Way cfg st s resultCode noDataV st
-  poll : isOpen st (s .what) ≡ false → Way cfg st s resultCode (operationIn (st .operations) (s .what) .done) st
+  pollOpen : operationConfIn (cfg .operations) (s .what) .asynchronous ≡ true → isOpen st (s .what) ≡ true → Way cfg st s resultCode noDataV st
+  poll : operationConfIn (cfg .operations) (s .what) .asynchronous ≡ true → isOpen st (s .what) ≡ false → Way cfg st s resultCode (operationIn (st .operations) (s .what) .done) st
   collect : CanCollect cfg st (s .who) (s .what) → Way cfg st s resultCode (operationIn (st .operations) (s .what) .done) (collected st (s .who))
   answer : CanHandBack cfg st (s .who) (s .argument) → answers (st .operations) (clientOf st (s .who)) ≡ true → Way cfg st s handBackCode (numberV 1) (answered cfg st (s .who) (handedBack st (s .who) (s .argument)))
   late : CanHandBack cfg st (s .who) (s .argument) → answers (st .operations) (clientOf st (s .who)) ≡ false → Way cfg st s handBackCode (numberV 0) (finished st st (s .who))
@@ -58,8 +58,8 @@ pub data Barred (cfg : Config) (st : State) (s : Step) : ℕ → ℕ → Type 0 
   shared : {n : ℕ} → (refusalOf cfg (st .slots) s ≡ 0 → ⊥) → Barred cfg st s n (refusalOf cfg (st .slots) s)
   enterTaken : isTaken st (s .what) ≡ true → Barred cfg st s enterCode areaTaken
   exitOther : onTop (slotIn (st .slots) (s .who)) (s .what) ≡ false → Barred cfg st s exitCode notOnTop
-  callSpent : isOpen st (s .what) ≡ false → isSpent st (s .what) ≡ true → Barred cfg st s callCode numbersSpent
-  callFull : isOpen st (s .what) ≡ false → requestsFull cfg (st .runnables) (operationConfIn (cfg .operations) (s .what) .server) ≡ true → Barred cfg st s callCode queueFull
+  callSpent : isBusy st (s .what) ≡ false → isSpent st (s .what) ≡ true → Barred cfg st s callCode numbersSpent
+  callFull : isBusy st (s .what) ≡ false → requestsFull cfg (st .runnables) (operationConfIn (cfg .operations) (s .what) .server) ≡ true → Barred cfg st s callCode queueFull
   collectOpen : isOpen st (s .what) ≡ true → Barred cfg st s resultCode stillOpen
   answerNumber : handsNumber st (s .who) (s .argument) ≡ true → Barred cfg st s handBackCode malformed
   answerNone : serves st (s .who) ≡ false → Barred cfg st s handBackCode wrongClient
@@ -98,13 +98,13 @@ module _ (cfg : Config) (st : State) (s : Step) where
       pick-has (W receiveCode) (isBare st (s .what)) _ _ (λ e. goes (receiveNone e)) (λ e. goes (receive (says-receive cfg st _ _ _ (let-told cfg st s c h refl) e)))
   went-by code.send c h = goes (send (says-send cfg st _ _ _ (let-told cfg st s c h refl)))
   went-by code.call c h =
-      pick-has (W callCode) (isOpen st (s .what)) _ _ (λ a. goes (callOpen a))
+      pick-has (W callCode) (isBusy st (s .what)) _ _ (λ a. goes (callBusy a))
       (λ a. pick-has (W callCode) (isSpent st (s .what)) _ _ (λ b. bars (callSpent a b))
       (λ b. pick-has (W callCode) (requestsFull cfg (st .runnables) (operationConfIn (cfg .operations) (s .what) .server)) _ _ (λ d. bars (callFull a d))
       (λ d. goes (call (says-call cfg st _ _ _ (let-told cfg st s c h refl) a b d)))))
   went-by code.result c h =
       pick-has (W resultCode) (operationConfIn (cfg .operations) (s .what) .asynchronous) _ _
-      (λ a. pick-has (W resultCode) (isOpen st (s .what)) _ _ (λ b. goes (pollOpen b)) (λ b. goes (poll b)))
+      (λ a. pick-has (W resultCode) (isOpen st (s .what)) _ _ (λ b. goes (pollOpen a b)) (λ b. goes (poll a b)))
       (λ a. pick-has (W resultCode) (isOpen st (s .what)) _ _ (λ b. bars (collectOpen b)) (λ b. goes (collect (says-collect cfg st _ _ _ (let-told cfg st s c h refl) a b))))
   went-by code.handBack c h =
       pick-has (W handBackCode) (handsNumber st (s .who) (s .argument)) _ _ (λ f. bars (answerNumber f))

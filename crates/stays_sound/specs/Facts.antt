@@ -13,7 +13,7 @@ use Rattle.entries.specs.Faults.{isQueued, configSound}
 use Rattle.state.specs.Parts.{lastNumber, noClient}
 use Rattle.state.specs.Tables.{maxSlots, runnableIn, areaIn, elementIn, operationIn, timerIn, slotIn}
 use Rattle.state.specs.Queues.{topArea}
-use Rattle.rules.specs.Sound.{componentOf, slotsOf, holders, clientsAs, numbered, shaped, runnablesSound, variablesSound, elementsSound, operationsSound, timersSound, slotsSound}
+use Rattle.rules.specs.Sound.{componentOf, slotsOf, holders, clientsAs, numbered, waitersOf, shaped, runnablesSound, variablesSound, elementsSound, operationsSound, timersSound, slotsSound}
 use Rattle.effects.specs.Steps.{isTaken, isOpen, serves, hasFailed, handsNumber, isDue, lowestEmpty, operationsLet, timersLet, runnablesLet}
 
 -- ---- the clauses over two tables and more, at every place
@@ -34,6 +34,11 @@ pub record Clients (os : Operations) (rs : Runnables) (ss : Slots) : Type 0 wher
   pub served : (k : ℕ) → k < maxSlots → slotIn ss k .owed .serving ≡ true → numbered os (slotIn ss k .owed .client) ≡ true
   pub called : (o : ℕ) → o < maxOperationConfs → operationIn os o .calling ≡ true → clientsAs rs ss o (operationIn os o .number) ≡ 1
 
+-- an operation has one waiter at most, and while a synchronous call is open there it has one
+pub record Waiters (cfg : Config) (os : Operations) (ss : Slots) : Type 0 where
+  pub most : (o : ℕ) → o < maxOperationConfs → waitersOf ss o ≤ 1
+  pub bound : (o : ℕ) → o < maxOperationConfs → operationIn os o .calling ≡ true → operationConfIn (cfg .operations) o .asynchronous ≡ false → 0 < waitersOf ss o
+
 -- ---- the same of a state
 
 abbrev pub CountedIn : State → Type 0
@@ -44,6 +49,9 @@ HeldIn cfg st = Held cfg (st .areas) (st .slots)
 
 abbrev pub ClientsIn : State → Type 0
 ClientsIn st = Clients (st .operations) (st .runnables) (st .slots)
+
+abbrev pub WaitersIn : Config → State → Type 0
+WaitersIn cfg st = Waiters cfg (st .operations) (st .slots)
 
 -- ---- a sound state
 
@@ -60,6 +68,7 @@ pub record Sound (cfg : Config) (st : State) : Type 0 where
   pub counts : CountedIn st
   pub areas : HeldIn cfg st
   pub clients : ClientsIn st
+  pub waiters : WaitersIn cfg st
 
 -- ---- what a step may rely on
 
@@ -126,6 +135,7 @@ pub record CanCall (cfg : Config) (st : State) (i o : ℕ) (v : Value) : Type 0 
   pub own : operationConfIn (cfg .operations) o .component ≡ componentOf cfg (slotIn (st .slots) i .life .runnable)
   pub payload : isPayload v ≡ true
   pub shut : isOpen st o ≡ false
+  pub free : waitersOf (st .slots) o ≡ 0
   pub number : operationIn (st .operations) o .number ≡ lastNumber → ⊥
   pub room : runnableIn (st .runnables) (operationConfIn (cfg .operations) o .server) .requests .queued < runnableConfIn (cfg .runnables) (operationConfIn (cfg .operations) o .server) .capacity
 
@@ -133,6 +143,7 @@ pub record CanCall (cfg : Config) (st : State) (i o : ℕ) (v : Value) : Type 0 
 pub record CanCollect (cfg : Config) (st : State) (i o : ℕ) : Type 0 where
   pub there : There st i
   pub inside : o < cfg .operations .n
+  pub synchronous : operationConfIn (cfg .operations) o .asynchronous ≡ false
   pub waiting : slotIn (st .slots) i .life .waiting ≡ true
   pub on : slotIn (st .slots) i .life .on ≡ o
   pub shut : isOpen st o ≡ false
@@ -144,9 +155,10 @@ pub record CanHandBack (cfg : Config) (st : State) (i : ℕ) (v : Value) : Type 
   pub honest : handsNumber st i v ≡ false
   pub serving : serves st i ≡ true
 
--- neither a client nor an area is left
+-- it does not wait, and neither a client nor an area is left
 pub record CanEnd (st : State) (i : ℕ) : Type 0 where
   pub there : There st i
+  pub running : slotIn (st .slots) i .life .waiting ≡ false
   pub none : serves st i ≡ false
   pub flat : slotIn (st .slots) i .stack .held ≡ 0
 

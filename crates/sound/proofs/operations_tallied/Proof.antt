@@ -5,8 +5,11 @@ use mathlib.Core.Path.{_≡_, sym, _∙_}
 use mathlib.Core.Bool.{true}
 use native.Mathlib.Omega.{arith}
 use Prim.Native.Nat.{ℕ, _≤_, _-_}
+use lib.ListN.{length, getD}
 use Rattle.laws.specs.Loop.{allBelow}
 use Rattle.laws.proofs.Looping.{all-none, all-more, all-fails}
+use Rattle.laws.proofs.Places.{inside, length-mapped}
+use Rattle.state.specs.Parts.{noOperation}
 use Rattle.state.specs.Tables.{operationIn}
 use Rattle.sound.specs.Walk.{operationTallied, operationsTallied}
 use Rattle.sound.specs.Only.{onlyOperations}
@@ -14,26 +17,49 @@ use Rattle.sound.proofs.operations_tallied.Statement.{statement}
 use Rattle.sound.proofs.operations_tallied.Tie as tie
 
 abbrev Inv-loop : tie.InvT-loop
-Inv-loop confs rs l t k₀ k = (k ≤ 8) × (allBelow (λ (i : ℕ). operationTallied (onlyOperations confs) rs l i (operationIn t i)) k ≡ true)
+Inv-loop confs rs y t l k₀ k = (k ≤ 8) × (allBelow (λ (i : ℕ). operationTallied (onlyOperations confs) rs (y .noted) (getD (y .waiters) i 0) i (operationIn t i)) k ≡ true)
 
 abbrev μ-loop : tie.MeasureT-loop
-μ-loop confs rs l t k₀ k = 8 - k
+μ-loop confs rs y t l k₀ k = 8 - k
 
 loop-holds : tie.Need-loop-holds Inv-loop μ-loop
 loop-holds c = (search needs, all-none _)
 
+mul-x : tie.Need-mul-x Inv-loop μ-loop
+mul-x c = omega (arith, c .loop-test .taken)
+
+element-copy-out-x : tie.Need-element-copy-out-x Inv-loop μ-loop
+element-copy-out-x c = c .loop-test .taken
+
+element-copy-out-operation-tallied : tie.Need-element-copy-out-operation-tallied Inv-loop μ-loop
+element-copy-out-operation-tallied c = c .before .loop-test .taken
+
+cast-operation-tallied : tie.Need-cast-operation-tallied Inv-loop μ-loop
+cast-operation-tallied c = omega (arith, c .before .before .loop-test .taken)
+
 add-k : tie.Need-add-k Inv-loop μ-loop
-add-k c = omega (arith, c .before .before .before .loop-test .taken)
+add-k c = omega (arith, c .before .before .before .before .loop-test .taken)
 
 loop-less : tie.Need-loop-less Inv-loop μ-loop
-loop-less c = omega (arith, c .before .before .before .loop-test .taken)
+loop-less c = omega (arith, c .before .before .before .before .loop-test .taken)
 
 loop-again : tie.Need-loop-again Inv-loop μ-loop
-loop-again c = (omega (arith, c .before .before .before .loop-test .taken), all-more _ _ (c .before .before .before .before .loop .inv .1) (rw (c .before .before .get .ensures) at (sym (c .before .operation-tallied .ensures) ∙ c .if1 .taken)))
+unfolding operationIn
+loop-again c =
+    let a = c .before .before .before .before .before .before .before .args in
+    let e : length (a .t4 .at) ≡ 8 = search (length-mapped, c .before .before .before .before .before .before .before .good .1 .1 .1) in
+    let k = c .before .before .before .before .before .loop .k in
+    let b = c .before .before .before .before .loop-test .taken in
+    (omega (arith, b), all-more _ _ (c .before .before .before .before .before .loop .inv .1) (rw (inside (a .t4 .at) k 8 _ noOperation e b) at (sym (c .before .operation-tallied .ensures) ∙ c .if1 .taken)))
 
 returns : tie.Need-returns Inv-loop μ-loop
-unfolding operationsTallied
-returns c = sym (all-fails _ _ (c .before .before .before .before .loop .k) (c .before .before .before .loop-test .taken) (rw (c .before .before .get .ensures) at (sym (c .before .operation-tallied .ensures) ∙ c .if1 .left)))
+unfolding operationsTallied operationIn
+returns c =
+    let a = c .before .before .before .before .before .before .before .args in
+    let e : length (a .t4 .at) ≡ 8 = search (length-mapped, c .before .before .before .before .before .before .before .good .1 .1 .1) in
+    let k = c .before .before .before .before .before .loop .k in
+    let b = c .before .before .before .before .loop-test .taken in
+    sym (all-fails _ _ k b (rw (inside (a .t4 .at) k 8 _ noOperation e b) at (sym (c .before .operation-tallied .ensures) ∙ c .if1 .left)))
 
 returns-2 : tie.Need-returns-2 Inv-loop μ-loop
 unfolding operationsTallied
@@ -43,4 +69,4 @@ returns-2 c =
 
 pub operations-tallied-spec : {M : Type 1} → statement M
 operations-tallied-spec =
-    tie.close (tie.spec Inv-loop μ-loop loop-holds (λ c κs. tt) (λ c κs. tt) add-k loop-less loop-again returns returns-2)
+    tie.close (tie.spec Inv-loop μ-loop loop-holds mul-x element-copy-out-x element-copy-out-operation-tallied cast-operation-tallied (λ c κs. tt) add-k loop-less loop-again returns returns-2)

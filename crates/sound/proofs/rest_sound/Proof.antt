@@ -21,19 +21,19 @@ returns-3 c = rw (← c .before .before .before .before .before .before .before 
 
 returns-4 : tie.Need-returns-4
 unfolding allOf
-returns-4 c = rw (← c .before .before .before .before .before .before .before .before .before .before .runnables-tallied .ensures, not-false (c .before .before .before .before .before .before .before .before .before .before .runnables-tallied .result) (c .before .before .before .before .before .before .before .before .before .if1 .left), ← variables-only (c .before .before .before .before .before .before .before .before .before .before .before .before .before .args .cfg) (c .before .before .before .before .before .before .before .before .before .before .before .before .before .args .st .variables), ← c .before .before .before .before .before .before .before .variables-sound .ensures, not-false (c .before .before .before .before .before .before .before .variables-sound .result) (c .before .before .before .before .before .before .if2 .left), ← elements-only (c .before .before .before .before .before .before .before .before .before .before .before .before .before .args .cfg) (c .before .before .before .before .before .before .before .before .before .before .before .before .before .args .st .elements), ← c .before .before .before .before .elements-sound .ensures, not-false (c .before .before .before .before .elements-sound .result) (c .before .before .before .if3 .left), ← operations-only (c .before .before .before .before .before .before .before .before .before .before .before .before .before .args .cfg) (c .before .before .before .before .before .before .before .before .before .before .before .before .before .args .st .runnables) (c .before .before .before .before .before .before .before .before .before .before .before .before .before .args .y .noted) (c .before .before .before .before .before .before .before .before .before .before .before .before .before .args .st .operations), ← c .before .operations-tallied .ensures, not-true (c .before .operations-tallied .result) (c .if4 .taken))
+returns-4 c = rw (← c .before .before .before .before .before .before .before .before .before .runnables-tallied .ensures, not-false (c .before .before .before .before .before .before .before .before .before .runnables-tallied .result) (c .before .before .before .before .before .before .before .before .if1 .left), ← variables-only (c .before .before .before .before .before .before .before .before .before .before .before .before .args .cfg) (c .before .before .before .before .before .before .before .before .before .before .before .before .args .st .variables), ← c .before .before .before .before .before .before .variables-sound .ensures, not-false (c .before .before .before .before .before .before .variables-sound .result) (c .before .before .before .before .before .if2 .left), ← elements-only (c .before .before .before .before .before .before .before .before .before .before .before .before .args .cfg) (c .before .before .before .before .before .before .before .before .before .before .before .before .args .st .elements), ← c .before .before .before .elements-sound .ensures, not-false (c .before .before .before .elements-sound .result) (c .before .before .if3 .left), ← operations-only (c .before .before .before .before .before .before .before .before .before .before .before .before .args .cfg) (c .before .before .before .before .before .before .before .before .before .before .before .before .args .st .runnables) (c .before .before .before .before .before .before .before .before .before .before .before .before .args .y) (c .before .before .before .before .before .before .before .before .before .before .before .before .args .st .operations), ← c .before .operations-tallied .ensures, not-true (c .before .operations-tallied .result) (c .if4 .taken))
 
 returns-5 : tie.Need-returns-5
 unfolding allOf
-returns-5 c = rw (← c .before .before .before .before .before .before .before .before .before .before .before .before .before .runnables-tallied .ensures, not-false (c .before .before .before .before .before .before .before .before .before .before .before .before .before .runnables-tallied .result) (c .before .before .before .before .before .before .before .before .before .before .before .before .if1 .left), ← variables-only (c .before .before .before .before .before .before .before .before .before .before .before .before .before .before .before .before .args .cfg) (c .before .before .before .before .before .before .before .before .before .before .before .before .before .before .before .before .args .st .variables), ← c .before .before .before .before .before .before .before .before .before .before .variables-sound .ensures, not-false (c .before .before .before .before .before .before .before .before .before .before .variables-sound .result) (c .before .before .before .before .before .before .before .before .before .if2 .left), ← elements-only (c .before .before .before .before .before .before .before .before .before .before .before .before .before .before .before .before .args .cfg) (c .before .before .before .before .before .before .before .before .before .before .before .before .before .before .before .before .args .st .elements), ← c .before .before .before .before .before .before .before .elements-sound .ensures, not-false (c .before .before .before .before .before .before .before .elements-sound .result) (c .before .before .before .before .before .before .if3 .left), ← operations-only (c .before .before .before .before .before .before .before .before .before .before .before .before .before .before .before .before .args .cfg) (c .before .before .before .before .before .before .before .before .before .before .before .before .before .before .before .before .args .st .runnables) (c .before .before .before .before .before .before .before .before .before .before .before .before .before .before .before .before .args .y .noted) (c .before .before .before .before .before .before .before .before .before .before .before .before .before .before .before .before .args .st .operations), ← c .before .before .before .before .operations-tallied .ensures, not-false (c .before .before .before .before .operations-tallied .result) (c .before .before .before .if4 .left), ← timers-only (c .before .before .before .before .before .before .before .before .before .before .before .before .before .before .before .before .args .cfg) (c .before .before .before .before .before .before .before .before .before .before .before .before .before .before .before .before .args .st .timers), ← c .before .timers-sound .ensures, not-true (c .before .timers-sound .result) (c .if5 .taken))
+returns-5 c = rw (← c .before .before .before .before .before .before .before .before .before .before .before .before .runnables-tallied .ensures, not-false (c .before .before .before .before .before .before .before .before .before .before .before .before .runnables-tallied .result) (c .before .before .before .before .before .before .before .before .before .before .before .if1 .left), ← variables-only (c .before .before .before .before .before .before .before .before .before .before .before .before .before .before .before .args .cfg) (c .before .before .before .before .before .before .before .before .before .before .before .before .before .before .before .args .st .variables), ← c .before .before .before .before .before .before .before .before .before .variables-sound .ensures, not-false (c .before .before .before .before .before .before .before .before .before .variables-sound .result) (c .before .before .before .before .before .before .before .before .if2 .left), ← elements-only (c .before .before .before .before .before .before .before .before .before .before .before .before .before .before .before .args .cfg) (c .before .before .before .before .before .before .before .before .before .before .before .before .before .before .before .args .st .elements), ← c .before .before .before .before .before .before .elements-sound .ensures, not-false (c .before .before .before .before .before .before .elements-sound .result) (c .before .before .before .before .before .if3 .left), ← operations-only (c .before .before .before .before .before .before .before .before .before .before .before .before .before .before .before .args .cfg) (c .before .before .before .before .before .before .before .before .before .before .before .before .before .before .before .args .st .runnables) (c .before .before .before .before .before .before .before .before .before .before .before .before .before .before .before .args .y) (c .before .before .before .before .before .before .before .before .before .before .before .before .before .before .before .args .st .operations), ← c .before .before .before .before .operations-tallied .ensures, not-false (c .before .before .before .before .operations-tallied .result) (c .before .before .before .if4 .left), ← timers-only (c .before .before .before .before .before .before .before .before .before .before .before .before .before .before .before .args .cfg) (c .before .before .before .before .before .before .before .before .before .before .before .before .before .before .before .args .st .timers), ← c .before .timers-sound .ensures, not-true (c .before .timers-sound .result) (c .if5 .taken))
 
 returns-6 : tie.Need-returns-6
 unfolding allOf
-returns-6 c = rw (← c .before .before .before .before .before .before .before .before .before .before .before .before .before .before .before .before .before .runnables-tallied .ensures, not-false (c .before .before .before .before .before .before .before .before .before .before .before .before .before .before .before .before .before .runnables-tallied .result) (c .before .before .before .before .before .before .before .before .before .before .before .before .before .before .before .before .if1 .left), ← variables-only (c .before .before .before .before .before .before .before .before .before .before .before .before .before .before .before .before .before .before .before .before .args .cfg) (c .before .before .before .before .before .before .before .before .before .before .before .before .before .before .before .before .before .before .before .before .args .st .variables), ← c .before .before .before .before .before .before .before .before .before .before .before .before .before .before .variables-sound .ensures, not-false (c .before .before .before .before .before .before .before .before .before .before .before .before .before .before .variables-sound .result) (c .before .before .before .before .before .before .before .before .before .before .before .before .before .if2 .left), ← elements-only (c .before .before .before .before .before .before .before .before .before .before .before .before .before .before .before .before .before .before .before .before .args .cfg) (c .before .before .before .before .before .before .before .before .before .before .before .before .before .before .before .before .before .before .before .before .args .st .elements), ← c .before .before .before .before .before .before .before .before .before .before .before .elements-sound .ensures, not-false (c .before .before .before .before .before .before .before .before .before .before .before .elements-sound .result) (c .before .before .before .before .before .before .before .before .before .before .if3 .left), ← operations-only (c .before .before .before .before .before .before .before .before .before .before .before .before .before .before .before .before .before .before .before .before .args .cfg) (c .before .before .before .before .before .before .before .before .before .before .before .before .before .before .before .before .before .before .before .before .args .st .runnables) (c .before .before .before .before .before .before .before .before .before .before .before .before .before .before .before .before .before .before .before .before .args .y .noted) (c .before .before .before .before .before .before .before .before .before .before .before .before .before .before .before .before .before .before .before .before .args .st .operations), ← c .before .before .before .before .before .before .before .before .operations-tallied .ensures, not-false (c .before .before .before .before .before .before .before .before .operations-tallied .result) (c .before .before .before .before .before .before .before .if4 .left), ← timers-only (c .before .before .before .before .before .before .before .before .before .before .before .before .before .before .before .before .before .before .before .before .args .cfg) (c .before .before .before .before .before .before .before .before .before .before .before .before .before .before .before .before .before .before .before .before .args .st .timers), ← c .before .before .before .before .before .timers-sound .ensures, not-false (c .before .before .before .before .before .timers-sound .result) (c .before .before .before .before .if5 .left), ← c .before .areas-tallied .ensures, not-true (c .before .areas-tallied .result) (c .if6 .taken))
+returns-6 c = rw (← c .before .before .before .before .before .before .before .before .before .before .before .before .before .before .before .before .runnables-tallied .ensures, not-false (c .before .before .before .before .before .before .before .before .before .before .before .before .before .before .before .before .runnables-tallied .result) (c .before .before .before .before .before .before .before .before .before .before .before .before .before .before .before .if1 .left), ← variables-only (c .before .before .before .before .before .before .before .before .before .before .before .before .before .before .before .before .before .before .before .args .cfg) (c .before .before .before .before .before .before .before .before .before .before .before .before .before .before .before .before .before .before .before .args .st .variables), ← c .before .before .before .before .before .before .before .before .before .before .before .before .before .variables-sound .ensures, not-false (c .before .before .before .before .before .before .before .before .before .before .before .before .before .variables-sound .result) (c .before .before .before .before .before .before .before .before .before .before .before .before .if2 .left), ← elements-only (c .before .before .before .before .before .before .before .before .before .before .before .before .before .before .before .before .before .before .before .args .cfg) (c .before .before .before .before .before .before .before .before .before .before .before .before .before .before .before .before .before .before .before .args .st .elements), ← c .before .before .before .before .before .before .before .before .before .before .elements-sound .ensures, not-false (c .before .before .before .before .before .before .before .before .before .before .elements-sound .result) (c .before .before .before .before .before .before .before .before .before .if3 .left), ← operations-only (c .before .before .before .before .before .before .before .before .before .before .before .before .before .before .before .before .before .before .before .args .cfg) (c .before .before .before .before .before .before .before .before .before .before .before .before .before .before .before .before .before .before .before .args .st .runnables) (c .before .before .before .before .before .before .before .before .before .before .before .before .before .before .before .before .before .before .before .args .y) (c .before .before .before .before .before .before .before .before .before .before .before .before .before .before .before .before .before .before .before .args .st .operations), ← c .before .before .before .before .before .before .before .before .operations-tallied .ensures, not-false (c .before .before .before .before .before .before .before .before .operations-tallied .result) (c .before .before .before .before .before .before .before .if4 .left), ← timers-only (c .before .before .before .before .before .before .before .before .before .before .before .before .before .before .before .before .before .before .before .args .cfg) (c .before .before .before .before .before .before .before .before .before .before .before .before .before .before .before .before .before .before .before .args .st .timers), ← c .before .before .before .before .before .timers-sound .ensures, not-false (c .before .before .before .before .before .timers-sound .result) (c .before .before .before .before .if5 .left), ← c .before .areas-tallied .ensures, not-true (c .before .areas-tallied .result) (c .if6 .taken))
 
 returns-7 : tie.Need-returns-7
 unfolding allOf
-returns-7 c = rw (← c .before .before .before .before .before .before .before .before .before .before .before .before .before .before .before .before .before .before .runnables-tallied .ensures, not-false (c .before .before .before .before .before .before .before .before .before .before .before .before .before .before .before .before .before .before .runnables-tallied .result) (c .before .before .before .before .before .before .before .before .before .before .before .before .before .before .before .before .before .if1 .left), ← variables-only (c .before .before .before .before .before .before .before .before .before .before .before .before .before .before .before .before .before .before .before .before .before .args .cfg) (c .before .before .before .before .before .before .before .before .before .before .before .before .before .before .before .before .before .before .before .before .before .args .st .variables), ← c .before .before .before .before .before .before .before .before .before .before .before .before .before .before .before .variables-sound .ensures, not-false (c .before .before .before .before .before .before .before .before .before .before .before .before .before .before .before .variables-sound .result) (c .before .before .before .before .before .before .before .before .before .before .before .before .before .before .if2 .left), ← elements-only (c .before .before .before .before .before .before .before .before .before .before .before .before .before .before .before .before .before .before .before .before .before .args .cfg) (c .before .before .before .before .before .before .before .before .before .before .before .before .before .before .before .before .before .before .before .before .before .args .st .elements), ← c .before .before .before .before .before .before .before .before .before .before .before .before .elements-sound .ensures, not-false (c .before .before .before .before .before .before .before .before .before .before .before .before .elements-sound .result) (c .before .before .before .before .before .before .before .before .before .before .before .if3 .left), ← operations-only (c .before .before .before .before .before .before .before .before .before .before .before .before .before .before .before .before .before .before .before .before .before .args .cfg) (c .before .before .before .before .before .before .before .before .before .before .before .before .before .before .before .before .before .before .before .before .before .args .st .runnables) (c .before .before .before .before .before .before .before .before .before .before .before .before .before .before .before .before .before .before .before .before .before .args .y .noted) (c .before .before .before .before .before .before .before .before .before .before .before .before .before .before .before .before .before .before .before .before .before .args .st .operations), ← c .before .before .before .before .before .before .before .before .before .operations-tallied .ensures, not-false (c .before .before .before .before .before .before .before .before .before .operations-tallied .result) (c .before .before .before .before .before .before .before .before .if4 .left), ← timers-only (c .before .before .before .before .before .before .before .before .before .before .before .before .before .before .before .before .before .before .before .before .before .args .cfg) (c .before .before .before .before .before .before .before .before .before .before .before .before .before .before .before .before .before .before .before .before .before .args .st .timers), ← c .before .before .before .before .before .before .timers-sound .ensures, not-false (c .before .before .before .before .before .before .timers-sound .result) (c .before .before .before .before .before .if5 .left), ← c .before .before .areas-tallied .ensures, not-false (c .before .before .areas-tallied .result) (c .before .if6 .left), ← c .noted-alone .ensures) (both-true _)
+returns-7 c = rw (← c .before .before .before .before .before .before .before .before .before .before .before .before .before .before .before .before .before .before .runnables-tallied .ensures, not-false (c .before .before .before .before .before .before .before .before .before .before .before .before .before .before .before .before .before .before .runnables-tallied .result) (c .before .before .before .before .before .before .before .before .before .before .before .before .before .before .before .before .before .if1 .left), ← variables-only (c .before .before .before .before .before .before .before .before .before .before .before .before .before .before .before .before .before .before .before .before .before .args .cfg) (c .before .before .before .before .before .before .before .before .before .before .before .before .before .before .before .before .before .before .before .before .before .args .st .variables), ← c .before .before .before .before .before .before .before .before .before .before .before .before .before .before .before .variables-sound .ensures, not-false (c .before .before .before .before .before .before .before .before .before .before .before .before .before .before .before .variables-sound .result) (c .before .before .before .before .before .before .before .before .before .before .before .before .before .before .if2 .left), ← elements-only (c .before .before .before .before .before .before .before .before .before .before .before .before .before .before .before .before .before .before .before .before .before .args .cfg) (c .before .before .before .before .before .before .before .before .before .before .before .before .before .before .before .before .before .before .before .before .before .args .st .elements), ← c .before .before .before .before .before .before .before .before .before .before .before .before .elements-sound .ensures, not-false (c .before .before .before .before .before .before .before .before .before .before .before .before .elements-sound .result) (c .before .before .before .before .before .before .before .before .before .before .before .if3 .left), ← operations-only (c .before .before .before .before .before .before .before .before .before .before .before .before .before .before .before .before .before .before .before .before .before .args .cfg) (c .before .before .before .before .before .before .before .before .before .before .before .before .before .before .before .before .before .before .before .before .before .args .st .runnables) (c .before .before .before .before .before .before .before .before .before .before .before .before .before .before .before .before .before .before .before .before .before .args .y) (c .before .before .before .before .before .before .before .before .before .before .before .before .before .before .before .before .before .before .before .before .before .args .st .operations), ← c .before .before .before .before .before .before .before .before .before .before .operations-tallied .ensures, not-false (c .before .before .before .before .before .before .before .before .before .before .operations-tallied .result) (c .before .before .before .before .before .before .before .before .before .if4 .left), ← timers-only (c .before .before .before .before .before .before .before .before .before .before .before .before .before .before .before .before .before .before .before .before .before .args .cfg) (c .before .before .before .before .before .before .before .before .before .before .before .before .before .before .before .before .before .before .before .before .before .args .st .timers), ← c .before .before .before .before .before .before .before .timers-sound .ensures, not-false (c .before .before .before .before .before .before .before .timers-sound .result) (c .before .before .before .before .before .before .if5 .left), ← c .before .before .before .areas-tallied .ensures, not-false (c .before .before .before .areas-tallied .result) (c .before .before .if6 .left), ← c .noted-alone .ensures) (both-true _)
 
 pub rest-sound-spec : {M : Type 1} → statement M
 rest-sound-spec =
