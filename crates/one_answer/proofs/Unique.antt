@@ -140,6 +140,9 @@ config-Config-none κs a x y s t = same
 
 -- ---- state
 
+pub state-Requests-get : One Rattle.state.proofs.Requests.get.Kinds.ps Rattle.state.proofs.Requests.get.Kinds.r Rattle.state.proofs.Requests.get.Reads.Post
+state-Requests-get κs a x y s t = same
+
 pub state-Requests-push : One Rattle.state.proofs.Requests.push.Kinds.ps Rattle.state.proofs.Requests.push.Kinds.r Rattle.state.proofs.Requests.push.Reads.Post
 state-Requests-push κs a x y s t = same
 

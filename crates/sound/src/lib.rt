@@ -91,17 +91,6 @@ fn client_fits(t: OperationConfs, r: u8, c: Client) -> bool
     false
 }
 
-// The request at place j, or the blank one past the last place.
-fn request_at(q: Requests, j: u8) -> Client
-    ensures { λ r. ⌜ r ≡ getD (q .at) j noClient ⌝ }
-{
-    let k = j as usize;
-    if k < Requests::MAX {
-        return q.at[k];
-    }
-    Client::BLANK
-}
-
 // One place of a queue of requests, in use or not: a fitting client, or blank.
 fn request_filled(t: OperationConfs, r: u8, used: bool, c: Client) -> bool
     ensures { λ b. ⌜ b ≡ pick used (clientFits (onlyOperations t) r c) (isNoClient c) ⌝ }
@@ -713,7 +702,7 @@ fn queued_as(o: u8, m: u16, q: Requests) -> u8
     let mut n: u8 = 0;
     let mut j: u8 = 0;
     while j < l {
-        n = n + bit(is_client(o, m, request_at(q, j)));
+        n = n + bit(is_client(o, m, q.get(j)));
         j = j + 1;
     }
     n
@@ -787,7 +776,7 @@ fn queue_alone(os: Operations, q: Requests, l: Noted) -> bool
     let n = q.queued;
     let mut j: u8 = 0;
     while j < n {
-        if client_alone(os, q, l, request_at(q, j)) {
+        if client_alone(os, q, l, q.get(j)) {
             j = j + 1;
         } else {
             return false;

@@ -1,6 +1,7 @@
 // The state of a control unit at its real size: seven tables, and the queues and stacks inside their parts.
 // A table is read by `get`, which gives the blank part past its end, and changed by `with`, which changes nothing there.
 ghost use mathlib.Core.Path.{_≡_};
+ghost use lib.ListN.{getD};
 ghost use Rattle.state.specs.Tables.{runnableIn, variableIn, areaIn, elementIn, operationIn, timerIn, slotIn, withRunnable, withVariable, withArea, withElement, withOperation, withTimer, withSlot};
 ghost use Rattle.state.specs.Queues.{upOne, pushRequest, firstRequest, restRequests, pushValue, firstValue, restValues, pushArea, topArea, popArea};
 ghost use Rattle.state.specs.Start.{startRunnable, startVariable, startElement, startRunnables, startVariables, startElements, startOf};
@@ -51,6 +52,17 @@ impl Requests {
         queued: 0,
         at: [Client::BLANK; Requests::MAX],
     };
+
+    // What stands at place j, or the blank client past the last place.
+    pub fn get(self, j: u8) -> Client
+        ensures { λ r. ⌜ r ≡ getD (self .at) j noClient ⌝ }
+    {
+        let k = j as usize;
+        if k < Requests::MAX {
+            return self.at[k];
+        }
+        Client::BLANK
+    }
 
     // One more, at the end.
     pub fn push(self, c: Client) -> Requests

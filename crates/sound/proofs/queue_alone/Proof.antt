@@ -29,11 +29,11 @@ loop-less : tie.Need-loop-less Inv-loop μ-loop
 loop-less c = omega (arith, c .before .before .before .loop-test .taken)
 
 loop-again : tie.Need-loop-again Inv-loop μ-loop
-loop-again c = (omega (arith, c .before .before .before .loop-test .taken), all-more _ _ (c .before .before .before .before .loop .inv .1) (rw (c .before .before .request-at .ensures) at (sym (c .before .client-alone .ensures) ∙ c .if1 .taken)))
+loop-again c = (omega (arith, c .before .before .before .loop-test .taken), all-more _ _ (c .before .before .before .before .loop .inv .1) (rw (c .before .before .get .ensures) at (sym (c .before .client-alone .ensures) ∙ c .if1 .taken)))
 
 returns : tie.Need-returns Inv-loop μ-loop
 unfolding queueAlone
-returns c = sym (all-fails _ _ (c .before .before .before .before .loop .j) (c .before .before .before .loop-test .taken) (rw (c .before .before .request-at .ensures) at (sym (c .before .client-alone .ensures) ∙ c .if1 .left)))
+returns c = sym (all-fails _ _ (c .before .before .before .before .loop .j) (c .before .before .before .loop-test .taken) (rw (c .before .before .get .ensures) at (sym (c .before .client-alone .ensures) ∙ c .if1 .left)))
 
 returns-2 : tie.Need-returns-2 Inv-loop μ-loop
 unfolding queueAlone

@@ -34,7 +34,7 @@ loop-less : tie.Need-loop-less Inv-loop μ-loop
 loop-less c = omega (arith, c .before .before .before .loop-test .taken)
 
 loop-again : tie.Need-loop-again Inv-loop μ-loop
-loop-again c = (omega (arith, c .before .before .before .loop-test .taken), rw (c .bit .ensures, c .before .is-client .ensures, c .before .before .request-at .ensures, c .before .before .before .before .loop .inv .1, sum-more))
+loop-again c = (omega (arith, c .before .before .before .loop-test .taken), rw (c .bit .ensures, c .before .is-client .ensures, c .before .before .get .ensures, c .before .before .before .before .loop .inv .1, sum-more))
 
 returns : tie.Need-returns Inv-loop μ-loop
 unfolding queuedAs
