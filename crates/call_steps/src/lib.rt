@@ -1,12 +1,13 @@
 // Steps 11 to 14, 16 and 19 as code, once refusals 2 to 5 have let them through: a call and its result, the two ways in which a call ends with the return events, the end of an instance and its failure. Each does what its definition in crate effects says, test for test.
 ghost use mathlib.Core.Path.{_≡_};
 ghost use Prim.Native.Nat.{ℕ};
-ghost use lib.Dec.{eqb, leb};
+ghost use lib.Dec.{eqb, leb, ltb};
 ghost use Rattle.laws.specs.Choice.{pick, both, either, bit};
-ghost use Rattle.laws.specs.Loop.{anyBelow};
+ghost use Rattle.laws.specs.Loop.{anyBelow, sumBelow};
 ghost use Rattle.values.specs.Values.{serverErrV, isNumber};
-ghost use Rattle.config.specs.Tables.{returnEventIn};
-ghost use Rattle.rules.specs.Sound.{waitsOn, waitersOf, isBound};
+ghost use Rattle.config.specs.Tables.{maxRunnableConfs, returnEventIn};
+ghost use Rattle.state.specs.Tables.{maxSlots, runnableIn, slotIn};
+ghost use Rattle.rules.specs.Sound.{isClient, queuedAs, servedAs, clientsAs, waitsOn, waitersOf, isBound};
 ghost use Rattle.effects.specs.Steps.{opening, asking, waitingOn, callOf, runningOn, pollOf, collectOf, resultOf, closing, returnedRunnables, answers, finishing, handBackOf, timeoutOf, leaving, endOf, failing, failOf};
 use config::Config;
 use config::OperationConf;
@@ -19,6 +20,7 @@ use state::Life;
 use state::Operation;
 use state::Operations;
 use state::Owed;
+use state::Requests;
 use state::Runnable;
 use state::Runnables;
 use state::Slot;
@@ -58,6 +60,9 @@ fn waits_on(o: u8, x: Slot) -> bool
 // How many slots there are, as a number of a slot.
 const SLOTS: u8 = Slots::MAX as u8;
 
+// How many runnables there can be, as a number of one.
+const RUNNABLES: u8 = RunnableConfs::MAX as u8;
+
 // How many instances wait on the operation o. Each slot is asked for by `get`: a table that is indexed here is copied place by place in every step.
 fn waiters_of(t: Slots, o: u8) -> u8
     ensures { λ r. ⌜ r ≡ waitersOf t o ⌝ }
@@ -77,6 +82,76 @@ fn is_busy(x: Operation, t: Slots, o: u8) -> bool
     ensures { λ r. ⌜ r ≡ either (x .calling) (isBound t o) ⌝ }
 {
     x.calling || 0 < waiters_of(t, o)
+}
+
+// The client is one of the operation o, and bears the number m.
+fn is_client(o: u8, m: u16, c: Client) -> bool
+    ensures { λ b. ⌜ b ≡ isClient o m c ⌝ }
+{
+    c.operation == o && c.number == m
+}
+
+// Some request of a queue does.
+fn is_queued_as(o: u8, m: u16, q: Requests) -> bool
+    ensures { λ b. ⌜ b ≡ ltb 0 (queuedAs o m q) ⌝ }
+{
+    let n = q.queued;
+    let mut j: u8 = 0;
+    while j < n {
+        if is_client(o, m, q.get(j)) {
+            return true;
+        }
+        j = j + 1;
+    }
+    false
+}
+
+// Some request of all queues does.
+fn any_queued_as(o: u8, m: u16, t: Runnables) -> bool
+    ensures { λ b. ⌜ b ≡ ltb 0 (sumBelow (λ (r : ℕ). queuedAs o m (runnableIn t r .requests)) maxRunnableConfs) ⌝ }
+{
+    let mut k: u8 = 0;
+    while k < RUNNABLES {
+        let x = t.get(k);
+        let q = x.requests;
+        if is_queued_as(o, m, q) {
+            return true;
+        }
+        k = k + 1;
+    }
+    false
+}
+
+// The client of an instance does.
+fn is_served_as(o: u8, m: u16, w: Owed) -> bool
+    ensures { λ b. ⌜ b ≡ ltb 0 (servedAs o m w) ⌝ }
+{
+    w.serving && is_client(o, m, w.client)
+}
+
+// The client of some instance does.
+fn any_served_as(o: u8, m: u16, t: Slots) -> bool
+    ensures { λ b. ⌜ b ≡ ltb 0 (sumBelow (λ (k : ℕ). servedAs o m (slotIn t k .owed)) maxSlots) ⌝ }
+{
+    let mut k: u8 = 0;
+    while k < SLOTS {
+        let x = t.get(k);
+        let w = x.owed;
+        if is_served_as(o, m, w) {
+            return true;
+        }
+        k = k + 1;
+    }
+    false
+}
+
+// A client of the operation o, queued or on an instance, bears the number m.
+fn is_borne(rs: Runnables, ss: Slots, o: u8, m: u16) -> bool
+    ensures { λ b. ⌜ b ≡ ltb 0 (clientsAs rs ss o m) ⌝ }
+{
+    let queued = any_queued_as(o, m, rs);
+    let served = any_served_as(o, m, ss);
+    queued || served
 }
 
 // The server's queue has no room.
@@ -127,14 +202,14 @@ pub fn call(cfg: Config, st: State, i: u8, o: u8, v: Value) -> Stepped
     if is_busy(x, slots, o) {
         return shared_steps::take(Value::LIMIT, st);
     }
-    if x.number == Operation::LAST_NUMBER {
-        return shared_steps::refuse(numbers::NUMBERS_SPENT, st);
+    let runnables = st.runnables;
+    if is_borne(runnables, slots, o, x.number) {
+        return shared_steps::refuse(numbers::NUMBER_BORNE, st);
     }
     let confs = cfg.operations;
     let c = confs.get(o);
     let s = c.server;
     let servers = cfg.runnables;
-    let runnables = st.runnables;
     let r = runnables.get(s);
     if requests_full(servers.get(s), r) {
         return shared_steps::refuse(numbers::QUEUE_FULL, st);
@@ -204,7 +279,7 @@ pub fn result(cfg: Config, st: State, i: u8, o: u8) -> Stepped
 
 // ---- 13, 16: a call ends
 
-// Done with a value, and the number up by one.
+// Done with a value, and the number up by one: behind 65,535 comes 0.
 fn closing(v: Value, x: Operation) -> Operation
     ensures { λ r. ⌜ r ≡ closing v x ⌝ }
 {
@@ -261,7 +336,8 @@ fn answers(t: Operations, c: Client) -> bool
     ensures { λ r. ⌜ r ≡ answers t c ⌝ }
 {
     let x = t.get(c.operation);
-    x.calling && x.number == c.number
+    let same = x.number == c.number;
+    x.calling && same
 }
 
 // The slot owes nobody any longer, and its instance counts as finished.

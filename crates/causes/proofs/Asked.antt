@@ -16,7 +16,7 @@ use Rattle.config.specs.Tables.{operationConfIn}
 use Rattle.rules.specs.declared.Row.{Row}
 use Rattle.rules.specs.Rows.{noPart, rowOf, rows}
 use Rattle.rules.specs.Refusals.{argues, formed, instanceRefusal, schedulerRefusal, refusalBy, refusalOf}
-use Rattle.effects.specs.Steps.{requestsFull, isBusy, isSpent, serves, clientOf, answers, hasFailed, handsNumber, writeVariableOf, writeOf, sendOf, callOf, handBackOf}
+use Rattle.effects.specs.Steps.{requestsFull, isBusy, isBorne, serves, clientOf, answers, hasFailed, handsNumber, writeVariableOf, writeOf, sendOf, callOf, handBackOf}
 use Rattle.effects.specs.Step.{possibleOf}
 use Rattle.effects.proofs.Codes.{Code, coded, actBy, possible-by, possible-barred}
 use Rattle.effects.proofs.Codes as code
@@ -67,7 +67,7 @@ module _ (cfg : Config) (st : State) where
   act-answers code.send l i k v w p q = refl
   act-answers code.call l i k v w p q =
       answer-pick (isBusy st k) _ _ _ _ refl
-      (answer-pick (isSpent st k) _ _ _ _ refl
+      (answer-pick (isBorne st k) _ _ _ _ refl
       (answer-pick (requestsFull cfg (st .runnables) (operationConfIn (cfg .operations) k .server)) _ _ _ _ refl refl))
   act-answers code.result l i k v w p q = refl
   act-answers code.handBack l i k v w p q =

@@ -7,7 +7,7 @@ use mathlib.Core.Path.{_≡_, refl, sym, ap, _∙_, subst}
 use lib.Dec.{ltb, leb, eqb}
 use Rattle.laws.specs.Choice.{pick, both}
 use Rattle.laws.proofs.Choosing.{pick-has}
-use Rattle.numbers.specs.Refusals.{malformed, notThere, notOwn, barred, areaTaken, notOnTop, queueFull, numbersSpent, stillOpen, notDue, noSlotFree, tooFar, notOver, areasHeld, wrongClient, otherAnswer}
+use Rattle.numbers.specs.Refusals.{malformed, notThere, notOwn, barred, areaTaken, notOnTop, queueFull, numberBorne, stillOpen, notDue, noSlotFree, tooFar, notOver, areasHeld, wrongClient, otherAnswer}
 use Rattle.numbers.specs.Codes.{timeoutCode}
 use Rattle.values.specs.Values.{answerRefusal, sameValue}
 use Rattle.types.specs.Types.{Value, Step, Answer, Taken, Refused, Config, RunnableConf, Life, Runnable, Slots, State, Stepped}
@@ -21,12 +21,12 @@ use Rattle.rules.specs.Refusals.{formed, partThere, partOwn, lifeLets, ownedRef
 use Rattle.effects.specs.Steps.{refused}
 use Rattle.effects.specs.Step.{possibleOf, onAnswer, claimedOf, innerOf, stepOf}
 use Rattle.effects.proofs.Codes.{never}
-use Rattle.stays_sound.proofs.Ways.{Barred, shared, enterTaken, exitOther, callSpent, callFull, collectOpen, answerNumber, answerNone, endServing, endHolding, spawnNeed, spawnFull, timeoutEarly, tickEarly, waitFar, Went, bars, goes, went}
+use Rattle.stays_sound.proofs.Ways.{Barred, shared, enterTaken, exitOther, callBorne, callFull, collectOpen, answerNumber, answerNone, endServing, endHolding, spawnNeed, spawnFull, timeoutEarly, tickEarly, waitFar, Went, bars, goes, went}
 use Rattle.stays_sound.proofs.Refusals.{refused-same}
 use Rattle.causes.specs.declared.Cause.{Cause}
 use Rattle.causes.specs.declared.Cause.the-variants.{NoCause, Differs}
 use Rattle.causes.specs.Passing.{passesOf, operationStop, timerStop}
-use Rattle.causes.specs.Causes.{causeRefusal, formCause, slotCause, codeCause, thereCause, ownCause, waitsElse, lifeCause, topCause, stillCause, fullCause, openCause, dueCause, spawnCause, stopCause, earlyCause, owedCause, whyOf, claimCause, causeOf}
+use Rattle.causes.specs.Causes.{causeRefusal, formCause, slotCause, codeCause, thereCause, ownCause, waitsElse, lifeCause, topCause, stillCause, fullCause, bearerOf, borneCause, openCause, dueCause, spawnCause, stopCause, earlyCause, owedCause, whyOf, claimCause, causeOf}
 
 -- ---- each number's causes have that number
 
@@ -78,6 +78,10 @@ full-number : (cfg : Config) (o : ℕ) → causeRefusal (fullCause cfg o) ≡ qu
 unfolding fullCause
 full-number cfg o = refl
 
+borne-number : (cfg : Config) (st : State) (o : ℕ) → causeRefusal (borneCause cfg st o) ≡ numberBorne
+unfolding borneCause
+borne-number cfg st o = either-number (ltb (bearerOf (st .slots) o (operationIn (st .operations) o .number)) maxSlots) _ _ numberBorne refl refl
+
 open-number : (st : State) (o : ℕ) → causeRefusal (openCause st o) ≡ stillOpen
 unfolding openCause
 open-number st o = refl
@@ -112,7 +116,7 @@ owed-number : (ss : Slots) (i : ℕ) → causeRefusal (owedCause ss i) ≡ wrong
 unfolding owedCause
 owed-number ss i = either-number (slotIn ss i .owed .serving) _ _ wrongClient refl refl
 
--- ---- by the number: 2 to 16 are all that a step before its claim can have
+-- ---- by the number: 2 to 16 and 28 are all that a step before its claim can have
 
 module _ (cfg : Config) (st : State) (s : Step) where
   abbrev Named : ℕ → Type 0
@@ -146,9 +150,9 @@ module _ (cfg : Config) (st : State) (s : Step) where
   unfolding whyOf
   named-queue-full = full-number cfg (s .what)
 
-  named-numbers-spent : Named numbersSpent
+  named-number-borne : Named numberBorne
   unfolding whyOf
-  named-numbers-spent = refl
+  named-number-borne = borne-number cfg st (s .what)
 
   named-still-open : Named stillOpen
   unfolding whyOf
@@ -211,7 +215,7 @@ module _ (cfg : Config) (st : State) (s : Step) where
   barred-named (shared n) = refusal-named (rowOf (s .code)) n
   barred-named (enterTaken e) = named-area-taken
   barred-named (exitOther e) = named-not-on-top
-  barred-named (callSpent a b) = named-numbers-spent
+  barred-named (callBorne a b) = named-number-borne
   barred-named (callFull a b) = named-queue-full
   barred-named (collectOpen e) = named-still-open
   barred-named (answerNumber e) = named-malformed

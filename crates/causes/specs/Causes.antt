@@ -7,21 +7,21 @@ use lib.ListN.{getD}
 use Rattle.laws.specs.Choice.{pick, both}
 use Rattle.laws.specs.Loop.{anyBelow, firstBelow}
 use Rattle.values.specs.Values.{sameValue}
-use Rattle.numbers.specs.Refusals.{malformed, notThere, notOwn, barred, areaTaken, notOnTop, queueFull, numbersSpent, stillOpen, notDue, noSlotFree, tooFar, notOver, areasHeld, wrongClient, otherAnswer}
+use Rattle.numbers.specs.Refusals.{malformed, notThere, notOwn, barred, areaTaken, notOnTop, queueFull, numberBorne, stillOpen, notDue, noSlotFree, tooFar, notOver, areasHeld, wrongClient, otherAnswer}
 use Rattle.numbers.specs.Codes.{resultCode, timeoutCode}
 use Rattle.numbers.specs.Tags.{runnableTag, operationTag, timerTag}
-use Rattle.types.specs.Types.{Value, Step, Config, RunnableConf, Life, Stack, Runnable, Slots, State}
+use Rattle.types.specs.Types.{Value, Step, Config, RunnableConf, Life, Owed, Stack, Runnable, Slots, State}
 use Rattle.config.specs.Tables.{runnableConfIn, operationConfIn}
 use Rattle.entries.specs.Entries.{countOf, entryOf}
 use Rattle.state.specs.Tables.{maxSlots, runnableIn, operationIn, timerIn, slotIn}
 use Rattle.state.specs.Queues.{topArea}
 use Rattle.rules.specs.declared.Row.{Row}
-use Rattle.rules.specs.Sound.{componentOf}
+use Rattle.rules.specs.Sound.{componentOf, isClient}
 use Rattle.rules.specs.Rows.{aSlot, scheduler, noPart, rowOf}
 use Rattle.rules.specs.Refusals.{formed}
 use Rattle.effects.specs.Step.{possibleOf, onAnswer}
 use Rattle.causes.specs.declared.Cause.{Cause}
-use Rattle.causes.specs.declared.Cause.the-variants.{NoCause, NoCode, HasWho, HasWhat, BadArgument, HandsNumber, NoSlot, EmptySlot, NoPart, Foreign, IsQueued, NotQueued, WaitsOn, IsFinished, HasFailed, FailedBack, NotWaiting, HeldBy, NoneHeld, OnTop, QueueFull, NumbersUsed, CallOpen, InInterval, Runs, NotPending, NoRequest, NoRoom, Stops, NotOpen, CallRuns, TimerRuns, StillHeld, NoClient, HasClient, Differs}
+use Rattle.causes.specs.declared.Cause.the-variants.{NoCause, NoCode, HasWho, HasWhat, BadArgument, HandsNumber, NoSlot, EmptySlot, NoPart, Foreign, IsQueued, NotQueued, WaitsOn, IsFinished, HasFailed, FailedBack, NotWaiting, HeldBy, NoneHeld, OnTop, QueueFull, StillServed, StillQueued, CallOpen, InInterval, Runs, NotPending, NoRequest, NoRoom, Stops, NotOpen, CallRuns, TimerRuns, StillHeld, NoClient, HasClient, Differs}
 use Rattle.causes.specs.Passing.{passesOf, operationStop, timerStop, runnableStop}
 
 -- the number of refusal that a cause stands for; 0 for none ("Numbers of refusal")
@@ -47,7 +47,8 @@ causeRefusal (HeldBy i) = areaTaken
 causeRefusal NoneHeld = notOnTop
 causeRefusal (OnTop a) = notOnTop
 causeRefusal (QueueFull r n) = queueFull
-causeRefusal NumbersUsed = numbersSpent
+causeRefusal (StillServed i) = numberBorne
+causeRefusal (StillQueued r) = numberBorne
 causeRefusal (CallOpen t) = stillOpen
 causeRefusal (InInterval t) = notDue
 causeRefusal (Runs n) = notDue
@@ -134,11 +135,26 @@ topCause ss i = pick (ltb 0 (slotIn ss i .stack .held)) (OnTop (topArea (slotIn 
 unfoldable pub stillCause : Slots → ℕ → Cause
 stillCause ss i = StillHeld (topArea (slotIn ss i .stack))
 
--- ---- 8, 10: calls
+-- ---- 8, 10, 28: calls
 
 -- which queue, and its room ("Numbers of refusal", 8)
 unfoldable pub fullCause : Config → ℕ → Cause
 fullCause cfg o = QueueFull (operationConfIn (cfg .operations) o .server) (runnableConfIn (cfg .runnables) (operationConfIn (cfg .operations) o .server) .capacity)
+
+-- an instance has a client of the operation o with the number m (W-206)
+unfoldable pub servesAs : ℕ → ℕ → Owed → Bool
+servesAs o m w = both (w .serving) (isClient o m (w .client))
+
+-- the first slot whose instance has such a client, or how many slots there are (W-206)
+unfoldable pub bearerOf : Slots → ℕ → ℕ → ℕ
+bearerOf ss o m = firstBelow (λ (i : ℕ). servesAs o m (slotIn ss i .owed)) maxSlots
+
+-- who still bears the number: an instance's client, or else one in the server's queue (W-206)
+unfoldable pub borneCause : Config → State → ℕ → Cause
+borneCause cfg st o =
+    pick (ltb (bearerOf (st .slots) o (operationIn (st .operations) o .number)) maxSlots)
+    (StillServed (bearerOf (st .slots) o (operationIn (st .operations) o .number)))
+    (StillQueued (operationConfIn (cfg .operations) o .server))
 
 -- how long the call may still last ("Numbers of refusal", 10)
 unfoldable pub openCause : State → ℕ → Cause
@@ -182,7 +198,7 @@ owedCause ss i = pick (slotIn ss i .owed .serving) (HasClient (slotIn ss i .owed
 
 -- ---- all of them
 
--- the cause of a refusal with the number n ("Numbers of refusal", 2 to 16)
+-- the cause of a refusal with the number n ("Numbers of refusal", 2 to 16; W-206)
 unfoldable pub whyOf : Config → State → Step → ℕ → Cause
 whyOf cfg st s n =
     pick (eqb n malformed) (codeCause (rowOf (s .code)) s)
@@ -192,7 +208,7 @@ whyOf cfg st s n =
     (pick (eqb n areaTaken) (HeldBy (holderOf (st .slots) (s .what)))
     (pick (eqb n notOnTop) (topCause (st .slots) (s .who))
     (pick (eqb n queueFull) (fullCause cfg (s .what))
-    (pick (eqb n numbersSpent) NumbersUsed
+    (pick (eqb n numberBorne) (borneCause cfg st (s .what))
     (pick (eqb n stillOpen) (openCause st (s .what))
     (pick (eqb n notDue) (spawnCause (runnableConfIn (cfg .runnables) (s .what)) (runnableIn (st .runnables) (s .what)))
     (pick (eqb n noSlotFree) NoRoom
@@ -205,6 +221,6 @@ whyOf cfg st s n =
 unfoldable pub claimCause : Value → Value → Cause
 claimCause v claim = pick (sameValue v claim) NoCause (Differs v)
 
--- why a step is refused in a state, or that it is not ("Numbers of refusal", 2 to 17)
+-- why a step is refused in a state, or that it is not ("Numbers of refusal", 2 to 17; W-206)
 unfoldable pub causeOf : Config → State → Step → Cause
 causeOf cfg st s = onAnswer (possibleOf cfg st s .answer) (λ (v : Value). claimCause v (s .claim)) (λ (n : ℕ). whyOf cfg st s n)

@@ -4,7 +4,7 @@ ghost use lib.ListN.{getD};
 ghost use Rattle.config.specs.Tables.{runnableConfIn};
 ghost use Rattle.state.specs.Tables.{runnableIn};
 ghost use Rattle.causes.specs.Passing.{least, operationLeft, runnableLeft, operationsPass, timersPass, runnablesPass, passesOf, operationStops, timerStops, runnableStops, operationStop, timerStop, runnableStop};
-ghost use Rattle.causes.specs.Causes.{formCause, slotCause, codeCause, thereCause, ownCause, waitsElse, lifeCause, holdsOf, holderOf, topCause, fullCause, openCause, dueCause, spawnCause, stopCause, earlyCause, stillCause, owedCause, whyOf, claimCause, causeOf};
+ghost use Rattle.causes.specs.Causes.{formCause, slotCause, codeCause, thereCause, ownCause, waitsElse, lifeCause, holdsOf, holderOf, topCause, fullCause, servesAs, bearerOf, borneCause, openCause, dueCause, spawnCause, stopCause, earlyCause, stillCause, owedCause, whyOf, claimCause, causeOf};
 ghost use Rattle.causes.specs.Allowed.{sampleOf, probeOf, allowedOf};
 use config::AreaConfs;
 use config::Config;
@@ -13,6 +13,7 @@ use rules::Row;
 use state::Life;
 use state::Operation;
 use state::Operations;
+use state::Owed;
 use state::Runnable;
 use state::Runnables;
 use state::Slots;
@@ -55,8 +56,9 @@ pub enum Cause {
     OnTop(u8),
     // (8) the queue of this server is full, which has room for so many
     QueueFull(u8, u8),
-    // (9) all numbers are used
-    NumbersUsed,
+    // (28) this slot serves an earlier call that bears the operation's number; one that does waits in the queue of this server
+    StillServed(u8),
+    StillQueued(u8),
     // (10) the call is open, with so many ms left
     CallOpen(u32),
     // (11) the start interval has so many ms left; so many instances run; it is not pending; no request waits
@@ -420,6 +422,51 @@ fn full_cause(cfg: Config, o: u8) -> Cause
     Cause::QueueFull(c.server, s.capacity)
 }
 
+// The instance has a client of the operation o with the number m.
+fn serves_as(o: u8, m: u16, w: Owed) -> bool
+    ensures { λ r. ⌜ r ≡ servesAs o m w ⌝ }
+{
+    if w.serving {
+        let c = w.client;
+        if c.operation == o {
+            return c.number == m;
+        }
+        return false;
+    }
+    false
+}
+
+// The slot whose instance does, or how many slots there are.
+fn bearer(slots: Slots, o: u8, m: u16) -> u8
+    ensures { λ r. ⌜ r ≡ bearerOf slots o m ⌝ }
+{
+    let mut k: u8 = 0;
+    while k < SLOTS {
+        let x = slots.get(k);
+        if serves_as(o, m, x.owed) {
+            return k;
+        }
+        k = k + 1;
+    }
+    SLOTS
+}
+
+// 28: the slot that serves the old client, or the server in whose queue it waits.
+fn borne_cause(cfg: Config, st: State, o: u8) -> Cause
+    ensures { λ r. ⌜ r ≡ borneCause cfg st o ⌝ }
+{
+    let os = st.operations;
+    let x = os.get(o);
+    let slots = st.slots;
+    let i = bearer(slots, o, x.number);
+    if i < SLOTS {
+        return Cause::StillServed(i);
+    }
+    let confs = cfg.operations;
+    let c = confs.get(o);
+    Cause::StillQueued(c.server)
+}
+
 // 11: the first of the three needs that is missing.
 fn spawn_cause(c: RunnableConf, x: Runnable) -> Cause
     ensures { λ r. ⌜ r ≡ spawnCause c x ⌝ }
@@ -539,7 +586,7 @@ fn why(cfg: Config, st: State, s: Step, n: u8) -> Cause
         numbers::AREA_TAKEN => Cause::HeldBy(holder(slots, s.what)),
         numbers::NOT_ON_TOP => top_cause(slots, s.who),
         numbers::QUEUE_FULL => full_cause(cfg, s.what),
-        numbers::NUMBERS_SPENT => Cause::NumbersUsed,
+        numbers::NUMBER_BORNE => borne_cause(cfg, st, s.what),
         numbers::STILL_OPEN => open_cause(st, s.what),
         numbers::NOT_DUE => unspawned_cause(cfg, st, s.what),
         numbers::NO_SLOT_FREE => Cause::NoRoom,

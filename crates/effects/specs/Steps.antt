@@ -3,7 +3,7 @@
 use Prim.Native.Nat.{ℕ, _+_, _-_, _%_}
 use mathlib.Core.Bool.{Bool, true, false, not}
 use lib.Dec.{ltb, leb, eqb}
-use Rattle.numbers.specs.Refusals.{malformed, areaTaken, notOnTop, queueFull, numbersSpent, stillOpen, notDue, noSlotFree, tooFar, notOver, areasHeld, wrongClient}
+use Rattle.numbers.specs.Refusals.{malformed, areaTaken, notOnTop, queueFull, numberBorne, stillOpen, notDue, noSlotFree, tooFar, notOver, areasHeld, wrongClient}
 use Rattle.laws.specs.Choice.{pick, both, either, bit}
 use Rattle.laws.specs.Loop.{allBelow, anyBelow, firstBelow}
 use Rattle.laws.specs.Row.{eachBelow}
@@ -16,6 +16,7 @@ use Rattle.state.specs.Fields.{withInterval, withPending, withInstances, withRe
 use Rattle.state.specs.Tables.{maxSlots, runnableIn, variableIn, areaIn, elementIn, operationIn, timerIn, slotIn, withRunnable, withVariable, withArea, withElement, withOperation, withTimer, withSlot, withRunnables, withVariables, withAreas, withElements, withOperations, withTimers, withSlots}
 use Rattle.state.specs.Queues.{upOne, pushRequest, firstRequest, restRequests, pushValue, firstValue, restValues, pushArea, topArea, popArea}
 use Rattle.rules.specs.Sound.{isBound}
+use Rattle.rules.specs.Sound.{clientsAs}
 use Rattle.effects.specs.declared.Found.{Found}
 use Rattle.effects.specs.declared.Found.the-variants.{At, Nothing}
 
@@ -200,9 +201,9 @@ isOpen st o = operationIn (st .operations) o .calling
 abbrev pub isBusy : State → ℕ → Bool
 isBusy st o = either (isOpen st o) (isBound (st .slots) o)
 
--- the number of an operation is the last one ("Numbers of refusal", 9)
-abbrev pub isSpent : State → ℕ → Bool
-isSpent st o = eqb (operationIn (st .operations) o .number) lastNumber
+-- a client of the operation, queued or on an instance, still bears its number (W-206)
+abbrev pub isBorne : State → ℕ → Bool
+isBorne st o = ltb 0 (clientsAs (st .runnables) (st .slots) o (operationIn (st .operations) o .number))
 
 -- the operation is Calling, with its timeout as the count and its number kept ("The eighteen steps", Call)
 abbrev pub opening : ℕ → Operation → Operation
@@ -234,11 +235,11 @@ called cfg st i o v =
     (asking (runnableIn (st .runnables) (operationConfIn (cfg .operations) o .server)) (record { operation = o; number = operationIn (st .operations) o .number; argument = v }))))
     (withSlot (st .slots) i (callerAfter cfg o (slotIn (st .slots) i)))
 
--- Limit while the operation is open or bound, and nothing changes; else 9, 8, or a call is started ("The eighteen steps", Call; "Numbers of refusal", 9 and 8; W-202)
+-- Limit while the operation is open or bound, and nothing changes; else 28, 8, or a call is started ("The eighteen steps", Call; "Numbers of refusal", 8; W-202, W-206)
 unfoldable pub callOf : Config → State → ℕ → ℕ → Value → Stepped
 callOf cfg st i o v =
     pick (isBusy st o) (took limitV st)
-    (pick (isSpent st o) (refused numbersSpent st)
+    (pick (isBorne st o) (refused numberBorne st)
     (pick (requestsFull cfg (st .runnables) (operationConfIn (cfg .operations) o .server)) (refused queueFull st)
     (took okV (called cfg st i o v))))
 
@@ -266,7 +267,7 @@ resultOf cfg st i o = pick (operationConfIn (cfg .operations) o .asynchronous) (
 
 -- ---- 13, 16: a call ends
 
--- the operation is Done with a value, at the next number ("The eighteen steps", 13 and 16)
+-- the operation is Done with a value, at the next number; behind the last one comes 0 ("The eighteen steps", 13 and 16; W-206)
 unfoldable pub closing : Value → Operation → Operation
 closing v x = record { number = (x .number + 1) % (lastNumber + 1); calling = false; count = 0; done = v }
 

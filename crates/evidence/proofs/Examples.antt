@@ -16,7 +16,7 @@ use Rattle.state.specs.Queues.{pushRequest, firstRequest, restRequests, pushVal
 use Rattle.state.specs.Start.{startVariable, startElement, startRunnables, startVariables, startElements, startOf}
 use Rattle.entries.specs.Entries.{maxOf, countOf, placesOf, entryOf, placed}
 use Rattle.entries.specs.Faults.{inRange, namesThere, isServer, isQueued, rises, risesAt, pairsWell, entryFault, isNoEntry, placeSound, kindSound, configSound}
-use Rattle.rules.specs.Sound.{isNoClient, clientFits, requestsSound, valuesSound, runnableSound, variableSound, isStored, elementSound, isOutcome, callingSound, doneSound, operationSound, timerSound, waitsWell, lifeSound, owedSound, areaFits, stackSound, isNoSlot, slotSound, ofRunnable, slotsOf, countSound, timesIn, holders, areaSound, isClient, queuedAs, servedAs, clientsAs, numbered, clientSound, queuedSound, servedSound, calledSound, waitsOn, waitersOf, waiterSound, runnablesSound, variablesSound, elementsSound, operationsSound, timersSound, slotsSound, countsSound, areasSound, clientsSound, waitersSound, shaped, soundOf}
+use Rattle.rules.specs.Sound.{isNoClient, clientFits, requestsSound, valuesSound, runnableSound, variableSound, isStored, elementSound, isOutcome, callingSound, doneSound, operationSound, timerSound, waitsWell, lifeSound, owedSound, areaFits, stackSound, isNoSlot, slotSound, ofRunnable, slotsOf, countSound, timesIn, holders, areaSound, isClient, queuedAs, servedAs, clientsAs, clientSound, queuedSound, servedSound, calledSound, waitsOn, waitersOf, waiterSound, runnablesSound, variablesSound, elementsSound, operationsSound, timersSound, slotsSound, countsSound, areasSound, clientsSound, waitersSound, shaped, soundOf}
 use Rattle.effects.specs.Steps.{failing}
 use Rattle.types.specs.Types.{Value, Config, Client, Requests, Runnables, Elements, Operations, Life, Stack, Slot, Slots, State}
 
@@ -128,6 +128,13 @@ operationsWith count number past = record {
 pub doneWith : Value → Operations
 doneWith v = withOperation (operationsWith 50 3 0) 2 (record { number = 0; calling = false; count = 0; done = v })
 
+-- the same with the second Done, at a number; and with the first Done too
+pub shutWith : ℕ → Operations
+shutWith m = withOperation (operationsWith 50 3 0) 1 (record { number = m; calling = false; count = 0; done = voidV })
+
+pub freeWith : ℕ → Operations
+freeWith m = withOperation (shutWith m) 0 (record { number = 4; calling = false; count = 0; done = voidV })
+
 -- one element, with a queue of values
 pub elementsWith : ℕ → List Value → Elements
 elementsWith queued at = record { at = set (replicate 16 noElement) 0 (record { value = voidV; updated = false; queue = record { queued = queued; at = at } }) }
@@ -166,7 +173,7 @@ unfolding soundOf clauses
 clauses-are cfg st = refl
 
 pub state-sound : soundOf config state ≡ true
-unfolding allOf allBelow anyBelow sumBelow firstBelow eachBelow shifted placeFilled filled isVoid isPayload isKind isGood sameValue runnableConfIn addRunnableConf variableConfIn addVariableConf areaConfIn addAreaConf requiredConfIn addRequiredConf providedConfIn addProvidedConf linkIn addLink operationConfIn addOperationConf timerConfIn addTimerConf dataEventIn addDataEvent returnEventIn addReturnEvent noConfig noRequests noRunnable noValues noElement noStack noSlot noRunnables runnableIn withRunnable noVariables variableIn withVariable noAreas areaIn withArea noElements elementIn withElement noOperations operationIn withOperation noTimers timerIn withTimer noSlots slotIn withSlot pushRequest firstRequest restRequests pushValue firstValue restValues pushArea topArea popArea startVariable startElement startRunnables startVariables startElements startOf maxOf countOf placesOf entryOf placed inRange namesThere isServer isQueued rises risesAt pairsWell entryFault isNoEntry placeSound kindSound configSound isNoClient clientFits requestsSound valuesSound runnableSound variableSound isStored elementSound isOutcome callingSound doneSound operationSound timerSound waitsWell lifeSound owedSound areaFits stackSound isNoSlot slotSound ofRunnable slotsOf countSound timesIn holders areaSound isClient queuedAs servedAs clientsAs numbered clientSound queuedSound servedSound calledSound waitsOn waitersOf waiterSound runnablesSound variablesSound elementsSound operationsSound timersSound slotsSound countsSound areasSound clientsSound waitersSound shaped soundOf configWith config caller nested one served life idle waiter first second slotsWith runnablesWith asked queueOne queueTwo operationsWith doneWith elementsWith state
+unfolding allOf allBelow anyBelow sumBelow firstBelow eachBelow shifted placeFilled filled isVoid isPayload isKind isGood sameValue runnableConfIn addRunnableConf variableConfIn addVariableConf areaConfIn addAreaConf requiredConfIn addRequiredConf providedConfIn addProvidedConf linkIn addLink operationConfIn addOperationConf timerConfIn addTimerConf dataEventIn addDataEvent returnEventIn addReturnEvent noConfig noRequests noRunnable noValues noElement noStack noSlot noRunnables runnableIn withRunnable noVariables variableIn withVariable noAreas areaIn withArea noElements elementIn withElement noOperations operationIn withOperation noTimers timerIn withTimer noSlots slotIn withSlot pushRequest firstRequest restRequests pushValue firstValue restValues pushArea topArea popArea startVariable startElement startRunnables startVariables startElements startOf maxOf countOf placesOf entryOf placed inRange namesThere isServer isQueued rises risesAt pairsWell entryFault isNoEntry placeSound kindSound configSound isNoClient clientFits requestsSound valuesSound runnableSound variableSound isStored elementSound isOutcome callingSound doneSound operationSound timerSound waitsWell lifeSound owedSound areaFits stackSound isNoSlot slotSound ofRunnable slotsOf countSound timesIn holders areaSound isClient queuedAs servedAs clientsAs clientSound queuedSound servedSound calledSound waitsOn waitersOf waiterSound runnablesSound variablesSound elementsSound operationsSound timersSound slotsSound countsSound areasSound clientsSound waitersSound shaped soundOf configWith config caller nested one served life idle waiter first second slotsWith runnablesWith asked queueOne queueTwo operationsWith doneWith shutWith freeWith elementsWith state
 state-sound = refl
 
 -- ---- near it, and unsound for one clause alone
@@ -221,10 +228,6 @@ behindQueue = record { config = config; state = withElements state (elementsWith
 countAbove : Near
 countAbove = record { config = config; state = withOperations state (operationsWith 51 3 0); fails = 5 }
 
--- a call is open with the number 65,535
-numberTop : Near
-numberTop = record { config = config; state = withOperations (withRunnables state (runnablesWith 1 false (queueOne (asked 65535)) 0)) (operationsWith 50 65535 0); fails = 5 }
-
 -- ServerErr with a number beside it
 errNumbered : Near
 errNumbered = record { config = config; state = withOperations state (doneWith (record { kind = 9; number = 1 })); fails = 5 }
@@ -273,13 +276,13 @@ heldFree = record { config = config; state = withAreas state (record { at = set 
 heldTwice : Near
 heldTwice = record { config = config; state = withSlots (withRunnables state (runnablesWith 1 false (queueOne (asked 3)) 1)) (slotsWith first second (idle 2 (one 0))); fails = 9 }
 
--- an open call has no client with its number
+-- an open call has no client with its number, but one with the number before it
 callAlone : Near
 callAlone = record { config = config; state = withSlots state (slotsWith first (served 0 3 (life false false) noStack) noSlot); fails = 10 }
 
--- a client's number is above its operation's
-numberAbove : Near
-numberAbove = record { config = config; state = withSlots state (slotsWith first (served 0 5 (life false false) noStack) noSlot); fails = 10 }
+-- an open call has no client with its number, but one with the number behind it
+callAhead : Near
+callAhead = record { config = config; state = withSlots state (slotsWith first (served 0 5 (life false false) noStack) noSlot); fails = 10 }
 
 -- two clients share operation and number
 clientTwice : Near
@@ -293,6 +296,14 @@ callUnbound = record { config = config; state = withSlots state (slotsWith (idle
 waitersTwo : Near
 waitersTwo = record { config = config; state = withSlots (withRunnables state (runnablesWith 1 false (queueOne (asked 3)) 1)) (slotsWith first second waiter); fails = 11 }
 
+-- two clients of past calls do
+pastTwice : Near
+pastTwice = record { config = config; state = withOperations (withRunnables state (runnablesWith 1 false (queueTwo (asked 9) (asked 9)) 0)) (shutWith 3); fails = 10 }
+
+-- one waits and one is served
+apartTwice : Near
+apartTwice = record { config = config; state = withSlots (withOperations (withRunnables state (runnablesWith 1 false (queueOne (asked 9)) 0)) (freeWith 3)) (slotsWith (idle 0 nested) (served 1 9 (life false false) noStack) noSlot); fails = 10 }
+
 pub near : List Near
 near =
     unconfigured
@@ -305,7 +316,6 @@ near =
     ∷ queueOk
     ∷ behindQueue
     ∷ countAbove
-    ∷ numberTop
     ∷ errNumbered
     ∷ timerUnused
     ∷ waitsAsync
@@ -319,20 +329,23 @@ near =
     ∷ heldFree
     ∷ heldTwice
     ∷ callAlone
-    ∷ numberAbove
+    ∷ callAhead
     ∷ clientTwice
     ∷ callUnbound
     ∷ waitersTwo
+    ∷ pastTwice
+    ∷ apartTwice
     ∷ []
 
 -- of each, the clauses hold as it says: all but one
 pub near-unsound : map (λ (x : Near). clauses (x .config) (x .state)) near ≡ map (λ (x : Near). allBut (x .fails)) near
-unfolding allOf allBelow anyBelow sumBelow firstBelow eachBelow shifted placeFilled filled isVoid isPayload isKind isGood sameValue runnableConfIn addRunnableConf variableConfIn addVariableConf areaConfIn addAreaConf requiredConfIn addRequiredConf providedConfIn addProvidedConf linkIn addLink operationConfIn addOperationConf timerConfIn addTimerConf dataEventIn addDataEvent returnEventIn addReturnEvent noConfig noRequests noRunnable noValues noElement noStack noSlot noRunnables runnableIn withRunnable noVariables variableIn withVariable noAreas areaIn withArea noElements elementIn withElement noOperations operationIn withOperation noTimers timerIn withTimer noSlots slotIn withSlot pushRequest firstRequest restRequests pushValue firstValue restValues pushArea topArea popArea startVariable startElement startRunnables startVariables startElements startOf maxOf countOf placesOf entryOf placed inRange namesThere isServer isQueued rises risesAt pairsWell entryFault isNoEntry placeSound kindSound configSound isNoClient clientFits requestsSound valuesSound runnableSound variableSound isStored elementSound isOutcome callingSound doneSound operationSound timerSound waitsWell lifeSound owedSound areaFits stackSound isNoSlot slotSound ofRunnable slotsOf countSound timesIn holders areaSound isClient queuedAs servedAs clientsAs numbered clientSound queuedSound servedSound calledSound waitsOn waitersOf waiterSound runnablesSound variablesSound elementsSound operationsSound timersSound slotsSound countsSound areasSound clientsSound waitersSound shaped soundOf configWith config caller nested one served life idle waiter first second slotsWith runnablesWith asked queueOne queueTwo operationsWith doneWith elementsWith state clauses near allBut unconfigured slotsMore serverPending twiceWithout otherServer variableUnused queueLong queueOk behindQueue countAbove numberTop errNumbered timerUnused waitsAsync waitsForeign owesFinished finishedPlain foreignArea emptyUsed emptyFailed noInstance heldFree heldTwice callAlone numberAbove clientTwice callUnbound waitersTwo
+unfolding allOf allBelow anyBelow sumBelow firstBelow eachBelow shifted placeFilled filled isVoid isPayload isKind isGood sameValue runnableConfIn addRunnableConf variableConfIn addVariableConf areaConfIn addAreaConf requiredConfIn addRequiredConf providedConfIn addProvidedConf linkIn addLink operationConfIn addOperationConf timerConfIn addTimerConf dataEventIn addDataEvent returnEventIn addReturnEvent noConfig noRequests noRunnable noValues noElement noStack noSlot noRunnables runnableIn withRunnable noVariables variableIn withVariable noAreas areaIn withArea noElements elementIn withElement noOperations operationIn withOperation noTimers timerIn withTimer noSlots slotIn withSlot pushRequest firstRequest restRequests pushValue firstValue restValues pushArea topArea popArea startVariable startElement startRunnables startVariables startElements startOf maxOf countOf placesOf entryOf placed inRange namesThere isServer isQueued rises risesAt pairsWell entryFault isNoEntry placeSound kindSound configSound isNoClient clientFits requestsSound valuesSound runnableSound variableSound isStored elementSound isOutcome callingSound doneSound operationSound timerSound waitsWell lifeSound owedSound areaFits stackSound isNoSlot slotSound ofRunnable slotsOf countSound timesIn holders areaSound isClient queuedAs servedAs clientsAs clientSound queuedSound servedSound calledSound waitsOn waitersOf waiterSound runnablesSound variablesSound elementsSound operationsSound timersSound slotsSound countsSound areasSound clientsSound waitersSound shaped soundOf configWith config caller nested one served life idle waiter first second slotsWith runnablesWith asked queueOne queueTwo operationsWith doneWith shutWith freeWith elementsWith state clauses near allBut unconfigured slotsMore serverPending twiceWithout otherServer variableUnused queueLong queueOk behindQueue countAbove errNumbered timerUnused waitsAsync waitsForeign owesFinished finishedPlain foreignArea emptyUsed emptyFailed noInstance heldFree heldTwice callAlone callAhead clientTwice pastTwice apartTwice callUnbound waitersTwo
 near-unsound = refl
 
 -- ---- near it, and sound
 
--- an operation is Done with ServerErr; an instance that waits has failed; a server's instance has failed and has its client; the call that an instance waits for has timed out; an instance waits where no call was ever made
+-- an operation is Done with ServerErr; an instance that waits has failed; a server's instance has failed and has its client; the call that an instance waits for has timed out; an instance waits where
+-- no call was ever made; a call is open with the number 65,535; beside the client of an open call waits one with a number above it; a client bears the number of its operation, which is Done
 pub soundToo : List State
 soundToo =
     withOperations state (doneWith serverErrV)
@@ -340,8 +353,11 @@ soundToo =
     ∷ withSlots state (slotsWith first (failing second) noSlot)
     ∷ withOperations state (withOperation (operationsWith 50 3 0) 0 (record { number = 5; calling = false; count = 0; done = timeoutV }))
     ∷ withOperations (withSlots (withRunnables state (runnablesWith 1 false noRequests 0)) (slotsWith first (served 1 3 (life false false) noStack) noSlot)) (withOperation (operationsWith 50 3 0) 0 noOperation)
+    ∷ withOperations (withRunnables state (runnablesWith 1 false (queueOne (asked 65535)) 0)) (operationsWith 50 65535 0)
+    ∷ withRunnables state (runnablesWith 1 false (queueTwo (asked 9) (asked 3)) 0)
+    ∷ withOperations state (shutWith 3)
     ∷ []
 
-pub near-sound : map (λ (x : State). soundOf config x) soundToo ≡ true ∷ true ∷ true ∷ true ∷ true ∷ []
-unfolding allOf allBelow anyBelow sumBelow firstBelow eachBelow shifted placeFilled filled isVoid isPayload isKind isGood sameValue runnableConfIn addRunnableConf variableConfIn addVariableConf areaConfIn addAreaConf requiredConfIn addRequiredConf providedConfIn addProvidedConf linkIn addLink operationConfIn addOperationConf timerConfIn addTimerConf dataEventIn addDataEvent returnEventIn addReturnEvent noConfig noRequests noRunnable noValues noElement noStack noSlot noRunnables runnableIn withRunnable noVariables variableIn withVariable noAreas areaIn withArea noElements elementIn withElement noOperations operationIn withOperation noTimers timerIn withTimer noSlots slotIn withSlot pushRequest firstRequest restRequests pushValue firstValue restValues pushArea topArea popArea startVariable startElement startRunnables startVariables startElements startOf maxOf countOf placesOf entryOf placed inRange namesThere isServer isQueued rises risesAt pairsWell entryFault isNoEntry placeSound kindSound configSound isNoClient clientFits requestsSound valuesSound runnableSound variableSound isStored elementSound isOutcome callingSound doneSound operationSound timerSound waitsWell lifeSound owedSound areaFits stackSound isNoSlot slotSound ofRunnable slotsOf countSound timesIn holders areaSound isClient queuedAs servedAs clientsAs numbered clientSound queuedSound servedSound calledSound waitsOn waitersOf waiterSound runnablesSound variablesSound elementsSound operationsSound timersSound slotsSound countsSound areasSound clientsSound waitersSound shaped soundOf configWith config caller nested one served life idle waiter first second slotsWith runnablesWith asked queueOne queueTwo operationsWith doneWith elementsWith state soundToo
+pub near-sound : map (λ (x : State). soundOf config x) soundToo ≡ true ∷ true ∷ true ∷ true ∷ true ∷ true ∷ true ∷ true ∷ []
+unfolding allOf allBelow anyBelow sumBelow firstBelow eachBelow shifted placeFilled filled isVoid isPayload isKind isGood sameValue runnableConfIn addRunnableConf variableConfIn addVariableConf areaConfIn addAreaConf requiredConfIn addRequiredConf providedConfIn addProvidedConf linkIn addLink operationConfIn addOperationConf timerConfIn addTimerConf dataEventIn addDataEvent returnEventIn addReturnEvent noConfig noRequests noRunnable noValues noElement noStack noSlot noRunnables runnableIn withRunnable noVariables variableIn withVariable noAreas areaIn withArea noElements elementIn withElement noOperations operationIn withOperation noTimers timerIn withTimer noSlots slotIn withSlot pushRequest firstRequest restRequests pushValue firstValue restValues pushArea topArea popArea startVariable startElement startRunnables startVariables startElements startOf maxOf countOf placesOf entryOf placed inRange namesThere isServer isQueued rises risesAt pairsWell entryFault isNoEntry placeSound kindSound configSound isNoClient clientFits requestsSound valuesSound runnableSound variableSound isStored elementSound isOutcome callingSound doneSound operationSound timerSound waitsWell lifeSound owedSound areaFits stackSound isNoSlot slotSound ofRunnable slotsOf countSound timesIn holders areaSound isClient queuedAs servedAs clientsAs clientSound queuedSound servedSound calledSound waitsOn waitersOf waiterSound runnablesSound variablesSound elementsSound operationsSound timersSound slotsSound countsSound areasSound clientsSound waitersSound shaped soundOf configWith config caller nested one served life idle waiter first second slotsWith runnablesWith asked queueOne queueTwo operationsWith doneWith shutWith freeWith elementsWith state soundToo
 near-sound = refl

@@ -22,7 +22,6 @@ pub(crate) fn put_rule(out: &mut [u8], at: usize, k: u8) -> usize {
         6 => put(out, at, b"the area is taken"),
         7 => put(out, at, b"not the area entered last"),
         8 => put(out, at, b"the server's queue is full"),
-        9 => put(out, at, b"no numbers left"),
         10 => put(out, at, b"the call is still open"),
         11 => put(out, at, b"it may not start yet"),
         12 => put(out, at, b"no free slot"),
@@ -32,6 +31,7 @@ pub(crate) fn put_rule(out: &mut [u8], at: usize, k: u8) -> usize {
         16 => put(out, at, b"a client too few or too many"),
         17 => put(out, at, b"a false answer"),
         18 => put(out, at, b"a damaged field"),
+        28 => put(out, at, b"its number is still in use"),
         _ => put(out, at, b"refused"),
     }
 }
@@ -234,7 +234,7 @@ fn put_still_held(out: &mut [u8], at: usize, names: &[u8], area: u8, s: Step) ->
     put(out, c, b": it has to exit what it entered before it ends.")
 }
 
-// 8 to 10: calls.
+// 8, 10, 28: calls.
 fn put_full(out: &mut [u8], at: usize, names: &[u8], r: u8, n: u8) -> usize {
     let a = put(out, at, b"the queue of the server, ");
     let b = put_part(out, a, names, 0x10, r);
@@ -243,13 +243,29 @@ fn put_full(out: &mut [u8], at: usize, names: &[u8], r: u8, n: u8) -> usize {
     put(out, d, b", and as many wait.")
 }
 
-fn put_numbers_used(out: &mut [u8], at: usize, names: &[u8], s: Step) -> usize {
-    let a = put_named(out, at, names, s);
+// What both cases of 28 begin with: the number of the call, which went round, is not free yet.
+fn put_borne(out: &mut [u8], at: usize, names: &[u8], s: Step) -> usize {
+    let a = put(out, at, b"the numbers of ");
+    let b = put_named(out, a, names, s);
     put(
         out,
-        a,
-        b" has had 65,535 calls, and has no number left for another.",
+        b,
+        b" have gone round, and the next one is still borne by an old call, ",
     )
+}
+
+fn put_still_served(out: &mut [u8], at: usize, names: &[u8], i: u8, s: Step) -> usize {
+    let a = put_borne(out, at, names, s);
+    let b = put(out, a, b"which ");
+    let c = put_slot(out, b, i);
+    put(out, c, b" serves: it has to hand back first.")
+}
+
+fn put_still_queued(out: &mut [u8], at: usize, names: &[u8], r: u8, s: Step) -> usize {
+    let a = put_borne(out, at, names, s);
+    let b = put(out, a, b"which waits in the queue of ");
+    let c = put_part(out, b, names, 0x10, r);
+    put(out, c, b": an instance has to take it and hand back first.")
 }
 
 fn put_call_open(out: &mut [u8], at: usize, names: &[u8], t: u32, s: Step) -> usize {
@@ -394,7 +410,8 @@ fn put_first(out: &mut [u8], at: usize, names: &[u8], s: Step, c: Cause) -> usiz
 pub(crate) fn put_cause(out: &mut [u8], at: usize, names: &[u8], s: Step, c: Cause) -> usize {
     match c {
         Cause::QueueFull(r, n) => put_full(out, at, names, r, n),
-        Cause::NumbersUsed => put_numbers_used(out, at, names, s),
+        Cause::StillServed(i) => put_still_served(out, at, names, i, s),
+        Cause::StillQueued(r) => put_still_queued(out, at, names, r, s),
         Cause::CallOpen(t) => put_call_open(out, at, names, t, s),
         Cause::InInterval(t) => put_interval(out, at, names, t, s),
         Cause::Runs(n) => put_runs(out, at, names, n, s),

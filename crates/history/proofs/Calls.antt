@@ -3,7 +3,7 @@
 -- A call that ends (`calls-close`) is the latest of its operation: it had no ending (`state`) and has one now, and no other operation's latest call is that one
 -- (`apart`). The new ending is the last on its operation (`last-same`) and none on any other (`last-other`).
 -- Assumes nothing.
-use Prim.Native.Nat.{ℕ, _+_, _≤_, _<_}
+use Prim.Native.Nat.{ℕ, _+_, _%_, _≤_, _<_}
 use mathlib.Core.Bool.{true, false}
 use mathlib.Core.List.{List, _∷_}
 use mathlib.Core.Option.{some}
@@ -16,10 +16,10 @@ use borrow.Author.Tests.{eq-eqb, ne-eqb}
 use Rattle.laws.specs.Choice.{bit}
 use Rattle.laws.proofs.Choosing.{clash, bit-most}
 use Rattle.types.specs.Types.{Operation, Operations}
-use Rattle.state.specs.Parts.{noOperation}
+use Rattle.state.specs.Parts.{lastNumber, noOperation}
 use Rattle.state.specs.Tables.{operationIn, withOperation}
 use Rattle.stays_sound.proofs.Clients.{calling-inside}
-use Rattle.history.specs.History.{How, Ending, endsOf, lastOn, given, delivered, endedCall}
+use Rattle.history.specs.History.{How, Ending, endsOf, endedOn, lastOn, given, delivered, endedCall}
 use Rattle.history.proofs.Beside.{set-each, set-both}
 use Rattle.history.proofs.Tied.{AllProper, Calls, Proper}
 
@@ -28,6 +28,10 @@ use Rattle.history.proofs.Tied.{AllProper, Calls, Proper}
 pub ends-more : (k : ℕ) (e : Ending) (es : List Ending) → endsOf k (e ∷ es) ≡ bit (eqb (e .call) k) + endsOf k es
 unfolding endsOf
 ends-more k e es = refl
+
+ended-more : (o : ℕ) (e : Ending) (es : List Ending) → endedOn o (e ∷ es) ≡ bit (eqb (e .on) o) + endedOn o es
+unfolding endedOn
+ended-more o e es = refl
 
 last-same : (o : ℕ) (e : Ending) (es : List Ending) → e .on ≡ o → lastOn o (e ∷ es) ≡ some e
 unfolding lastOn
@@ -57,14 +61,17 @@ operation-both P os ks o x k b c p h = set-both P (os .at) ks o x noOperation k 
 -- ---- the open call of o ends
 
 module _ (os : Operations) (latest : List ℕ) (es : List Ending) (p o a : ℕ) (w : How) (x : Operation) where
-  pub calls-close : Calls os latest es p → operationIn os o .calling ≡ true → Proper (getD latest o 0) w → x .calling ≡ false → x .done ≡ given w
+  pub calls-close : Calls os latest es p → operationIn os o .calling ≡ true → Proper (getD latest o 0) w → x .number ≡ (operationIn os o .number + 1) % (lastNumber + 1) → x .calling ≡ false → x .done ≡ given w
       → Calls (withOperation os o x) latest (record { on = o; call = getD latest o 0; at = a; how = w } ∷ es) (p + 1)
-  calls-close h e pr c g = record {
+  calls-close h e pr m c g = record {
     size = h .size;
     state = operation-each (λ j y. 0 < getD latest j 0 → endsOf (getD latest j 0) (new ∷ es) + bit (y .calling) ≡ 1) os o x inside
         (λ q. omega (arith, ends-more (getD latest o 0) new es, ap bit (eq-eqb (getD latest o 0) (getD latest o 0) refl), none-yet, ap bit c))
         (λ j n q. omega (arith, ends-more (getD latest j 0) new es, ap bit (ne-eqb (getD latest o 0) (getD latest j 0) (λ z. n (sym (h .apart o j begun z)))), h .state j q));
     begun = operation-each (λ j y. y .calling ≡ true → 0 < getD latest j 0) os o x inside (λ q. begun) (λ j n q. h .begun j q);
+    number = operation-each (λ j y. y .number ≡ endedOn j (new ∷ es) % (lastNumber + 1)) os o x inside
+        (omega (arith, m, h .number o, ended-more o new es, ap bit (eq-eqb o o refl)))
+        (λ j n. omega (arith, h .number j, ended-more j new es, ap bit (ne-eqb o j (λ z. n (sym z)))));
     past = λ j. omega (arith, h .past j);
     future = λ k q. omega (arith, ends-more k new es, ap bit (ne-eqb (getD latest o 0) k (λ z. omega (arith, h .past o, z))), h .future k (omega arith));
     apart = h .apart;
@@ -97,13 +104,14 @@ module _ (os : Operations) (latest : List ℕ) (es : List Ending) (p o a : ℕ) 
 -- ---- a call of o starts
 
 module _ (os : Operations) (latest : List ℕ) (es : List Ending) (p o : ℕ) (x : Operation) where
-  pub calls-start : Calls os latest es p → o < length (os .at) → o < 8 → x .calling ≡ true → Calls (withOperation os o x) (set latest o (p + 1)) es (p + 1)
-  calls-start h b b8 c = record {
+  pub calls-start : Calls os latest es p → o < length (os .at) → o < 8 → x .number ≡ operationIn os o .number → x .calling ≡ true → Calls (withOperation os o x) (set latest o (p + 1)) es (p + 1)
+  calls-start h b b8 m c = record {
     size = length-set latest o (p + 1) ∙ h .size;
     state = operation-both (λ j y k. 0 < k → endsOf k es + bit (y .calling) ≡ 1) os latest o x (p + 1) b inside
         (λ q. omega (arith, h .future (p + 1) (omega arith), ap bit c))
         (λ j n q. h .state j q);
     begun = operation-both (λ j y k. y .calling ≡ true → 0 < k) os latest o x (p + 1) b inside (λ q. omega arith) (λ j n q. h .begun j q);
+    number = operation-each (λ j y. y .number ≡ endedOn j es % (lastNumber + 1)) os o x b (m ∙ h .number o) (λ j n. h .number j);
     past = set-each (λ j k. k ≤ p + 1) latest o (p + 1) 0 inside (omega arith) (λ j n. omega (arith, h .past j));
     future = λ k q. h .future k (omega arith);
     apart = set-each (λ j k. (i : ℕ) → 0 < k → k ≡ getD (set latest o (p + 1)) i 0 → j ≡ i) latest o (p + 1) 0 inside

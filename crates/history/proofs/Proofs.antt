@@ -30,7 +30,7 @@ use Rattle.stays_sound.proofs.Clients.{requests-told}
 use Rattle.stays_sound.proofs.Ways.{Way}
 use Rattle.stays_sound.proofs.Accepted.{way, enter-told, exit-told, collect-told, result-told, answer-told, end-told, spawn-told, timeout-told, tick-told}
 use Rattle.history.specs.History.{noRequest, History, historyOf, takenBy, latestOn, endsOf, lastOn, isUnended, livesIn, boundIn, awaitsIn, holderOf, allQueued, allSpawns}
-use Rattle.history.specs.Promises.{Run, OfRuns, OfSteps, StaysSound, HeldBy, AreasHeld, EntersFree, ExitsHeld, EndsEmpty, SpawnsEmpty, ActsAlive, HolderStays, FailedStops, BackIsLast, EndsPaid, FailedGoesOn, RequestsFit, ValuesFit, CallsOneByOne, WaiterWaits, BackIsAnswered, EndsOnce, EndsProperly, TimeoutAtZero, TimeoutInTime, BackInTime, OpenInTime, TicksInTime, TimersInTime, ResultIsDelivered, ResultIsOwn, DoneIsDelivered, NumberIsFinal, DoneIsFinal, FailureIsFinal, DoneIsFailure, UsedIsLived, FailedFollowed, FinishedFollowed, WaitingFollowed, BoundFollowed, OpenIsUnended, UnendedIsLatest, LatestStarted, CountIsRest, QueuesFollowed, ServedFollowed, FirstInFirstOut, SpawnTakesNext}
+use Rattle.history.specs.Promises.{Run, OfRuns, OfSteps, StaysSound, HeldBy, AreasHeld, EntersFree, ExitsHeld, EndsEmpty, SpawnsEmpty, ActsAlive, HolderStays, FailedStops, BackIsLast, EndsPaid, FailedGoesOn, RequestsFit, ValuesFit, CallsOneByOne, WaiterWaits, BackIsAnswered, EndsOnce, EndsProperly, TimeoutAtZero, TimeoutInTime, BackInTime, OpenInTime, TicksInTime, TimersInTime, ResultIsDelivered, ResultIsOwn, DoneIsDelivered, NumberIsFinal, DoneIsFinal, FailureIsFinal, DoneIsFailure, UsedIsLived, FailedFollowed, FinishedFollowed, NumberGoesRound, WaitingFollowed, BoundFollowed, OpenIsUnended, UnendedIsLatest, LatestStarted, CountIsRest, QueuesFollowed, ServedFollowed, FirstInFirstOut, SpawnTakesNext}
 use Rattle.history.proofs.Runs.{Halves, halves, first, history-one}
 use Rattle.history.proofs.Deeds.{due-server}
 use Rattle.history.proofs.Ended.{ended-at, answer-latest}
@@ -289,6 +289,9 @@ pub bound-followed : OfRuns BoundFollowed
 bound-followed cfg rs st c e o b =
     let k = bounds-at cfg rs st e .bound o in
     (k, λ f u. sym k ∙ lt-ltb 0 (waitersOf (st .slots) o) (sound-at cfg rs st c e .waiters .bound o b (open-unended st (historyOf cfg rs) o (tied-at cfg rs st e) ∙ u) f))
+
+pub number-goes-round : OfRuns NumberGoesRound
+number-goes-round cfg rs st c e o b = tied-at cfg rs st e .calls .number o
 
 pub open-is-unended : OfRuns OpenIsUnended
 open-is-unended cfg rs st c e o b = open-unended st (historyOf cfg rs) o (tied-at cfg rs st e)

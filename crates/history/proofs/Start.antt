@@ -1,6 +1,6 @@
 -- The start state is tied to the history before any step: no request waits (`no-requests`), no slot serves or has failed and no operation is Calling.
 -- Assumes nothing.
-use Prim.Native.Nat.{ℕ, _+_, _≤_, _<_}
+use Prim.Native.Nat.{ℕ, _+_, _%_, _≤_, _<_}
 use mathlib.Core.Bool.{Bool, true, false}
 use mathlib.Core.List.{[]}
 use mathlib.Core.Path.{_≡_, refl, sym, _∙_}
@@ -12,10 +12,10 @@ use Rattle.laws.proofs.Places.{each-has}
 use Rattle.values.specs.Values.{voidV}
 use Rattle.types.specs.Types.{Config, Runnable}
 use Rattle.config.specs.Tables.{runnableConfIn}
-use Rattle.state.specs.Parts.{noClient, noRequests, noRunnable, noOperation, noSlot}
+use Rattle.state.specs.Parts.{lastNumber, noClient, noRequests, noRunnable, noOperation, noSlot}
 use Rattle.state.specs.Tables.{noRunnables, noOperations, noSlots, runnableIn, operationIn, slotIn}
 use Rattle.state.specs.Start.{startRunnable, startRunnables, startOf}
-use Rattle.history.specs.History.{noRequest, nothing, endsOf, lastOn}
+use Rattle.history.specs.History.{noRequest, nothing, endsOf, endedOn, lastOn}
 use Rattle.history.proofs.Beside.{all-alike, Beside, beside-none}
 use Rattle.history.proofs.Tied.{Tag, AllProper, Calls, Tied}
 
@@ -34,11 +34,12 @@ unfolding slotIn noSlots noSlot
 none-failed k = all-alike (λ y. y .life .failed ≡ false) 32 noSlot k refl
 
 calls-start : Calls noOperations (nothing .latest) (nothing .endings) (nothing .place)
-unfolding noOperations operationIn nothing endsOf lastOn AllProper
+unfolding noOperations operationIn nothing endsOf endedOn lastOn AllProper
 calls-start = record {
   size = refl;
   state = λ o. all-alike (λ k. 0 < k → 0 + bit (getD (replicate 8 noOperation) o noOperation .calling) ≡ 1) 8 0 o (λ q. absurd (omega arith));
   begun = λ o. all-alike (λ y. y .calling ≡ true → 0 < getD (replicate 8 0) o 0) 8 noOperation o (λ e. absurd (clash false e refl));
+  number = λ o. all-alike (λ y. y .number ≡ 0 % (lastNumber + 1)) 8 noOperation o refl;
   past = λ o. all-alike (λ k. k ≤ 0) 8 0 o (omega arith);
   future = λ k q. refl;
   apart = λ o p. all-alike (λ k. 0 < k → k ≡ getD (replicate 8 0) p 0 → o ≡ p) 8 0 o (λ q. absurd (omega arith));

@@ -1,6 +1,6 @@
 -- What each kind of change does to the clients and the requests beside them.
--- A call that ends asks nothing more of its operation's tags, and the client under its number is that of the call that ended (`tag-close`). A call that starts is of an operation that is not Calling, so no client bears its
--- number yet (`shut-number`, from a sound state) and every other tag stands (`tag-open`); the new client is tagged with the new call (`tag-new`), and both
+-- A call that ends asks nothing more of its operation's tags, and the client under its number is that of the call that ended (`tag-close`). A call starts only under a number that no
+-- client bears (28), so nobody else is taken for its client and every other tag stands (`tag-open`); the new client is tagged with the new call (`tag-new`), and both
 -- join the end of their queues (`queues-push`). A spawn takes the oldest of both (`oldest-tag`, `queues-pop`) and puts them side by side on its slot
 -- (`served-put`); a slot that owes nothing asks nothing (`served-idle`). A slot whose instance has failed, or a new one that has not, is followed so (`failed-put`).
 -- Assumes nothing.
@@ -9,19 +9,18 @@ use mathlib.Core.Bool.{Bool, true, false}
 use mathlib.Core.List.{List, [], _∷_, _++_}
 use mathlib.Core.Path.{_≡_, refl, sym, _∙_, ap}
 use native.Mathlib.Omega.{arith}
-use lib.Dec.{ltb}
 use lib.ListN.{length, getD, set, drop, length-set}
 use lib.Seq.{getD-set-same}
-use borrow.Author.Tests.{ltb-true, eq-eqb}
-use Rattle.laws.specs.Choice.{either, bit}
+use borrow.Author.Tests.{eq-eqb}
+use Rattle.laws.specs.Choice.{bit}
 use Rattle.laws.proofs.Choosing.{clash}
 use Rattle.laws.proofs.Places.{inside-of}
 use Rattle.types.specs.Types.{Client, Operation, Operations, Runnable, Runnables, Slot, Slots}
 use Rattle.state.specs.Parts.{noClient, noRequests, noRunnable, noSlot}
 use Rattle.state.specs.Queues.{upOne, pushRequest, firstRequest, restRequests}
 use Rattle.state.specs.Tables.{runnableIn, operationIn, slotIn, withRunnable, withOperation, withSlot}
-use Rattle.rules.specs.Sound.{numbered}
-use Rattle.stays_sound.specs.Facts.{Clients}
+use Rattle.rules.specs.Sound.{clientsAs}
+use Rattle.stays_sound.proofs.Told.{queued-counts, served-counts, unborne}
 use Rattle.history.specs.History.{Request, noRequest, Ending, endsOf}
 use Rattle.history.proofs.Beside.{set-each, set-both, Beside, beside-push, beside-pop}
 use Rattle.history.proofs.Tied.{Tag, Queues, Served, Failed, queues-map, served-map}
@@ -92,27 +91,18 @@ module _ (os : Operations) (latest : List ℕ) (es : List Ending) (o : ℕ) (x :
   pub served-close : (ss : Slots) (ts : List Request) → Served os latest es ss ts → Served (withOperation os o x) latest (w ∷ es) ss ts
   served-close ss ts = served-map os (withOperation os o x) latest latest es (w ∷ es) ss ts (λ k q z t. tag-close os latest es o x w _ q b e l t)
 
--- a client's number is not that of an operation that is not Calling
-shut-number : (os : Operations) (c : Client) (o : ℕ) → numbered os c ≡ true → operationIn os o .calling ≡ false → c .operation ≡ o → c .number ≡ operationIn os o .number → ⊥
-unfolding numbered
-shut-number os c o h e p m = go (ltb (c .number) (operationIn os o .number)) refl (rw (p, e) at h)
-  where
-    go : (b : Bool) → ltb (c .number) (operationIn os o .number) ≡ b → either (ltb (c .number) (operationIn os o .number)) false ≡ true → ⊥
-    go true z y = omega (arith, ltb-true (c .number) (operationIn os o .number) z, m)
-    go false z y = clash false (rw z at y) refl
-
 module _ (os : Operations) (rs : Runnables) (ss : Slots) (latest : List ℕ) (es : List Ending) (o p : ℕ) (x : Operation)
-    (g : Clients os rs ss) (b : o < length (os .at)) (d : o < length latest) (e : operationIn os o .calling ≡ false) (n : x .number ≡ operationIn os o .number)
+    (g : clientsAs rs ss o (operationIn os o .number) ≡ 0) (b : o < length (os .at)) (d : o < length latest) (e : operationIn os o .calling ≡ false) (n : x .number ≡ operationIn os o .number)
   where
     pub queues-open : (ws : List (List Request)) → length (rs .at) ≡ 16 → Queues os latest es rs ws → Queues (withOperation os o x) (set latest o p) es rs ws
     queues-open ws l =
         queues-map os (withOperation os o x) latest (set latest o p) es es rs ws
-        (λ r j q c t. tag-open os latest es o p x _ q b d e (λ y m. shut-number os _ o (g .queued r (omega (arith, l, queued-inside rs r j c)) j c) e y (m ∙ n)) t)
+        (λ r j q c t. tag-open os latest es o p x _ q b d e (λ y m. unborne rs ss o (operationIn os o .number) (getD (runnableIn rs r .requests .at) j noClient) g (queued-counts rs ss r j (omega (arith, l, queued-inside rs r j c)) c) y (m ∙ n)) t)
 
     pub served-open : (ts : List Request) → length (ss .at) ≡ 32 → Served os latest es ss ts → Served (withOperation os o x) (set latest o p) es ss ts
     served-open ts l =
         served-map os (withOperation os o x) latest (set latest o p) es es ss ts
-        (λ k q z t. tag-open os latest es o p x _ q b d e (λ y m. shut-number os _ o (g .served k (omega (arith, l, serving-inside ss k z)) z) e y (m ∙ n)) t)
+        (λ k q z t. tag-open os latest es o p x _ q b d e (λ y m. unborne rs ss o (operationIn os o .number) (slotIn ss k .owed .client) g (served-counts rs ss k (omega (arith, l, serving-inside ss k z)) z) y (m ∙ n)) t)
 
 -- ---- a queue grows at its end, and is taken at its front
 

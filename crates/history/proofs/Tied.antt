@@ -5,7 +5,7 @@
 -- The tie reads of an operation its number, whether it is Calling and what it holds, of a runnable its requests, of a slot what it owes and whether it has failed. States that agree
 -- in those (`Alike`) are tied to the same history, one step later (`tied-alike`). `Alike` also says how much time lies between the two, and that the same slots are in use.
 -- Assumes nothing.
-use Prim.Native.Nat.{ℕ, _+_, _≤_, _<_}
+use Prim.Native.Nat.{ℕ, _+_, _%_, _≤_, _<_}
 use mathlib.Core.Bool.{Bool, true, false}
 use mathlib.Core.List.{List, [], _∷_}
 use mathlib.Core.Path.{_≡_, _∙_}
@@ -14,9 +14,9 @@ use lib.ListN.{length, getD}
 use Rattle.laws.specs.Choice.{bit}
 use Rattle.values.specs.Values.{isPayload}
 use Rattle.types.specs.Types.{Client, Operations, Runnables, Slots, State}
-use Rattle.state.specs.Parts.{noClient}
+use Rattle.state.specs.Parts.{lastNumber, noClient}
 use Rattle.state.specs.Tables.{runnableIn, operationIn, slotIn}
-use Rattle.history.specs.History.{Request, noRequest, How, byTimeout, byInstance, byFailure, Ending, History, passed, endsOf, lastOn, delivered, endedCall}
+use Rattle.history.specs.History.{Request, noRequest, How, byTimeout, byInstance, byFailure, Ending, History, passed, endsOf, endedOn, lastOn, delivered, endedCall}
 use Rattle.history.proofs.Beside.{Beside, beside-map}
 
 -- ---- what ended a call
@@ -54,6 +54,8 @@ pub record Calls (os : Operations) (latest : List ℕ) (endings : List Ending) (
   -- an operation is Calling exactly while its latest call has not ended
   pub state : (o : ℕ) → 0 < getD latest o 0 → endsOf (getD latest o 0) endings + bit (operationIn os o .calling) ≡ 1
   pub begun : (o : ℕ) → operationIn os o .calling ≡ true → 0 < getD latest o 0
+  -- its number says how many of its calls ended, and goes round
+  pub number : (o : ℕ) → operationIn os o .number ≡ endedOn o endings % (lastNumber + 1)
   -- calls are of the past, each of one operation
   pub past : (o : ℕ) → getD latest o 0 ≤ place
   pub future : (k : ℕ) → place < k → endsOf k endings ≡ 0
@@ -98,6 +100,7 @@ calls-alike os os′ latest es p a h = record {
   size = h .size;
   state = λ o. rw (a .calling o) (h .state o);
   begun = λ o. rw (a .calling o) (h .begun o);
+  number = λ o. a .number o ∙ h .number o;
   past = λ o. omega (arith, h .past o);
   future = λ k q. h .future k (omega arith);
   apart = h .apart;

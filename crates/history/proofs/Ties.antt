@@ -38,12 +38,12 @@ unfolding called
 tied-call cfg st h i o v s z t = record {
   queues =
       queues-push os′ latest′ (h .endings) (st .runnables) (h .queued) r y
-      (queues-open (st .operations) (st .runnables) (st .slots) (h .latest) (h .endings) o (h .place + 1) x (s .clients) within inside (z .shut) refl (h .queued) (runnables-length cfg st s) (t .queues))
+      (queues-open (st .operations) (st .runnables) (st .slots) (h .latest) (h .endings) o (h .place + 1) x (z .fresh) within inside (z .shut) refl (h .queued) (runnables-length cfg st s) (t .queues))
       (omega (arith, runnables-length cfg st s, there)) there c q room (requests-told cfg st r s there .1) refl (tag-new (st .operations) (h .latest) (h .endings) o (h .place + 1) x c q within inside refl refl refl refl refl refl);
   served =
       served-alike os′ latest′ (h .endings) (st .slots) _ (h .taken) (slot-kept (λ w. w .owed) (st .slots) i _ (caller-kept (λ w. w .owed) (λ w n. refl) cfg o (slotIn (st .slots) i)))
-      (served-open (st .operations) (st .runnables) (st .slots) (h .latest) (h .endings) o (h .place + 1) x (s .clients) within inside (z .shut) refl (h .taken) (slots-length cfg st s) (t .served));
-  calls = calls-start (st .operations) (h .latest) (h .endings) (h .place) o x (t .calls) within (omega (arith, operations-most cfg (s .config), z .inside)) refl;
+      (served-open (st .operations) (st .runnables) (st .slots) (h .latest) (h .endings) o (h .place + 1) x (z .fresh) within inside (z .shut) refl (h .taken) (slots-length cfg st s) (t .served));
+  calls = calls-start (st .operations) (h .latest) (h .endings) (h .place) o x (t .calls) within (omega (arith, operations-most cfg (s .config), z .inside)) refl refl;
   failed = failed-alike (st .slots) _ (h .failed) (slot-kept (λ w. w .life .failed) (st .slots) i _ (caller-kept (λ w. w .life .failed) (λ w n. refl) cfg o (slotIn (st .slots) i))) (t .failed);
 }
   where
@@ -90,7 +90,7 @@ tied-closed cfg st h o w v e p g t = record {
       queues-alike _ (h .latest) _ (st .runnables) _ (h .queued) (returned-kept (λ y. y .requests) (λ y. refl) cfg o (st .runnables))
       (queues-close (st .operations) (h .latest) (h .endings) o x _ (calling-inside (st .operations) o e) refl refl (st .runnables) (h .queued) (t .queues));
   served = served-close (st .operations) (h .latest) (h .endings) o x _ (calling-inside (st .operations) o e) refl refl (st .slots) (h .taken) (t .served);
-  calls = calls-close (st .operations) (h .latest) (h .endings) (h .place) o _ w x (t .calls) e p refl (sym g);
+  calls = calls-close (st .operations) (h .latest) (h .endings) (h .place) o _ w x (t .calls) e p refl refl (sym g);
   failed = t .failed;
 }
   where

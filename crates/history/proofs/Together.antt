@@ -6,7 +6,7 @@ use Rattle.types.specs.Types.{Step}
 use Rattle.state.specs.Start.{startOf}
 use Rattle.history.specs.Promises.{Run, OfRuns, OfSteps, Followed, AtMoment, AtStep, Demand3}
 use Rattle.history.proofs.Runs.{halves}
-use Rattle.history.proofs.Proofs.{stays-sound, areas-held, enters-free, exits-held, ends-empty, spawns-empty, acts-alive, holder-stays, failed-stops, back-is-last, ends-paid, failed-goes-on, requests-fit, values-fit, calls-one-by-one, waiter-waits, back-is-answered, ends-once, ends-properly, timeout-at-zero, timeout-in-time, back-in-time, open-in-time, ticks-in-time, timers-in-time, result-is-delivered, result-is-own, done-is-delivered, number-is-final, done-is-final, failure-is-final, done-is-failure, used-is-lived, failed-followed, finished-followed, waiting-followed, bound-followed, open-is-unended, unended-is-latest, latest-started, count-is-rest, queues-followed, served-followed, first-in-first-out, spawn-takes-next}
+use Rattle.history.proofs.Proofs.{stays-sound, areas-held, enters-free, exits-held, ends-empty, spawns-empty, acts-alive, holder-stays, failed-stops, back-is-last, ends-paid, failed-goes-on, requests-fit, values-fit, calls-one-by-one, waiter-waits, back-is-answered, ends-once, ends-properly, timeout-at-zero, timeout-in-time, back-in-time, open-in-time, ticks-in-time, timers-in-time, result-is-delivered, result-is-own, done-is-delivered, number-is-final, done-is-final, failure-is-final, done-is-failure, used-is-lived, failed-followed, finished-followed, number-goes-round, waiting-followed, bound-followed, open-is-unended, unended-is-latest, latest-started, count-is-rest, queues-followed, served-followed, first-in-first-out, spawn-takes-next}
 
 followed : OfRuns Followed
 followed cfg rs st c e = record {
@@ -15,6 +15,7 @@ followed cfg rs st c e = record {
   finished = finished-followed cfg rs st c e;
   waiting = waiting-followed cfg rs st c e;
   bound = bound-followed cfg rs st c e;
+  number = number-goes-round cfg rs st c e;
   unended = open-is-unended cfg rs st c e;
   newest = unended-is-latest cfg rs st c e;
   latest = latest-started cfg rs st c e;

@@ -153,6 +153,11 @@ unfoldable pub endsOf : ℕ → List Ending → ℕ
 endsOf k [] = 0
 endsOf k (e ∷ es) = bit (eqb (e .call) k) + endsOf k es
 
+-- how many calls of o ended (W-206)
+unfoldable pub endedOn : ℕ → List Ending → ℕ
+endedOn o [] = 0
+endedOn o (e ∷ es) = bit (eqb (e .on) o) + endedOn o es
+
 -- the last ending on o ("How tight the contracts are", demand 3)
 unfoldable pub lastOn : ℕ → List Ending → Option Ending
 lastOn o [] = none

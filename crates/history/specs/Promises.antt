@@ -2,7 +2,7 @@
 -- (`OfSteps`); and at the end all of them in one record (`Demand3`). They are proved in proofs/, by citing; nothing else stands here.
 -- `Run cfg rs st` says that every step of rs, in turn from the start state, is accepted with the answer it claims, and that st is the state reached.
 -- Assumes nothing.
-use Prim.Native.Nat.{ℕ, _+_, _≤_, _<_}
+use Prim.Native.Nat.{ℕ, _+_, _%_, _≤_, _<_}
 use mathlib.Core.Bool.{true, false}
 use mathlib.Core.List.{List, [], _∷_, _++_, List·Memᴰ}
 use mathlib.Core.Option.{Option, none, some}
@@ -15,14 +15,14 @@ use Rattle.types.specs.Types.{Value, Step, Answer, Config, Client, State}
 use Rattle.values.specs.Values.{voidV, numberV, okV, limitV, noDataV, serverErrV, answerRefusal, answerValue}
 use Rattle.config.specs.Tables.{maxRunnableConfs, maxAreaConfs, maxRequiredConfs, maxOperationConfs, runnableConfIn, requiredConfIn, operationConfIn, timerConfIn}
 use Rattle.entries.specs.Faults.{configSound}
-use Rattle.state.specs.Parts.{noClient}
+use Rattle.state.specs.Parts.{lastNumber, noClient}
 use Rattle.state.specs.Queues.{topArea}
 use Rattle.state.specs.Tables.{maxSlots, runnableIn, areaIn, elementIn, operationIn, slotIn}
 use Rattle.state.specs.Start.{startOf}
 use Rattle.rules.specs.Rows.{aSlot, rowOf}
 use Rattle.rules.specs.Sound.{timesIn, isBound, soundOf}
 use Rattle.effects.specs.Step.{possibleOf, stepOf}
-use Rattle.history.specs.History.{Request, noRequest, byInstance, byFailure, Ending, historyOf, queuedAt, takenBy, failedBy, latestOn, endsOf, lastOn, isUnended, given, delivered, endedCall, Started, EndedBy, timeSince, lastTick, InTime, livesIn, backIn, boundIn, awaitsIn, holderOf, allQueued, allSpawns}
+use Rattle.history.specs.History.{Request, noRequest, byInstance, byFailure, Ending, historyOf, queuedAt, takenBy, failedBy, latestOn, endsOf, endedOn, lastOn, isUnended, given, delivered, endedCall, Started, EndedBy, timeSince, lastTick, InTime, livesIn, backIn, boundIn, awaitsIn, holderOf, allQueued, allSpawns}
 
 -- an answer says that the step was taken, with this value: by the number and the value that stand for it; no refusal has the number 0 (`never-zero` in crate stays_sound) ("Numbers of refusal")
 abbrev pub Answers : Answer → Value → Type 0
@@ -267,6 +267,10 @@ BoundFollowed cfg rs st =
     → (isBound (st .slots) o ≡ boundIn cfg o rs)
     × (operationConfIn (cfg .operations) o .asynchronous ≡ false → isUnended (historyOf cfg rs) o ≡ true → boundIn cfg o rs ≡ true)
 
+-- the number of an operation says how many calls ended there, and goes round behind 65,535, however many they are (W-206)
+abbrev pub NumberGoesRound : Config → List Step → State → Type 0
+NumberGoesRound cfg rs st = (o : ℕ) → o < maxOperationConfs → operationIn (st .operations) o .number ≡ endedOn o (historyOf cfg rs .endings) % (lastNumber + 1)
+
 -- an operation is open exactly if its latest call has no ending yet ("How tight the contracts are", demand 3)
 abbrev pub OpenIsUnended : Config → List Step → State → Type 0
 OpenIsUnended cfg rs st = (o : ℕ) → o < maxOperationConfs → operationIn (st .operations) o .calling ≡ isUnended (historyOf cfg rs) o
@@ -321,6 +325,7 @@ pub record Followed (cfg : Config) (rs : List Step) (st : State) : Type 0 where
   pub finished : FinishedFollowed cfg rs st
   pub waiting : WaitingFollowed cfg rs st
   pub bound : BoundFollowed cfg rs st
+  pub number : NumberGoesRound cfg rs st
   pub unended : OpenIsUnended cfg rs st
   pub newest : UnendedIsLatest cfg rs st
   pub latest : LatestStarted cfg rs st

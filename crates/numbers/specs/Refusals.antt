@@ -1,4 +1,4 @@
--- Numbers of refusal, by name ("Numbers of refusal"; document 02 for 31). The names say what is wrong; the rules say exactly when.
+-- Numbers of refusal, by name ("Numbers of refusal"; document 02 for 28 and 31). The names say what is wrong; the rules say exactly when. 9 has no name: W-206 has retired it.
 -- Assumes nothing.
 use Prim.Native.Nat.{ℕ}
 
@@ -33,10 +33,6 @@ notOnTop = 7
 -- call: the request queue is full ("Numbers of refusal", 8)
 abbrev pub queueFull : ℕ
 queueFull = 8
-
--- call: the operation's number is the last one ("Numbers of refusal", 9)
-abbrev pub numbersSpent : ℕ
-numbersSpent = 9
 
 -- a synchronous result: the call is still open ("Numbers of refusal", 10)
 abbrev pub stillOpen : ℕ
@@ -101,6 +97,10 @@ badPair = 26
 -- the lent buffer is shorter than the text ("Numbers of refusal", 27)
 abbrev pub noRoom : ℕ
 noRoom = 27
+
+-- call: a client of the operation still bears its number (W-206)
+abbrev pub numberBorne : ℕ
+numberBorne = 28
 
 -- no lost steps fill the gap (W-209)
 abbrev pub noFill : ℕ

@@ -18,8 +18,6 @@ pub const NOT_ON_TOP: u8 = 7;
 
 pub const QUEUE_FULL: u8 = 8;
 
-pub const NUMBERS_SPENT: u8 = 9;
-
 pub const STILL_OPEN: u8 = 10;
 
 pub const NOT_DUE: u8 = 11;
@@ -37,6 +35,9 @@ pub const WRONG_CLIENT: u8 = 16;
 pub const OTHER_ANSWER: u8 = 17;
 
 pub const BAD_FIELD: u8 = 18;
+
+// In the place of 9, which has been retired.
+pub const NUMBER_BORNE: u8 = 28;
 
 // Refusals in reading and writing files, and in mending.
 pub const BAD_FRAME: u8 = 21;

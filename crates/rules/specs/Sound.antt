@@ -1,7 +1,7 @@
 -- When a state is sound, as a test that computes ("A sound state"). Each clause is named, and goes over the tables that it reads; what is said of all stored values, or of all parts named, stands in the clauses of the tables that hold them.
 -- A state that code holds has tables of the right lengths; as a definition ranges over any lists, the lengths are tested too.
 -- Assumes nothing.
-use Prim.Native.Nat.{ℕ, _+_, _-_}
+use Prim.Native.Nat.{ℕ, _+_}
 use mathlib.Core.Bool.{Bool, not}
 use mathlib.Core.List.{List, [], _∷_}
 use lib.Dec.{ltb, leb, eqb}
@@ -74,13 +74,12 @@ elementSound cfg q x =
 unfoldable pub isOutcome : Value → Bool
 isOutcome v = either (isPayload v) (both (either (eqb (v .kind) (timeoutV .kind)) (eqb (v .kind) (serverErrV .kind))) (eqb (v .number) 0))
 
--- a Calling operation is there, its count is at most the timeout, its number at most 65,534, and it holds no value ("A sound state", Calling)
+-- a Calling operation is there, its count is at most the timeout, and it holds no value ("A sound state", Calling; W-206)
 unfoldable pub callingSound : Config → ℕ → Operation → Bool
 callingSound cfg o x =
     allOf
     (ltb o (cfg .operations .n)
     ∷ leb (x .count) (operationConfIn (cfg .operations) o .timeout)
-    ∷ leb (x .number) (lastNumber - 1)
     ∷ isVoid (x .done)
     ∷ [])
 
@@ -203,24 +202,18 @@ clientsAs rs ss o m =
     sumBelow (λ (r : ℕ). queuedAs o m (runnableIn rs r .requests)) maxRunnableConfs
     + sumBelow (λ (k : ℕ). servedAs o m (slotIn ss k .owed)) maxSlots
 
--- a client's number lies under that of its operation, or is the same during a call ("A sound state", clients)
-unfoldable pub numbered : Operations → Client → Bool
-numbered os c =
-    either (ltb (c .number) (operationIn os (c .operation) .number))
-    (both (operationIn os (c .operation) .calling) (eqb (c .number) (operationIn os (c .operation) .number)))
-
--- a client has such a number, and shares operation and number with no other ("A sound state", clients)
-unfoldable pub clientSound : Operations → Runnables → Slots → Client → Bool
-clientSound os rs ss c = both (numbered os c) (eqb (clientsAs rs ss (c .operation) (c .number)) 1)
+-- a client shares operation and number with no other, whatever its number is ("A sound state", clients; W-206)
+unfoldable pub clientSound : Runnables → Slots → Client → Bool
+clientSound rs ss c = eqb (clientsAs rs ss (c .operation) (c .number)) 1
 
 -- every queued client of the runnable r is sound ("A sound state", clients)
-unfoldable pub queuedSound : Operations → Runnables → Slots → ℕ → Bool
-queuedSound os rs ss r =
-    allBelow (λ (j : ℕ). clientSound os rs ss (getD (runnableIn rs r .requests .at) j noClient)) (runnableIn rs r .requests .queued)
+unfoldable pub queuedSound : Runnables → Slots → ℕ → Bool
+queuedSound rs ss r =
+    allBelow (λ (j : ℕ). clientSound rs ss (getD (runnableIn rs r .requests .at) j noClient)) (runnableIn rs r .requests .queued)
 
 -- the client on the instance k, if it has one, is sound ("A sound state", clients)
-unfoldable pub servedSound : Operations → Runnables → Slots → ℕ → Bool
-servedSound os rs ss k = either (not (slotIn ss k .owed .serving)) (clientSound os rs ss (slotIn ss k .owed .client))
+unfoldable pub servedSound : Runnables → Slots → ℕ → Bool
+servedSound rs ss k = either (not (slotIn ss k .owed .serving)) (clientSound rs ss (slotIn ss k .owed .client))
 
 -- while an operation is Calling there is one client under its number, neither more nor fewer ("A sound state", Calling)
 unfoldable pub calledSound : Operations → Runnables → Slots → ℕ → Bool
@@ -283,8 +276,8 @@ areasSound cfg t ss = allBelow (areaSound cfg t ss) maxAreaConfs
 -- every client is sound, queued or on an instance, and every open call has its one client ("A sound state", clients)
 unfoldable pub clientsSound : Operations → Runnables → Slots → Bool
 clientsSound os rs ss =
-    both (allBelow (queuedSound os rs ss) maxRunnableConfs)
-    (both (allBelow (servedSound os rs ss) maxSlots) (allBelow (calledSound os rs ss) maxOperationConfs))
+    both (allBelow (queuedSound rs ss) maxRunnableConfs)
+    (both (allBelow (servedSound rs ss) maxSlots) (allBelow (calledSound os rs ss) maxOperationConfs))
 
 -- every operation has the waiters that it may have ("A sound state"; W-202)
 unfoldable pub waitersSound : Config → Operations → Slots → Bool

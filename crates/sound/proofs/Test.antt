@@ -21,7 +21,7 @@ use Rattle.config.specs.Tables.{runnableConfIn, operationConfIn}
 use Rattle.entries.specs.Faults.{isServer, configSound}
 use Rattle.state.specs.Parts.{noClient, noRequests}
 use Rattle.state.specs.Tables.{runnableIn, areaIn, operationIn, slotIn}
-use Rattle.rules.specs.Sound.{clientFits, isNoClient, requestsSound, runnableSound, operationSound, callingSound, doneSound, lifeSound, owedSound, stackSound, isNoSlot, slotSound, slotsOf, countSound, holders, areaSound, isClient, queuedAs, servedAs, clientsAs, numbered, clientSound, queuedSound, servedSound, calledSound, waitersOf, waiterSound, runnablesSound, operationsSound, slotsSound, countsSound, areasSound, clientsSound, waitersSound, shaped, soundOf}
+use Rattle.rules.specs.Sound.{clientFits, isNoClient, requestsSound, runnableSound, operationSound, callingSound, doneSound, lifeSound, owedSound, stackSound, isNoSlot, slotSound, slotsOf, countSound, holders, areaSound, isClient, queuedAs, servedAs, clientsAs, clientSound, queuedSound, servedSound, calledSound, waitersOf, waiterSound, runnablesSound, operationsSound, slotsSound, countsSound, areasSound, clientsSound, waitersSound, shaped, soundOf}
 use Rattle.rules.proofs.Configured.{runnables-most, capacity-most, operation-there}
 use Rattle.sound.specs.declared.Tally.{Tally}
 use Rattle.sound.specs.declared.Walked.{Walked}
@@ -96,21 +96,21 @@ module _ (cfg : Config) (st : State) (config : configSound cfg ≡ true) (slots 
   clients-are o m b =
       omega (arith, means .clients o m, sum-one (λ (r : ℕ). queuedAs o m (runnableIn (st .runnables) r .requests)) (operationConfIn (cfg .operations) o .server) 16 (omega (arith, operation-there cfg config o b, runnables-most cfg config)) (λ r c n. queued-other o m r c n))
 
-  alone-is : (c : Client) → c .operation < cfg .operations .n → clientAlone (st .operations) (queueOf cfg (st .runnables) (c .operation)) (tally .noted) c ≡ clientSound (st .operations) (st .runnables) (st .slots) c
+  alone-is : (c : Client) → c .operation < cfg .operations .n → clientAlone (queueOf cfg (st .runnables) (c .operation)) (tally .noted) c ≡ clientSound (st .runnables) (st .slots) c
   unfolding clientAlone clientSound
-  alone-is c b = ap (λ (n : ℕ). both (numbered (st .operations) c) (eqb n 1)) (clients-are (c .operation) (c .number) b)
+  alone-is c b = ap (λ (n : ℕ). eqb n 1) (clients-are (c .operation) (c .number) b)
 
   -- the clients of one queue
-  queue-is : (r : ℕ) → r < 16 → queueAlone (st .operations) (runnableIn (st .runnables) r .requests) (tally .noted) ≡ queuedSound (st .operations) (st .runnables) (st .slots) r
+  queue-is : (r : ℕ) → r < 16 → queueAlone (runnableIn (st .runnables) r .requests) (tally .noted) ≡ queuedSound (st .runnables) (st .slots) r
   unfolding queueAlone queuedSound queueOf
   queue-is r b =
       all-same _ _ (runnableIn (st .runnables) r .requests .queued)
       (λ j c. let f = fits-told cfg r (getD (runnableIn (st .runnables) r .requests .at) j noClient) (queued-fits r b j c) in
-      ap (λ (i : ℕ). clientAlone (st .operations) (runnableIn (st .runnables) i .requests) (tally .noted) (getD (runnableIn (st .runnables) r .requests .at) j noClient)) (sym (f .1))
+      ap (λ (i : ℕ). clientAlone (runnableIn (st .runnables) i .requests) (tally .noted) (getD (runnableIn (st .runnables) r .requests .at) j noClient)) (sym (f .1))
       ∙ alone-is (getD (runnableIn (st .runnables) r .requests .at) j noClient) (f .0))
 
   -- as long as the clients of the queues are sound, it is enough to look for a client that is noted among those noted
-  module _ (queued : allBelow (queuedSound (st .operations) (st .runnables) (st .slots)) 16 ≡ true) where
+  module _ (queued : allBelow (queuedSound (st .runnables) (st .slots)) 16 ≡ true) where
     queued-once : (o m : ℕ) → o < cfg .operations .n → 1 ≤ queuedAs o m (queueOf cfg (st .runnables) o) → clientsAs (st .runnables) (st .slots) o m ≡ 1
     unfolding queuedAs isClient queuedSound clientSound queueOf
     queued-once o m b h =
@@ -122,7 +122,7 @@ module _ (cfg : Config) (st : State) (config : configSound cfg ≡ true) (slots 
         let eo : c .operation ≡ o = eqb-true _ _ (both-left (eqb (c .operation) o) _ i) in
         let em : c .number ≡ m = eqb-true _ _ (both-right (eqb (c .operation) o) _ i) in
         let z : clientsAs (st .runnables) (st .slots) (c .operation) (c .number) ≡ 1
-        = eqb-true _ _ (both-right (numbered (st .operations) c) _ (all-at (λ (j : ℕ). clientSound (st .operations) (st .runnables) (st .slots) (getD (q .at) j noClient)) (q .queued) (all-at (queuedSound (st .operations) (st .runnables) (st .slots)) 16 queued s (omega (arith, operation-there cfg config o b, runnables-most cfg config))) (f .0) (f .1))) in
+        = eqb-true _ _ (all-at (λ (j : ℕ). clientSound (st .runnables) (st .slots) (getD (q .at) j noClient)) (q .queued) (all-at (queuedSound (st .runnables) (st .slots)) 16 queued s (omega (arith, operation-there cfg config o b, runnables-most cfg config))) (f .0) (f .1)) in
         ap (λ (k : ℕ). clientsAs (st .runnables) (st .slots) k m) (sym eo) ∙ ap (clientsAs (st .runnables) (st .slots) (c .operation)) (sym em) ∙ z
 
     -- no queue has a client that is noted
@@ -135,11 +135,11 @@ module _ (cfg : Config) (st : State) (config : configSound cfg ≡ true) (slots 
         go (suc k) e = omega (arith, n, e, clients-are o m b, queued-once o m b (omega (arith, e)))
 
     -- the client of one slot
-    slot-is : (k : ℕ) → k < 32 → either (not (slotIn (st .slots) k .owed .serving)) (clientAlone (st .operations) noRequests (tally .noted) (slotIn (st .slots) k .owed .client)) ≡ servedSound (st .operations) (st .runnables) (st .slots) k
+    slot-is : (k : ℕ) → k < 32 → either (not (slotIn (st .slots) k .owed .serving)) (clientAlone noRequests (tally .noted) (slotIn (st .slots) k .owed .client)) ≡ servedSound (st .runnables) (st .slots) k
     unfolding servedSound slotsSound clientAlone clientSound clientsWith queuedAs sumBelow noRequests
     slot-is k b = go (slotIn (st .slots) k .owed .serving) refl
       where
-        go : (s : Bool) → slotIn (st .slots) k .owed .serving ≡ s → either (not s) (clientAlone (st .operations) noRequests (tally .noted) (slotIn (st .slots) k .owed .client)) ≡ either (not s) (clientSound (st .operations) (st .runnables) (st .slots) (slotIn (st .slots) k .owed .client))
+        go : (s : Bool) → slotIn (st .slots) k .owed .serving ≡ s → either (not s) (clientAlone noRequests (tally .noted) (slotIn (st .slots) k .owed .client)) ≡ either (not s) (clientSound (st .runnables) (st .slots) (slotIn (st .slots) k .owed .client))
         go false e = refl
         go true e =
             let x = slotIn (st .slots) k in
@@ -148,13 +148,13 @@ module _ (cfg : Config) (st : State) (config : configSound cfg ≡ true) (slots 
             let l : o < cfg .operations .n = fits-told cfg (x .life .runnable) (x .owed .client) (slot-fits cfg x (all-at (λ (k : ℕ). slotSound cfg (slotIn (st .slots) k)) 32 slots k b) e) .0 in
             let n : 1 ≤ notedAs o m (tally .noted) = omega (arith, means .clients o m, sum-term (λ (j : ℕ). servedAs o m (slotIn (st .slots) j .owed)) k 32 b, served-own (x .owed) e) in
             let z : 0 + notedAs o m (tally .noted) ≡ clientsAs (st .runnables) (st .slots) o m = omega (arith, clients-are o m l, unqueued o m l n) in
-            ap (λ (i : ℕ). both (numbered (st .operations) (x .owed .client)) (eqb i 1)) z
+            ap (λ (i : ℕ). eqb i 1) z
 
     -- the clients of all slots
-    noted-is : notedAlone (st .operations) (tally .noted) ≡ allBelow (servedSound (st .operations) (st .runnables) (st .slots)) 32
-    unfolding notedAlone clientAlone numbered
+    noted-is : notedAlone (tally .noted) ≡ allBelow (servedSound (st .runnables) (st .slots)) 32
+    unfolding notedAlone clientAlone
     noted-is =
-        tally-all cfg (st .slots) (λ (o m : ℕ). clientAlone (st .operations) noRequests (tally .noted) (record { operation = o; number = m; argument = voidV })) 32 (omega arith)
+        tally-all cfg (st .slots) (λ (o m : ℕ). clientAlone noRequests (tally .noted) (record { operation = o; number = m; argument = voidV })) 32 (omega arith)
         ∙ all-same _ _ 32 slot-is
 
   -- the client of an open call
@@ -196,15 +196,15 @@ module _ (cfg : Config) (st : State) (config : configSound cfg ≡ true) (long :
       let slots : slotsSound cfg (st .slots) ≡ true = both-left (slotsSound cfg (st .slots)) _ h in
       let t = all-told (restTests cfg st (tallyOf (st .slots) 32)) (both-right (slotsSound cfg (st .slots)) _ h) in
       let y = tallyOf (st .slots) 32 in
-      let each : (r : ℕ) → r < 16 → runnableTallied cfg (st .operations) (y .noted) (getD (y .instances) r 0) r (runnableIn (st .runnables) r) ≡ true = all-at _ 16 (t .0) in
+      let each : (r : ℕ) → r < 16 → runnableTallied cfg (y .noted) (getD (y .instances) r 0) r (runnableIn (st .runnables) r) ≡ true = all-at _ 16 (t .0) in
       let calls : (o : ℕ) → o < 8 → operationTallied cfg (st .runnables) (y .noted) (getD (y .waiters) o 0) o (operationIn (st .operations) o) ≡ true = all-at _ 8 (t .1 .1 .1 .0) in
       let runnables : runnablesSound cfg (st .runnables) ≡ true = all-of _ 16 (λ r b. both-left (runnableSound cfg r (runnableIn (st .runnables) r)) _ (each r b)) in
-      let behind : (r : ℕ) → r < 16 → both (eqb (runnableIn (st .runnables) r .instances) (getD (y .instances) r 0)) (queueAlone (st .operations) (runnableIn (st .runnables) r .requests) (y .noted)) ≡ true = λ r b. both-right (runnableSound cfg r (runnableIn (st .runnables) r)) _ (each r b) in
+      let behind : (r : ℕ) → r < 16 → both (eqb (runnableIn (st .runnables) r .instances) (getD (y .instances) r 0)) (queueAlone (runnableIn (st .runnables) r .requests) (y .noted)) ≡ true = λ r b. both-right (runnableSound cfg r (runnableIn (st .runnables) r)) _ (each r b) in
       let operations : (o : ℕ) → o < 8 → operationSound cfg o (operationIn (st .operations) o) ≡ true = λ o b. both-left (operationSound cfg o (operationIn (st .operations) o)) _ (calls o b) in
       let counts : countsSound (st .runnables) (st .slots) ≡ true = all-of _ 16 (λ r b. sym (count-is cfg st config slots runnables r b) ∙ both-left (eqb (runnableIn (st .runnables) r .instances) (getD (y .instances) r 0)) _ (behind r b)) in
       let areas : areasSound cfg (st .areas) (st .slots) ≡ true = all-of _ 16 (λ a b. sym (area-is cfg st config slots runnables a b) ∙ all-at _ 16 (t .1 .1 .1 .1 .1 .0) a b) in
-      let queued : allBelow (queuedSound (st .operations) (st .runnables) (st .slots)) 16 ≡ true = all-of _ 16 (λ r b. sym (queue-is cfg st config slots runnables r b) ∙ both-right (eqb (runnableIn (st .runnables) r .instances) (getD (y .instances) r 0)) _ (behind r b)) in
-      let served : allBelow (servedSound (st .operations) (st .runnables) (st .slots)) 32 ≡ true = sym (noted-is cfg st config slots runnables queued) ∙ t .1 .1 .1 .1 .1 .1 .0 in
+      let queued : allBelow (queuedSound (st .runnables) (st .slots)) 16 ≡ true = all-of _ 16 (λ r b. sym (queue-is cfg st config slots runnables r b) ∙ both-right (eqb (runnableIn (st .runnables) r .instances) (getD (y .instances) r 0)) _ (behind r b)) in
+      let served : allBelow (servedSound (st .runnables) (st .slots)) 32 ≡ true = sym (noted-is cfg st config slots runnables queued) ∙ t .1 .1 .1 .1 .1 .1 .0 in
       let waits : (o : ℕ) → o < 8 → both (waiterTallied cfg (getD (y .waiters) o 0) o (operationIn (st .operations) o)) (either (not (operationIn (st .operations) o .calling)) (eqb (clientsWith (queueOf cfg (st .runnables) o) (y .noted) o (operationIn (st .operations) o .number)) 1)) ≡ true = λ o b. both-right (operationSound cfg o (operationIn (st .operations) o)) _ (calls o b) in
       let called : allBelow (calledSound (st .operations) (st .runnables) (st .slots)) 8 ≡ true = all-of _ 8 (λ o b. sym (called-is cfg st config slots runnables o (operations o b)) ∙ both-right (waiterTallied cfg (getD (y .waiters) o 0) o (operationIn (st .operations) o)) _ (waits o b)) in
       let waiters : waitersSound cfg (st .operations) (st .slots) ≡ true = all-of _ 8 (λ o b. sym (waiter-is cfg st config slots runnables o b) ∙ both-left (waiterTallied cfg (getD (y .waiters) o 0) o (operationIn (st .operations) o)) _ (waits o b)) in
@@ -220,10 +220,10 @@ module _ (cfg : Config) (st : State) (config : configSound cfg ≡ true) (long :
       let operations : operationsSound cfg (st .operations) ≡ true = t .1 .1 .1 .1 .1 .0 in
       let slots : slotsSound cfg (st .slots) ≡ true = t .1 .1 .1 .1 .1 .1 .1 .0 in
       let clients : clientsSound (st .operations) (st .runnables) (st .slots) ≡ true = t .1 .1 .1 .1 .1 .1 .1 .1 .1 .1 .0 in
-      let queued = both-left (allBelow (queuedSound (st .operations) (st .runnables) (st .slots)) 16) _ clients in
-      let served = both-left (allBelow (servedSound (st .operations) (st .runnables) (st .slots)) 32) _ (both-right (allBelow (queuedSound (st .operations) (st .runnables) (st .slots)) 16) _ clients) in
-      let called = both-right (allBelow (servedSound (st .operations) (st .runnables) (st .slots)) 32) _ (both-right (allBelow (queuedSound (st .operations) (st .runnables) (st .slots)) 16) _ clients) in
-      let each : (r : ℕ) → r < 16 → runnableTallied cfg (st .operations) (y .noted) (getD (y .instances) r 0) r (runnableIn (st .runnables) r) ≡ true = λ r b. both-make _ _ (all-at _ 16 runnables r b) (both-make _ _ (count-is cfg st config slots runnables r b ∙ all-at _ 16 (t .1 .1 .1 .1 .1 .1 .1 .1 .0) r b) (queue-is cfg st config slots runnables r b ∙ all-at _ 16 queued r b)) in
+      let queued = both-left (allBelow (queuedSound (st .runnables) (st .slots)) 16) _ clients in
+      let served = both-left (allBelow (servedSound (st .runnables) (st .slots)) 32) _ (both-right (allBelow (queuedSound (st .runnables) (st .slots)) 16) _ clients) in
+      let called = both-right (allBelow (servedSound (st .runnables) (st .slots)) 32) _ (both-right (allBelow (queuedSound (st .runnables) (st .slots)) 16) _ clients) in
+      let each : (r : ℕ) → r < 16 → runnableTallied cfg (y .noted) (getD (y .instances) r 0) r (runnableIn (st .runnables) r) ≡ true = λ r b. both-make _ _ (all-at _ 16 runnables r b) (both-make _ _ (count-is cfg st config slots runnables r b ∙ all-at _ 16 (t .1 .1 .1 .1 .1 .1 .1 .1 .0) r b) (queue-is cfg st config slots runnables r b ∙ all-at _ 16 queued r b)) in
       let calls : (o : ℕ) → o < 8 → operationTallied cfg (st .runnables) (y .noted) (getD (y .waiters) o 0) o (operationIn (st .operations) o) ≡ true = λ o b. both-make _ _ (all-at _ 8 operations o b) (both-make _ _ (waiter-is cfg st config slots runnables o b ∙ all-at _ 8 (t .1 .1 .1 .1 .1 .1 .1 .1 .1 .1 .1 .0) o b) (called-is cfg st config slots runnables o (all-at _ 8 operations o b) ∙ all-at _ 8 called o b)) in
       let areas : areasTallied (cfg .areas .n) (y .held) (st .areas) ≡ true = all-of _ 16 (λ a b. area-is cfg st config slots runnables a b ∙ all-at _ 16 (t .1 .1 .1 .1 .1 .1 .1 .1 .1 .0) a b) in
       both-make _ _ slots (all-made _ (all-of _ 16 each, (t .1 .1 .1 .0, (t .1 .1 .1 .1 .0, (all-of _ 8 calls, (t .1 .1 .1 .1 .1 .1 .0, (areas, (noted-is cfg st config slots runnables queued ∙ served, tt))))))))

@@ -11,7 +11,7 @@ use Rattle.types.specs.Types.{Config, Client, Requests, Runnable, Runnables, Ar
 use Rattle.config.specs.Tables.{maxRunnableConfs, maxAreaConfs, maxOperationConfs, operationConfIn}
 use Rattle.state.specs.Parts.{noClient, noRequests}
 use Rattle.state.specs.Tables.{maxSlots, runnableIn, areaIn, operationIn}
-use Rattle.rules.specs.Sound.{runnableSound, operationSound, queuedAs, numbered, variablesSound, elementsSound, timersSound, slotsSound}
+use Rattle.rules.specs.Sound.{runnableSound, operationSound, queuedAs, variablesSound, elementsSound, timersSound, slotsSound}
 use Rattle.sound.specs.declared.Held.{Held}
 use Rattle.sound.specs.declared.Noted.{Noted}
 use Rattle.sound.specs.declared.Tally.{Tally}
@@ -22,25 +22,25 @@ use Rattle.sound.specs.Tally.{noTally, tallyOf, notedAt, notedAs}
 unfoldable pub clientsWith : Requests → Noted → ℕ → ℕ → ℕ
 clientsWith q l o m = queuedAs o m q + notedAs o m l
 
--- a client has a number that it may have, and shares operation and number with no other of that queue and of those noted (ours)
-unfoldable pub clientAlone : Operations → Requests → Noted → Client → Bool
-clientAlone os q l c = both (numbered os c) (eqb (clientsWith q l (c .operation) (c .number)) 1)
+-- a client shares operation and number with no other of that queue and of those noted (ours)
+unfoldable pub clientAlone : Requests → Noted → Client → Bool
+clientAlone q l c = eqb (clientsWith q l (c .operation) (c .number)) 1
 
 -- every client of a queue does (ours)
-unfoldable pub queueAlone : Operations → Requests → Noted → Bool
-queueAlone os q l = allBelow (λ (j : ℕ). clientAlone os q l (getD (q .at) j noClient)) (q .queued)
+unfoldable pub queueAlone : Requests → Noted → Bool
+queueAlone q l = allBelow (λ (j : ℕ). clientAlone q l (getD (q .at) j noClient)) (q .queued)
 
 -- every client noted does, against those noted; one that waits in a queue too is found with that queue (ours)
-unfoldable pub notedAlone : Operations → Noted → Bool
-notedAlone os l = allBelow (λ (j : ℕ). clientAlone os noRequests l (notedAt l j)) (l .n)
+unfoldable pub notedAlone : Noted → Bool
+notedAlone l = allBelow (λ (j : ℕ). clientAlone noRequests l (notedAt l j)) (l .n)
 
 -- the queue that the clients of the operation o wait in (ours)
 unfoldable pub queueOf : Config → Runnables → ℕ → Requests
 queueOf cfg rs o = runnableIn rs (operationConfIn (cfg .operations) o .server) .requests
 
 -- a runnable by itself, the n slots that it has, and its clients (ours)
-unfoldable pub runnableTallied : Config → Operations → Noted → ℕ → ℕ → Runnable → Bool
-runnableTallied cfg os l n r x = both (runnableSound cfg r x) (both (eqb (x .instances) n) (queueAlone os (x .requests) l))
+unfoldable pub runnableTallied : Config → Noted → ℕ → ℕ → Runnable → Bool
+runnableTallied cfg l n r x = both (runnableSound cfg r x) (both (eqb (x .instances) n) (queueAlone (x .requests) l))
 
 -- the n waiters of an operation: one at most, and one while a synchronous call is open (ours)
 unfoldable pub waiterTallied : Config → ℕ → ℕ → Operation → Bool
@@ -55,8 +55,8 @@ unfoldable pub areaTallied : ℕ → ℕ → ℕ → Area → Bool
 areaTallied n held a x = both (either (not (x .taken)) (ltb a n)) (eqb held (bit (x .taken)))
 
 -- every runnable (ours)
-unfoldable pub runnablesTallied : Config → Operations → Tally → Runnables → Bool
-runnablesTallied cfg os y t = allBelow (λ (r : ℕ). runnableTallied cfg os (y .noted) (getD (y .instances) r 0) r (runnableIn t r)) maxRunnableConfs
+unfoldable pub runnablesTallied : Config → Tally → Runnables → Bool
+runnablesTallied cfg y t = allBelow (λ (r : ℕ). runnableTallied cfg (y .noted) (getD (y .instances) r 0) r (runnableIn t r)) maxRunnableConfs
 
 -- every operation (ours)
 unfoldable pub operationsTallied : Config → Runnables → Tally → Operations → Bool
@@ -69,13 +69,13 @@ areasTallied n l t = allBelow (λ (a : ℕ). areaTallied n (getD (l .at) a 0) a 
 -- what is left to test when the slots are (ours)
 abbrev pub restTests : Config → State → Tally → List Bool
 restTests cfg st y =
-    runnablesTallied cfg (st .operations) y (st .runnables)
+    runnablesTallied cfg y (st .runnables)
     ∷ variablesSound cfg (st .variables)
     ∷ elementsSound cfg (st .elements)
     ∷ operationsTallied cfg (st .runnables) y (st .operations)
     ∷ timersSound cfg (st .timers)
     ∷ areasTallied (cfg .areas .n) (y .held) (st .areas)
-    ∷ notedAlone (st .operations) (y .noted)
+    ∷ notedAlone (y .noted)
     ∷ []
 
 -- what the walk over the slots comes to: whether each of them is sound, and the tally of all if so (ours)

@@ -11,7 +11,7 @@ ghost use Rattle.values.specs.Values.{voidV, timeoutV, serverErrV, isVoid, isPa
 ghost use Rattle.config.specs.Tables.{maxAreaConfs, requiredConfIn};
 ghost use Rattle.entries.specs.Faults.{isServer};
 ghost use Rattle.state.specs.Parts.{noClient, maxRequests, maxValues};
-ghost use Rattle.rules.specs.Sound.{isNoClient, clientFits, requestsSound, valuesSound, runnableSound, variableSound, isStored, elementSound, isOutcome, callingSound, doneSound, operationSound, timerSound, waitsWell, lifeSound, owedSound, areaFits, isZero, stackSound, isNoSlot, slotSound, isClient, queuedAs, numbered, variablesSound, elementsSound, timersSound, soundOf};
+ghost use Rattle.rules.specs.Sound.{isNoClient, clientFits, requestsSound, valuesSound, runnableSound, variableSound, isStored, elementSound, isOutcome, callingSound, doneSound, operationSound, timerSound, waitsWell, lifeSound, owedSound, areaFits, isZero, stackSound, isNoSlot, slotSound, isClient, queuedAs, variablesSound, elementsSound, timersSound, soundOf};
 ghost use Rattle.sound.specs.Only.{onlyVariables, onlyAreas, onlyRequired, onlyOperations, onlyTimers};
 ghost use Rattle.sound.specs.Tally.{counted, entered, heldBelow, noting, tallied, notedAt, notedAs};
 ghost use Rattle.sound.specs.Walk.{clientsWith, clientAlone, queueAlone, queueOf, notedAlone, runnableTallied, waiterTallied, operationTallied, areaTallied, runnablesTallied, operationsTallied, areasTallied, restTests, walkOf};
@@ -292,7 +292,7 @@ fn is_outcome(v: Value) -> bool
     false
 }
 
-// A Calling operation is there, and has a number to go on to.
+// A Calling operation is there.
 fn calling_sound(t: OperationConfs, o: u8, x: Operation) -> bool
     ensures { λ b. ⌜ b ≡ callingSound (onlyOperations t) o x ⌝ }
 {
@@ -301,9 +301,6 @@ fn calling_sound(t: OperationConfs, o: u8, x: Operation) -> bool
     }
     let conf = t.get(o);
     if x.count > conf.timeout {
-        return false;
-    }
-    if x.number > 65534 {
         return false;
     }
     let v = x.done;
@@ -744,39 +741,21 @@ fn clients_with(q: Requests, l: Noted, o: u8, m: u16) -> u16
     queued_as(o, m, q) as u16 + noted_as(o, m, l) as u16
 }
 
-// A client's number is below its operation's, or equal while that is Calling.
-fn numbered(os: Operations, c: Client) -> bool
-    ensures { λ b. ⌜ b ≡ numbered os c ⌝ }
-{
-    let x = os.get(c.operation);
-    let m = c.number;
-    if m < x.number {
-        return true;
-    }
-    if x.calling {
-        return m == x.number;
-    }
-    false
-}
-
 // A client shares operation and number with no other of a queue and of those noted.
-fn client_alone(os: Operations, q: Requests, l: Noted, c: Client) -> bool
-    ensures { λ b. ⌜ b ≡ clientAlone os q l c ⌝ }
+fn client_alone(q: Requests, l: Noted, c: Client) -> bool
+    ensures { λ b. ⌜ b ≡ clientAlone q l c ⌝ }
 {
-    if numbered(os, c) {
-        return clients_with(q, l, c.operation, c.number) == 1;
-    }
-    false
+    clients_with(q, l, c.operation, c.number) == 1
 }
 
 // Every client of a queue.
-fn queue_alone(os: Operations, q: Requests, l: Noted) -> bool
-    ensures { λ b. ⌜ b ≡ queueAlone os q l ⌝ }
+fn queue_alone(q: Requests, l: Noted) -> bool
+    ensures { λ b. ⌜ b ≡ queueAlone q l ⌝ }
 {
     let n = q.queued;
     let mut j: u8 = 0;
     while j < n {
-        if client_alone(os, q, l, q.get(j)) {
+        if client_alone(q, l, q.get(j)) {
             j = j + 1;
         } else {
             return false;
@@ -799,13 +778,13 @@ fn queue_of(confs: OperationConfs, rs: Runnables, o: u8) -> Requests
 }
 
 // Every client noted, against those noted: one that waits in a queue too is found there.
-fn noted_alone(os: Operations, l: Noted) -> bool
-    ensures { λ b. ⌜ b ≡ notedAlone os l ⌝ }
+fn noted_alone(l: Noted) -> bool
+    ensures { λ b. ⌜ b ≡ notedAlone l ⌝ }
 {
     let n = l.n;
     let mut j: u8 = 0;
     while j < n {
-        if client_alone(os, Requests::BLANK, l, noted_at(l, j)) {
+        if client_alone(Requests::BLANK, l, noted_at(l, j)) {
             j = j + 1;
         } else {
             return false;
@@ -817,15 +796,15 @@ fn noted_alone(os: Operations, l: Noted) -> bool
 // ---- one part against the tally
 
 // A runnable by itself; it counts n instances, as many as it has slots; and each of its clients is alone.
-fn runnable_tallied(cfg: Config, os: Operations, l: Noted, n: u8, r: u8, x: Runnable) -> bool
-    ensures { λ b. ⌜ b ≡ runnableTallied cfg os l n r x ⌝ }
+fn runnable_tallied(cfg: Config, l: Noted, n: u8, r: u8, x: Runnable) -> bool
+    ensures { λ b. ⌜ b ≡ runnableTallied cfg l n r x ⌝ }
 {
     if !runnable_sound(cfg, r, x) {
         return false;
     }
     if x.instances == n {
         let q = x.requests;
-        return queue_alone(os, q, l);
+        return queue_alone(q, l);
     }
     false
 }
@@ -883,14 +862,14 @@ fn operation_tallied(
 
 // ---- whole tables, each once
 
-fn runnables_tallied(cfg: Config, os: Operations, y: Tally, t: Runnables) -> bool
-    ensures { λ b. ⌜ b ≡ runnablesTallied cfg os y t ⌝ }
+fn runnables_tallied(cfg: Config, y: Tally, t: Runnables) -> bool
+    ensures { λ b. ⌜ b ≡ runnablesTallied cfg y t ⌝ }
 {
     let l = y.noted;
     let mut k: usize = 0;
     while k < RunnableConfs::MAX {
         let x = t.at[k];
-        if runnable_tallied(cfg, os, l, y.instances[k], k as u8, x) {
+        if runnable_tallied(cfg, l, y.instances[k], k as u8, x) {
             k = k + 1;
         } else {
             return false;
@@ -983,7 +962,7 @@ fn rest_sound(cfg: Config, st: State, y: Tally) -> bool
 {
     let runnables = st.runnables;
     let operations = st.operations;
-    if !runnables_tallied(cfg, operations, y, runnables) {
+    if !runnables_tallied(cfg, y, runnables) {
         return false;
     }
     let variables = st.variables;
@@ -1007,7 +986,7 @@ fn rest_sound(cfg: Config, st: State, y: Tally) -> bool
         return false;
     }
     let l = y.noted;
-    noted_alone(operations, l)
+    noted_alone(l)
 }
 
 // The one walk over the slots: each by itself, and its part of the tally.

@@ -205,9 +205,6 @@ pub struct Operation {
 }
 
 impl Operation {
-    // The last number of a call.
-    pub const LAST_NUMBER: u16 = 65535;
-
     pub const BLANK: Operation = Operation {
         number: 0,
         calling: false,

@@ -1,7 +1,7 @@
--- Clients after every step: a pair of operation and number belongs to one at most, the number lies under the operation's or is the same during a call, and an
--- open call has its one client. What a sound state tells of a queue, an open call and an empty slot, and then step by step, by the tallies.
+-- Clients after every step: a pair of operation and number belongs to one at most, and an open call has its one client: a call starts only under a number that
+-- nobody bears. What a sound state tells of a queue, an open call and an empty slot, and then step by step, by the tallies.
 -- Assumes nothing.
-use Prim.Native.Nat.{ℕ, _+_, _-_, _≤_, _<_}
+use Prim.Native.Nat.{ℕ, _+_, _≤_, _<_}
 use mathlib.Core.Bool.{Bool, true, false}
 use mathlib.Core.Path.{_≡_, refl, sym, _∙_, ap}
 use native.Mathlib.Decide.{ℕ-discrete}
@@ -15,18 +15,18 @@ use Rattle.laws.proofs.Looping.{all-at}
 use Rattle.laws.proofs.Places.{inside-of, filled-length}
 use Rattle.types.specs.Types.{Value, Config, RunnableConf, Client, Runnable, Operations, Owed, Slots, State}
 use Rattle.values.specs.Values.{timeoutV}
-use Rattle.config.specs.Tables.{maxRunnableConfs, maxOperationConfs, runnableConfIn, operationConfIn, timerConfIn}
-use Rattle.state.specs.Parts.{lastNumber, noClient, maxRequests, noOperation, noOwed, noSlot}
+use Rattle.config.specs.Tables.{maxRunnableConfs, runnableConfIn, operationConfIn, timerConfIn}
+use Rattle.state.specs.Parts.{noClient, maxRequests, noOperation, noOwed, noSlot}
 use Rattle.state.specs.Queues.{pushRequest, firstRequest, restRequests}
 use Rattle.state.specs.Fields.{withPending, withRequests}
 use Rattle.state.specs.Tables.{maxSlots, runnableIn, operationIn, slotIn, withRunnable, withOperation, withSlot}
-use Rattle.rules.specs.Sound.{isNoClient, clientFits, requestsSound, runnableSound, runnablesSound, callingSound, operationSound, operationsSound, isNoSlot, slotSound, slotsSound, isClient, queuedAs, servedAs, clientsAs}
+use Rattle.rules.specs.Sound.{isNoClient, clientFits, requestsSound, runnableSound, runnablesSound, isNoSlot, slotSound, slotsSound, isClient, queuedAs, servedAs, clientsAs}
 use Rattle.effects.specs.Steps.{entering, exiting, entered, exited, fed, asking, called, runningOn, collected, closing, returnedRunnables, closed, answers, finishing, failing, failed, clientOf, finished, handedBack, answered, emptied, isDue, begun, starting, fresh, instanceOf, lowestEmpty, spawned, ticked, waited}
 use Rattle.stays_sound.specs.Facts.{Clients, Sound, CanEnter, CanExit, CanFeed, CanCall, CanCollect, CanHandBack, CanEnd, CanSpawn, CanTimeout, CanTick, CanWait, CanFail, ClientsIn}
 use Rattle.rules.proofs.Configured.{runnables-most, operations-most, capacity-most, operation-there}
 use Rattle.stays_sound.proofs.Told.{runnables-length, operations-length, slots-length}
 use Rattle.stays_sound.proofs.Kept.{here, lowest-empty, runnable-kept, slot-kept, fed-kept, returned-kept, after-kept, waited-kept, caller-kept}
-use Rattle.stays_sound.proofs.Tallies.{other-operation, other-number, clients-tallied, tallied-clients, tally-same, tally-less, tally-close, tally-open, served-put, queued-put, asked, taken, idle, busy, clients-kept, clients-slot, clients-runnables}
+use Rattle.stays_sound.proofs.Tallies.{other-operation, other-number, tally-same, tally-less, tally-close, tally-open, served-put, queued-put, asked, taken, idle, busy, clients-kept, clients-slot, clients-runnables}
 
 -- ---- what a sound state tells of a queue, an open call and an empty slot
 
@@ -39,18 +39,10 @@ requests-told cfg st r s b =
     let fits = leb (runnableIn (st .runnables) r .requests .queued) (runnableConfIn (cfg .runnables) r .capacity) in
     (leb-true _ _ (both-left fits _ t), filled-length (clientFits cfg r) isNoClient noClient maxRequests _ _ (both-right fits _ t))
 
--- an operation that is Calling is one of the table, and its number has one above it
+-- an operation that is Calling is one of the table
 pub calling-inside : (os : Operations) (o : ℕ) → operationIn os o .calling ≡ true → o < length (os .at)
 unfolding operationIn
 calling-inside os o h = inside-of (λ y. y .calling ≡ true) (os .at) o noOperation (λ e. clash false e refl) h
-
-calling-top : (cfg : Config) (st : State) (o : ℕ) → Sound cfg st → operationIn (st .operations) o .calling ≡ true → operationIn (st .operations) o .number ≤ lastNumber - 1
-unfolding operationsSound operationSound callingSound
-calling-top cfg st o s h =
-    let x = operationIn (st .operations) o in
-    let b : o < maxOperationConfs = omega (arith, calling-inside (st .operations) o h, operations-length cfg st s) in
-    let t = both-right (leb (x .number) lastNumber) _ (all-at (λ (o : ℕ). operationSound cfg o (operationIn (st .operations) o)) maxOperationConfs (s .operations) o b) in
-    leb-true (x .number) (lastNumber - 1) (all-told _ (rw h at t) .1 .1 .0)
 
 -- an empty slot owes nothing
 empty-idle : (cfg : Config) (st : State) (k : ℕ) → Sound cfg st → k < maxSlots → slotIn (st .slots) k .used ≡ false → slotIn (st .slots) k .owed .serving ≡ false
@@ -76,10 +68,9 @@ pub call-keeps-clients : (cfg : Config) (st : State) (i o : ℕ) (v : Value) →
 unfolding called
 call-keeps-clients cfg st i o v s z =
     clients-slot _ _ (st .slots) i _ (caller-kept (λ x. x .owed) (λ x n. refl) cfg o (slotIn (st .slots) i))
-    (tallied-clients _ _ (st .slots)
-    (tally-open (st .operations) (clientsAs (st .runnables) (st .slots)) _ (clients-tallied _ _ _ (s .clients)) o _ c
-    (omega (arith, z .inside, operations-most cfg (s .config), operations-length cfg st s)) (z .shut) refl refl refl refl
-    (λ k m. omega (arith, queued-put (st .runnables) (st .slots) k m r (asking x c) b (omega (arith, b, runnables-length cfg st s)), more k m))))
+    (tally-open (st .operations) (clientsAs (st .runnables) (st .slots)) _ (s .clients) o _ c
+    (omega (arith, z .inside, operations-most cfg (s .config), operations-length cfg st s)) (z .fresh) refl refl refl
+    (λ k m. omega (arith, queued-put (st .runnables) (st .slots) k m r (asking x c) b (omega (arith, b, runnables-length cfg st s)), more k m)))
   where
     r : ℕ
     r = operationConfIn (cfg .operations) o .server
@@ -121,10 +112,9 @@ handed cfg st i v s z o m =
 pub late-keeps-clients : (cfg : Config) (st : State) (i : ℕ) (v : Value) → Sound cfg st → CanHandBack cfg st i v → answers (st .operations) (clientOf st i) ≡ false → ClientsIn (finished st st i)
 unfolding answers
 late-keeps-clients cfg st i v s z f =
-    tallied-clients _ _ _
-    (tally-less (st .operations) (clientsAs (st .runnables) (st .slots)) _ (clients-tallied _ _ _ (s .clients))
+    tally-less (st .operations) (clientsAs (st .runnables) (st .slots)) _ (s .clients)
     (λ o m. omega (arith, handed cfg st i v s z o m))
-    (λ o e. omega (arith, handed cfg st i v s z o (operationIn (st .operations) o .number), ap bit (other o e (ℕ-discrete (c .operation) o)))))
+    (λ o e. omega (arith, handed cfg st i v s z o (operationIn (st .operations) o .number), ap bit (other o e (ℕ-discrete (c .operation) o))))
   where
     c : Client
     c = slotIn (st .slots) i .owed .client
@@ -142,9 +132,8 @@ closed-clients : (cfg : Config) (st : State) (o : ℕ) (v : Value) (ss : Slots) 
 unfolding closing
 closed-clients cfg st o v ss s e f g =
     clients-runnables _ (st .runnables) _ ss (returned-kept (λ x. x .requests) (λ x. refl) cfg o (st .runnables))
-    (tallied-clients _ _ ss
-    (tally-close (st .operations) (clientsAs (st .runnables) (st .slots)) _ (clients-tallied _ _ _ (s .clients)) o (closing v (operationIn (st .operations) o))
-    (calling-inside (st .operations) o e) (omega (arith, calling-top cfg st o s e)) refl f g))
+    (tally-close (st .operations) (clientsAs (st .runnables) (st .slots)) _ (s .clients) o (closing v (operationIn (st .operations) o))
+    (calling-inside (st .operations) o e) refl f g)
 
 -- hand back that ends its call
 pub answer-keeps-clients : (cfg : Config) (st : State) (i : ℕ) (v : Value) → Sound cfg st → CanHandBack cfg st i v → answers (st .operations) (clientOf st i) ≡ true → ClientsIn (answered cfg st i (handedBack st i v))
@@ -215,9 +204,8 @@ spawn-keeps-clients cfg st r s z = go (eqb (c .capacity) 0) refl
         (λ o m. slot-kept (λ y. servedAs o m (y .owed)) (st .slots) k _ (idle o m noOwed refl ∙ sym (idle o m (slotIn (st .slots) k .owed) free)))
         (s .clients)
     go false e =
-        tallied-clients _ _ _
-        (tally-same (st .operations) (st .operations) (clientsAs (st .runnables) (st .slots)) _ (λ o. refl) (λ o. refl)
-        (moved _ refl (ltb-true 0 (x .requests .queued) (rw e at (z .due)))) (clients-tallied _ _ _ (s .clients)))
+        tally-same (st .operations) (st .operations) (clientsAs (st .runnables) (st .slots)) _ (λ o. refl) (λ o. refl)
+        (moved _ refl (ltb-true 0 (x .requests .queued) (rw e at (z .due)))) (s .clients)
 
 pub tick-keeps-clients : (cfg : Config) (st : State) (t : ℕ) → Sound cfg st → CanTick cfg st t → ClientsIn (ticked cfg st t)
 tick-keeps-clients cfg st t s z =

@@ -3,7 +3,6 @@
 use Prim.Native.Nat.{ℕ, _+_, _-_, _%_, _≤_, _<_}
 use mathlib.Core.Bool.{Bool, true, false}
 use mathlib.Core.Path.{_≡_, refl}
-use native.Mathlib.Nat.{mod-eq-of-lt}
 use native.Mathlib.Omega.{arith}
 use lib.Dec.{leb}
 use lib.ListN.{getD}
@@ -30,40 +29,39 @@ use Rattle.stays_sound.proofs.Instances.{instance-at, owed-client, clie
 pub record Calls (cfg : Config) (o : ℕ) (x : Operation) : Type 0 where
   pub there : o < cfg .operations .n
   pub count : x .count ≤ operationConfIn (cfg .operations) o .timeout
-  pub number : x .number ≤ lastNumber - 1
+  pub number : x .number ≤ lastNumber
   pub done : isVoid (x .done) ≡ true
 
 pub calls-told : (cfg : Config) (o : ℕ) (x : Operation) → x .calling ≡ true → operationSound cfg o x ≡ true → Calls cfg o x
 unfolding operationSound callingSound
 calls-told cfg o x e h =
     let t = all-told _ (rw e at (both-right (leb (x .number) lastNumber) _ h)) in
-    record { there = ltb-true _ _ (t .0); count = leb-true _ _ (t .1 .0); number = leb-true _ _ (t .1 .1 .0); done = t .1 .1 .1 .0 }
+    record { there = ltb-true _ _ (t .0); count = leb-true _ _ (t .1 .0); number = leb-true _ _ (both-left (leb (x .number) lastNumber) _ h); done = t .1 .1 .0 }
 
 pub calls-made : (cfg : Config) (o : ℕ) (x : Operation) → x .calling ≡ true → Calls cfg o x → operationSound cfg o x ≡ true
 unfolding operationSound callingSound
 calls-made cfg o x e h =
     rw e
-    (both-make _ _ (le-leb (x .number) lastNumber (omega (arith, h .number)))
-    (all-made _ (lt-ltb _ _ (h .there), (le-leb _ _ (h .count), (le-leb _ _ (h .number), (h .done, tt))))))
+    (both-make _ _ (le-leb (x .number) lastNumber (h .number))
+    (all-made _ (lt-ltb _ _ (h .there), (le-leb _ _ (h .count), (h .done, tt)))))
 
 number-told : (cfg : Config) (o : ℕ) (x : Operation) → operationSound cfg o x ≡ true → x .number ≤ lastNumber
 unfolding operationSound
 number-told cfg o x h = leb-true _ _ (both-left (leb (x .number) lastNumber) _ h)
 
--- a call started: the number is not the last one
-open-sound : (cfg : Config) (o : ℕ) (x : Operation) → o < cfg .operations .n → (x .number ≡ lastNumber → ⊥) → operationSound cfg o x ≡ true → operationSound cfg o (opening (operationConfIn (cfg .operations) o .timeout) x) ≡ true
+-- a call started, under any number
+open-sound : (cfg : Config) (o : ℕ) (x : Operation) → o < cfg .operations .n → operationSound cfg o x ≡ true → operationSound cfg o (opening (operationConfIn (cfg .operations) o .timeout) x) ≡ true
 unfolding isVoid
-open-sound cfg o x b n h =
+open-sound cfg o x b h =
     calls-made cfg o (opening (operationConfIn (cfg .operations) o .timeout) x) refl
-    (record { there = b; count = omega arith; number = omega (arith, n, number-told cfg o x h); done = refl })
+    (record { there = b; count = omega arith; number = number-told cfg o x h; done = refl })
 
--- a call ended, with a payload or Timeout
+-- a call ended, with a payload or Timeout: the next number fits, behind the last one too
 close-sound : (cfg : Config) (o : ℕ) (x : Operation) (v : Value) → isOutcome v ≡ true → x .calling ≡ true → operationSound cfg o x ≡ true → operationSound cfg o (closing v x) ≡ true
 unfolding operationSound doneSound closing
 close-sound cfg o x v g e h =
     let t = calls-told cfg o x e h in
-    let n : (x .number + 1) % (lastNumber + 1) ≡ x .number + 1 = mod-eq-of-lt (omega (arith, t .number)) in
-    rw n (both-make _ _ (le-leb (x .number + 1) lastNumber (omega (arith, t .number))) (rw (lt-ltb o (cfg .operations .n) (t .there)) g))
+    both-make _ _ (le-leb ((x .number + 1) % (lastNumber + 1)) lastNumber (omega arith)) (rw (lt-ltb o (cfg .operations .n) (t .there)) g)
 
 -- time passes
 after-sound : (cfg : Config) (o t : ℕ) (x : Operation) → operationSound cfg o x ≡ true → operationSound cfg o (operationAfter t x) ≡ true
@@ -99,7 +97,7 @@ module _ (cfg : Config) (st : State) (s : Sound cfg st) where
 module _ (cfg : Config) (st : State) where
   pub call-keeps-operations : (i o : ℕ) (v : Value) → Sound cfg st → CanCall cfg st i o v → operationsSound cfg (called cfg st i o v .operations) ≡ true
   unfolding called
-  call-keeps-operations i o v s z = operations-put cfg (st .operations) o _ (s .operations) (open-sound cfg o (operationIn (st .operations) o) (z .inside) (z .number) (operation-at cfg st s o (z .inside)))
+  call-keeps-operations i o v s z = operations-put cfg (st .operations) o _ (s .operations) (open-sound cfg o (operationIn (st .operations) o) (z .inside) (operation-at cfg st s o (z .inside)))
 
   -- where the call is the client's, and it is ended
   pub answer-keeps-operations : (i : ℕ) (v : Value) → Sound cfg st → CanHandBack cfg st i v → answers (st .operations) (clientOf st i) ≡ true → operationsSound cfg (answered cfg st i (handedBack st i v) .operations) ≡ true

@@ -12,7 +12,7 @@ use Rattle.rules.specs.Sound.{soundOf}
 use Rattle.effects.specs.Steps.{refused, took}
 use Rattle.effects.specs.Step.{possibleOf, onAnswer, claimedOf, innerOf, stepOf}
 use Rattle.effects.proofs.Codes.{never}
-use Rattle.stays_sound.proofs.Ways.{Barred, shared, enterTaken, exitOther, callSpent, callFull, collectOpen, answerNumber, answerNone, endServing, endHolding, spawnNeed, spawnFull, timeoutEarly, tickEarly, waitFar, Went, bars, goes, went}
+use Rattle.stays_sound.proofs.Ways.{Barred, shared, enterTaken, exitOther, callBorne, callFull, collectOpen, answerNumber, answerNone, endServing, endHolding, spawnNeed, spawnFull, timeoutEarly, tickEarly, waitFar, Went, bars, goes, went}
 
 pub refused-same : (k n : ℕ) → Refused k ≡ Refused n → k ≡ n
 refused-same k n e = ap (λ (a : Answer). onAnswer a (λ (v : Value). 0) (λ (m : ℕ). m)) e
@@ -34,7 +34,7 @@ module _ (cfg : Config) (st : State) where
   barred-fair (shared n) = omega (arith, n)
   barred-fair (enterTaken e) = omega arith
   barred-fair (exitOther e) = omega arith
-  barred-fair (callSpent a b) = omega arith
+  barred-fair (callBorne a b) = omega arith
   barred-fair (callFull a b) = omega arith
   barred-fair (collectOpen e) = omega arith
   barred-fair (answerNumber e) = omega arith

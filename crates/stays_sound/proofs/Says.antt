@@ -14,11 +14,11 @@ use Rattle.types.specs.Types.{Value, Step, Config, State}
 use Rattle.config.specs.Tables.{runnableConfIn, areaConfIn, requiredConfIn, operationConfIn, providedConfIn}
 use Rattle.entries.specs.Entries.{countOf, entryOf}
 use Rattle.entries.specs.Faults.{isQueued}
-use Rattle.state.specs.Tables.{maxSlots, runnableIn, elementIn, slotIn}
-use Rattle.rules.specs.Sound.{componentOf, waitersOf}
+use Rattle.state.specs.Tables.{maxSlots, runnableIn, elementIn, operationIn, slotIn}
+use Rattle.rules.specs.Sound.{componentOf, clientsAs, waitersOf}
 use Rattle.rules.specs.Rows.{aSlot, scheduler, rows, rowOf}
 use Rattle.rules.specs.Refusals.{argues, formed, partThere, queuesAs, partOwn, asksSynchronous, finishedLets, failedLets, lifeLets, ownedRefusal, instanceRefusal, schedulerRefusal, refusalBy, refusalOf}
-use Rattle.effects.specs.Steps.{isTaken, onTop, isBare, isOpen, isBusy, isSpent, requestsFull, serves, hasFailed, handsNumber, holds, isOver, maySpawn, lowestEmpty, isUp, operationsLet, timersLet, allLet}
+use Rattle.effects.specs.Steps.{isTaken, onTop, isBare, isOpen, isBorne, isBusy, requestsFull, serves, hasFailed, handsNumber, holds, isOver, maySpawn, lowestEmpty, isUp, operationsLet, timersLet, allLet}
 use Rattle.stays_sound.specs.Facts.{Acts, CanWriteVariable, CanEnter, CanExit, CanRead, CanFeed, CanInvalidate, CanReceive, CanCall, CanCollect, CanHandBack, CanEnd, CanSpawn, CanTimeout, CanTick, CanWait, CanFail}
 
 -- ---- refusals 2 to 5, and 2 and 3
@@ -138,7 +138,7 @@ module _ (cfg : Config) (st : State) (i k : ℕ) (v : Value) where
   unfolding formed argues partThere rowOf rows countOf
   says-send z = record { who = acts cfg st sendCode i k v z refl refl refl; inside = ltb-true _ _ (z .part); payload = z .form }
 
-  pub says-call : Let cfg st callCode i k v → isBusy st k ≡ false → isSpent st k ≡ false → requestsFull cfg (st .runnables) (operationConfIn (cfg .operations) k .server) ≡ false → CanCall cfg st i k v
+  pub says-call : Let cfg st callCode i k v → isBusy st k ≡ false → isBorne st k ≡ false → requestsFull cfg (st .runnables) (operationConfIn (cfg .operations) k .server) ≡ false → CanCall cfg st i k v
   unfolding formed argues partThere rowOf rows countOf partOwn queuesAs entryOf requestsFull lifeLets failedLets
   says-call z a b c = record {
     who = acts cfg st callCode i k v z refl refl refl;
@@ -148,7 +148,7 @@ module _ (cfg : Config) (st : State) (i k : ℕ) (v : Value) where
     payload = z .form;
     shut = either-no (isOpen st k) _ a .0;
     free = omega (arith, ltb-false 0 (waitersOf (st .slots) k) (either-no (isOpen st k) _ a .1));
-    number = eqb-false _ _ b;
+    fresh = omega (arith, ltb-false 0 (clientsAs (st .runnables) (st .slots) k (operationIn (st .operations) k .number)) b);
     room = leb-false _ _ c;
   }
 

@@ -14,7 +14,7 @@ use Rattle.laws.proofs.Choosing.{clash, both-make, either-more, pick-has}
 use Rattle.laws.proofs.Looping.{all-of, sum-none, sum-zero}
 use Rattle.laws.proofs.Places.{each-length, each-has, all-each}
 use Rattle.values.specs.Values.{numberV, neverReceivedV, isVoid, isPayload}
-use Rattle.types.specs.Types.{Config, Requests, Runnable, Variable, Element, Slot}
+use Rattle.types.specs.Types.{Config, Runnable, Variable, Element, Slot}
 use Rattle.config.specs.Tables.{maxRunnableConfs, maxVariableConfs, maxAreaConfs, maxRequiredConfs, maxOperationConfs, maxTimerConfs, runnableConfIn, variableConfIn, requiredConfIn, timerConfIn}
 use Rattle.entries.specs.Faults.{isServer, configSound}
 use Rattle.state.specs.Parts.{noClient, noRequests, noRunnable, noVariable, noArea, noValues, noElement, noOperation, noTimer, noStack, noSlot, maxRequests}
@@ -175,11 +175,8 @@ module _ (cfg : Config) (h : configSound cfg ≡ true) where
   shut o l = getD-replicate maxOperationConfs o noOperation noOperation l
 
   start-clients : Clients noOperations (startRunnables (cfg .runnables)) noSlots
-  unfolding noSlot noRequests
   start-clients = record {
     single = λ o m. omega (arith, no-clients o m);
-    queued = λ r l j b. absurd (omega (arith, b, ap (λ (q : Requests). q .queued) (requests-blank r l)));
-    served = λ k l e. absurd (clash (slotIn noSlots k .owed .serving) e (rw (empty-slot k l)));
     called = λ o l e. absurd (clash (operationIn noOperations o .calling) e (rw (shut o l)));
   }
 

@@ -16,7 +16,7 @@ use Rattle.types.specs.Types.{Config, Client, Runnables, Areas, Operations, Slo
 use Rattle.config.specs.Tables.{maxRunnableConfs, maxAreaConfs, maxOperationConfs, operationConfIn}
 use Rattle.state.specs.Parts.{noClient}
 use Rattle.state.specs.Tables.{maxSlots, runnableIn, areaIn, operationIn, slotIn}
-use Rattle.rules.specs.Sound.{shaped, countSound, countsSound, areaSound, areasSound, isClient, queuedAs, servedAs, clientsAs, numbered, clientSound, queuedSound, servedSound, calledSound, clientsSound, waitersOf, isBound, waiterSound, waitersSound, soundOf}
+use Rattle.rules.specs.Sound.{shaped, countSound, countsSound, areaSound, areasSound, isClient, queuedAs, servedAs, clientsAs, clientSound, queuedSound, servedSound, calledSound, clientsSound, waitersOf, isBound, waiterSound, waitersSound, soundOf}
 use Rattle.stays_sound.specs.Facts.{Counted, Held, Clients, Waiters, Sound}
 
 -- ---- the lengths of the tables
@@ -153,62 +153,60 @@ module _ (rs : Runnables) (ss : Slots) where
         ap bit (both-make (slotIn ss k .owed .serving) (isClient (c .operation) (c .number) c) e (own-client (c .operation) (c .number) c refl refl)),
       )
 
-module _ (os : Operations) (rs : Runnables) (ss : Slots) where
-  queued-told : allBelow (queuedSound os rs ss) maxRunnableConfs ≡ true → (r : ℕ) → r < maxRunnableConfs → (j : ℕ) → j < runnableIn rs r .requests .queued → clientSound os rs ss (getD (runnableIn rs r .requests .at) j noClient) ≡ true
+  -- where nobody bears the number m of o, a client that is there is of another operation or number: no old client can be taken for the one of a call that starts
+  pub unborne : (o m : ℕ) (c : Client) → clientsAs rs ss o m ≡ 0 → 1 ≤ clientsAs rs ss (c .operation) (c .number) → c .operation ≡ o → c .number ≡ m → ⊥
+  unborne o m c z l p q = omega (arith, z, rw (p, q) at l)
+
+  queued-told : allBelow (queuedSound rs ss) maxRunnableConfs ≡ true → (r : ℕ) → r < maxRunnableConfs → (j : ℕ) → j < runnableIn rs r .requests .queued → clientSound rs ss (getD (runnableIn rs r .requests .at) j noClient) ≡ true
   unfolding queuedSound
-  queued-told h r l = all-at (λ (j : ℕ). clientSound os rs ss (getD (runnableIn rs r .requests .at) j noClient)) (runnableIn rs r .requests .queued) (all-at (queuedSound os rs ss) maxRunnableConfs h r l)
+  queued-told h r l = all-at (λ (j : ℕ). clientSound rs ss (getD (runnableIn rs r .requests .at) j noClient)) (runnableIn rs r .requests .queued) (all-at (queuedSound rs ss) maxRunnableConfs h r l)
 
-  served-told : allBelow (servedSound os rs ss) maxSlots ≡ true → (k : ℕ) → k < maxSlots → slotIn ss k .owed .serving ≡ true → clientSound os rs ss (slotIn ss k .owed .client) ≡ true
+  served-told : allBelow (servedSound rs ss) maxSlots ≡ true → (k : ℕ) → k < maxSlots → slotIn ss k .owed .serving ≡ true → clientSound rs ss (slotIn ss k .owed .client) ≡ true
   unfolding servedSound
-  served-told h k l e = either-right _ (clientSound os rs ss (slotIn ss k .owed .client)) (all-at (servedSound os rs ss) maxSlots h k l) (ap not e)
-
-  client-numbered : (c : Client) → clientSound os rs ss c ≡ true → numbered os c ≡ true
-  unfolding clientSound
-  client-numbered c h = both-left (numbered os c) _ h
+  served-told h k l e = either-right _ (clientSound rs ss (slotIn ss k .owed .client)) (all-at (servedSound rs ss) maxSlots h k l) (ap not e)
 
   -- a client that is there: no other has its operation and number
-  client-single : (o m : ℕ) (c : Client) → clientSound os rs ss c ≡ true → isClient o m c ≡ true → clientsAs rs ss o m ≤ 1
+  client-single : (o m : ℕ) (c : Client) → clientSound rs ss c ≡ true → isClient o m c ≡ true → clientsAs rs ss o m ≤ 1
   unfolding clientSound
   client-single o m c h i =
       let e = is-client o m c i in
-      omega (arith, rw (e .0, e .1) at (eqb-true (clientsAs rs ss (c .operation) (c .number)) 1 (both-right (numbered os c) _ h)))
+      omega (arith, rw (e .0, e .1) at (eqb-true (clientsAs rs ss (c .operation) (c .number)) 1 h))
 
-  single-told : allBelow (queuedSound os rs ss) maxRunnableConfs ≡ true → allBelow (servedSound os rs ss) maxSlots ≡ true → (o m : ℕ) → clientsAs rs ss o m ≤ 1
+  single-told : allBelow (queuedSound rs ss) maxRunnableConfs ≡ true → allBelow (servedSound rs ss) maxSlots ≡ true → (o m : ℕ) → clientsAs rs ss o m ≤ 1
   single-told hq hs o m = go (decLe 1 (clientsAs rs ss o m))
     where
       go : Dec (1 ≤ clientsAs rs ss o m) → clientsAs rs ss o m ≤ 1
-      go (yes l) = client-there rs ss o m (λ r b j c. client-single o m _ (queued-told hq r b j c)) (λ k b e. client-single o m _ (served-told hs k b e)) l
+      go (yes l) = client-there o m (λ r b j c. client-single o m _ (queued-told hq r b j c)) (λ k b e. client-single o m _ (served-told hs k b e)) l
       go (no n) = omega (arith, n)
 
+  client-made : ((o m : ℕ) → clientsAs rs ss o m ≤ 1) → (c : Client) → 1 ≤ clientsAs rs ss (c .operation) (c .number) → clientSound rs ss c ≡ true
+  unfolding clientSound
+  client-made h c l = eq-eqb (clientsAs rs ss (c .operation) (c .number)) 1 (omega (arith, h (c .operation) (c .number)))
+
+module _ (os : Operations) (rs : Runnables) (ss : Slots) where
   pub clients-told : clientsSound os rs ss ≡ true → Clients os rs ss
   unfolding clientsSound calledSound
   clients-told h =
-      let q = both-left (allBelow (queuedSound os rs ss) maxRunnableConfs) _ h in
-      let r = both-right (allBelow (queuedSound os rs ss) maxRunnableConfs) _ h in
-      let s = both-left (allBelow (servedSound os rs ss) maxSlots) _ r in
-      let c = both-right (allBelow (servedSound os rs ss) maxSlots) _ r in
+      let q = both-left (allBelow (queuedSound rs ss) maxRunnableConfs) _ h in
+      let r = both-right (allBelow (queuedSound rs ss) maxRunnableConfs) _ h in
+      let s = both-left (allBelow (servedSound rs ss) maxSlots) _ r in
+      let c = both-right (allBelow (servedSound rs ss) maxSlots) _ r in
       record {
-        single = single-told q s;
-        queued = λ r l j b. client-numbered _ (queued-told q r l j b);
-        served = λ k l e. client-numbered _ (served-told s k l e);
+        single = single-told rs ss q s;
         called = λ o l e. eqb-true _ 1 (either-right _ (eqb (clientsAs rs ss o (operationIn os o .number)) 1) (all-at (calledSound os rs ss) maxOperationConfs c o l) (ap not e));
       }
-
-  client-made : Clients os rs ss → (c : Client) → numbered os c ≡ true → 1 ≤ clientsAs rs ss (c .operation) (c .number) → clientSound os rs ss c ≡ true
-  unfolding clientSound
-  client-made h c n l = both-make _ _ n (eq-eqb (clientsAs rs ss (c .operation) (c .number)) 1 (omega (arith, h .single (c .operation) (c .number))))
 
   pub clients-made : Clients os rs ss → clientsSound os rs ss ≡ true
   unfolding clientsSound queuedSound servedSound calledSound
   clients-made h =
       both-make _ _
-      (all-of (queuedSound os rs ss) maxRunnableConfs (λ r l. all-of _ (runnableIn rs r .requests .queued) (λ j b. client-made h (getD (runnableIn rs r .requests .at) j noClient) (h .queued r l j b) (queued-counts rs ss r j l b))))
+      (all-of (queuedSound rs ss) maxRunnableConfs (λ r l. all-of _ (runnableIn rs r .requests .queued) (λ j b. client-made rs ss (h .single) (getD (runnableIn rs r .requests .at) j noClient) (queued-counts rs ss r j l b))))
       (both-make _ _
-      (all-of (servedSound os rs ss) maxSlots (λ k l. served k l (slotIn ss k .owed .serving) refl))
+      (all-of (servedSound rs ss) maxSlots (λ k l. served k l (slotIn ss k .owed .serving) refl))
       (all-of (calledSound os rs ss) maxOperationConfs (λ o l. called o l (operationIn os o .calling) refl)))
     where
-      served : (k : ℕ) → k < maxSlots → (b : Bool) → slotIn ss k .owed .serving ≡ b → either (not b) (clientSound os rs ss (slotIn ss k .owed .client)) ≡ true
-      served k l true e = client-made h (slotIn ss k .owed .client) (h .served k l e) (served-counts rs ss k l e)
+      served : (k : ℕ) → k < maxSlots → (b : Bool) → slotIn ss k .owed .serving ≡ b → either (not b) (clientSound rs ss (slotIn ss k .owed .client)) ≡ true
+      served k l true e = client-made rs ss (h .single) (slotIn ss k .owed .client) (served-counts rs ss k l e)
       served k l false e = refl
 
       called : (o : ℕ) → o < maxOperationConfs → (b : Bool) → operationIn os o .calling ≡ b → either (not b) (eqb (clientsAs rs ss o (operationIn os o .number)) 1) ≡ true

@@ -6,7 +6,7 @@ use mathlib.Core.Bool.{true, false}
 use mathlib.Core.Path.{_≡_, refl}
 use native.Mathlib.Decide.{ℕ-discrete}
 use lib.Dec.{ltb}
-use Rattle.numbers.specs.Refusals.{malformed, areaTaken, notOnTop, queueFull, numbersSpent, stillOpen, notDue, noSlotFree, tooFar, notOver, areasHeld, wrongClient}
+use Rattle.numbers.specs.Refusals.{malformed, areaTaken, notOnTop, queueFull, numberBorne, stillOpen, notDue, noSlotFree, tooFar, notOver, areasHeld, wrongClient}
 use Rattle.numbers.specs.Codes.{readVariableCode, writeVariableCode, enterCode, exitCode, readCode, writeCode, updatedCode, invalidateCode, receiveCode, sendCode, callCode, resultCode, handBackCode, endCode, spawnCode, timeoutCode, tickCode, waitCode, failCode}
 use Rattle.laws.specs.Choice.{pick, bit}
 use Rattle.laws.proofs.Choosing.{pick-has}
@@ -17,7 +17,7 @@ use Rattle.state.specs.Queues.{firstValue}
 use Rattle.state.specs.Tables.{maxSlots, runnableIn, variableIn, elementIn, operationIn, slotIn}
 use Rattle.rules.specs.Rows.{rows, rowOf}
 use Rattle.rules.specs.Refusals.{refusalOf}
-use Rattle.effects.specs.Steps.{refused, took, stored, isTaken, entered, onTop, exited, looked, fed, invalidated, anyFull, isBare, received, isOpen, isBusy, isSpent, requestsFull, called, collected, closed, answers, serves, clientOf, finished, answered, handsNumber, handedBack, failed, isOver, holds, emptied, maySpawn, lowestEmpty, spawned, isUp, ticked, allLet, waited, readVariableOf, writeVariableOf, enterOf, exitOf, readOf, writeOf, updatedOf, invalidateOf, receiveOf, sendOf, callOf, pollOf, collectOf, resultOf, handBackOf, endOf, spawnOf, timeoutOf, tickOf, waitOf, failOf}
+use Rattle.effects.specs.Steps.{refused, took, stored, isTaken, entered, onTop, exited, looked, fed, invalidated, anyFull, isBare, received, isOpen, isBorne, isBusy, requestsFull, called, collected, closed, answers, serves, clientOf, finished, answered, handsNumber, handedBack, failed, isOver, holds, emptied, maySpawn, lowestEmpty, spawned, isUp, ticked, allLet, waited, readVariableOf, writeVariableOf, enterOf, exitOf, readOf, writeOf, updatedOf, invalidateOf, receiveOf, sendOf, callOf, pollOf, collectOf, resultOf, handBackOf, endOf, spawnOf, timeoutOf, tickOf, waitOf, failOf}
 use Rattle.effects.specs.Step.{possibleOf}
 use Rattle.effects.proofs.Codes.{Code, coded, actBy, possible-by, possible-barred}
 use Rattle.effects.proofs.Codes as code
@@ -58,7 +58,7 @@ pub data Barred (cfg : Config) (st : State) (s : Step) : ℕ → ℕ → Type 0 
   shared : {n : ℕ} → (refusalOf cfg (st .slots) s ≡ 0 → ⊥) → Barred cfg st s n (refusalOf cfg (st .slots) s)
   enterTaken : isTaken st (s .what) ≡ true → Barred cfg st s enterCode areaTaken
   exitOther : onTop (slotIn (st .slots) (s .who)) (s .what) ≡ false → Barred cfg st s exitCode notOnTop
-  callSpent : isBusy st (s .what) ≡ false → isSpent st (s .what) ≡ true → Barred cfg st s callCode numbersSpent
+  callBorne : isBusy st (s .what) ≡ false → isBorne st (s .what) ≡ true → Barred cfg st s callCode numberBorne
   callFull : isBusy st (s .what) ≡ false → requestsFull cfg (st .runnables) (operationConfIn (cfg .operations) (s .what) .server) ≡ true → Barred cfg st s callCode queueFull
   collectOpen : isOpen st (s .what) ≡ true → Barred cfg st s resultCode stillOpen
   answerNumber : handsNumber st (s .who) (s .argument) ≡ true → Barred cfg st s handBackCode malformed
@@ -99,7 +99,7 @@ module _ (cfg : Config) (st : State) (s : Step) where
   went-by code.send c h = goes (send (says-send cfg st _ _ _ (let-told cfg st s c h refl)))
   went-by code.call c h =
       pick-has (W callCode) (isBusy st (s .what)) _ _ (λ a. goes (callBusy a))
-      (λ a. pick-has (W callCode) (isSpent st (s .what)) _ _ (λ b. bars (callSpent a b))
+      (λ a. pick-has (W callCode) (isBorne st (s .what)) _ _ (λ b. bars (callBorne a b))
       (λ b. pick-has (W callCode) (requestsFull cfg (st .runnables) (operationConfIn (cfg .operations) (s .what) .server)) _ _ (λ d. bars (callFull a d))
       (λ d. goes (call (says-call cfg st _ _ _ (let-told cfg st s c h refl) a b d)))))
   went-by code.result c h =

@@ -4,16 +4,14 @@ use Prim.Native.Nat.{ℕ, _≤_, _<_}
 use mathlib.Core.Bool.{true, false}
 use mathlib.Core.Path.{_≡_}
 use lib.Dec.{eqb}
-use lib.ListN.{getD}
 use Rattle.laws.specs.Choice.{either, bit}
 use Rattle.values.specs.Values.{isPayload}
 use Rattle.types.specs.Types.{Value, Config, Runnables, Areas, Operations, Slots, State}
 use Rattle.config.specs.Tables.{maxRunnableConfs, maxAreaConfs, maxOperationConfs, runnableConfIn, areaConfIn, providedConfIn, operationConfIn}
 use Rattle.entries.specs.Faults.{isQueued, configSound}
-use Rattle.state.specs.Parts.{lastNumber, noClient}
 use Rattle.state.specs.Tables.{maxSlots, runnableIn, areaIn, elementIn, operationIn, timerIn, slotIn}
 use Rattle.state.specs.Queues.{topArea}
-use Rattle.rules.specs.Sound.{componentOf, slotsOf, holders, clientsAs, numbered, waitersOf, shaped, runnablesSound, variablesSound, elementsSound, operationsSound, timersSound, slotsSound}
+use Rattle.rules.specs.Sound.{componentOf, slotsOf, holders, clientsAs, waitersOf, shaped, runnablesSound, variablesSound, elementsSound, operationsSound, timersSound, slotsSound}
 use Rattle.effects.specs.Steps.{isTaken, isOpen, serves, hasFailed, handsNumber, isDue, lowestEmpty, operationsLet, timersLet, runnablesLet}
 
 -- ---- the clauses over two tables and more, at every place
@@ -27,12 +25,14 @@ pub record Held (cfg : Config) (t : Areas) (ss : Slots) : Type 0 where
   pub there : (a : ℕ) → a < maxAreaConfs → areaIn t a .taken ≡ true → a < cfg .areas .n
   pub once : (a : ℕ) → a < maxAreaConfs → holders ss a ≡ bit (areaIn t a .taken)
 
--- a pair of operation and number belongs to one client at most; a client's number is below its operation's, or the same while that is Calling; while an operation is Calling there is one client under its number
-pub record Clients (os : Operations) (rs : Runnables) (ss : Slots) : Type 0 where
-  pub single : (o m : ℕ) → clientsAs rs ss o m ≤ 1
-  pub queued : (r : ℕ) → r < maxRunnableConfs → (j : ℕ) → j < runnableIn rs r .requests .queued → numbered os (getD (runnableIn rs r .requests .at) j noClient) ≡ true
-  pub served : (k : ℕ) → k < maxSlots → slotIn ss k .owed .serving ≡ true → numbered os (slotIn ss k .owed .client) ≡ true
-  pub called : (o : ℕ) → o < maxOperationConfs → operationIn os o .calling ≡ true → clientsAs rs ss o (operationIn os o .number) ≡ 1
+-- n gives how many clients have an operation and a number: a pair belongs to one client at most, and while an operation is Calling there is one client under its number
+pub record Tallied (os : Operations) (n : ℕ → ℕ → ℕ) : Type 0 where
+  pub single : (o m : ℕ) → n o m ≤ 1
+  pub called : (o : ℕ) → o < maxOperationConfs → operationIn os o .calling ≡ true → n o (operationIn os o .number) ≡ 1
+
+-- the clients of all queues and instances are so
+abbrev pub Clients : Operations → Runnables → Slots → Type 0
+Clients os rs ss = Tallied os (clientsAs rs ss)
 
 -- an operation has one waiter at most, and while a synchronous call is open there it has one
 pub record Waiters (cfg : Config) (os : Operations) (ss : Slots) : Type 0 where
@@ -136,7 +136,7 @@ pub record CanCall (cfg : Config) (st : State) (i o : ℕ) (v : Value) : Type 0 
   pub payload : isPayload v ≡ true
   pub shut : isOpen st o ≡ false
   pub free : waitersOf (st .slots) o ≡ 0
-  pub number : operationIn (st .operations) o .number ≡ lastNumber → ⊥
+  pub fresh : clientsAs (st .runnables) (st .slots) o (operationIn (st .operations) o .number) ≡ 0
   pub room : runnableIn (st .runnables) (operationConfIn (cfg .operations) o .server) .requests .queued < runnableConfIn (cfg .runnables) (operationConfIn (cfg .operations) o .server) .capacity
 
 -- a synchronous result that is given

@@ -33,6 +33,9 @@ top-cause-requires c κs = search needs
 full-cause-requires : tie.Need-full-cause-requires
 full-cause-requires c κs = search needs
 
+borne-cause-requires : tie.Need-borne-cause-requires
+borne-cause-requires c κs = search needs
+
 open-cause-requires : tie.Need-open-cause-requires
 open-cause-requires c κs = search needs
 
@@ -84,7 +87,7 @@ returns-7 c = rw (c .full-cause .ensures, c .before .match .keys7)
 
 returns-8 : tie.Need-returns-8
 unfolding whyOf
-returns-8 c = rw (c .match .keys8)
+returns-8 c = rw (c .borne-cause .ensures, c .before .match .keys8)
 
 returns-9 : tie.Need-returns-9
 unfolding whyOf
@@ -129,6 +132,7 @@ why-spec =
     holder-requires
     top-cause-requires
     full-cause-requires
+    borne-cause-requires
     open-cause-requires
     unspawned-cause-requires
     passes-requires

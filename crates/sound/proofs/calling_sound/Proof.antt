@@ -18,12 +18,8 @@ returns-2 c = rw (lt-ltb _ _ (c .before .before .before .before .if1 .left), ←
 
 returns-3 : tie.Need-returns-3
 unfolding callingSound allOf onlyOperations
-returns-3 c = rw (lt-ltb _ _ (c .before .before .before .before .before .before .if1 .left), ← c .before .before .before .before .before .get .ensures, le-leb _ _ (c .before .before .if2 .left), lt-leb _ _ (c .if3 .taken))
-
-returns-4 : tie.Need-returns-4
-unfolding callingSound allOf onlyOperations
-returns-4 c = rw (lt-ltb _ _ (c .before .before .before .before .before .before .before .before .if1 .left), ← c .before .before .before .before .before .before .before .get .ensures, le-leb _ _ (c .before .before .before .before .if2 .left), le-leb _ _ (c .before .before .if3 .left), ← c .is-void .ensures) (both-true _)
+returns-3 c = rw (lt-ltb _ _ (c .before .before .before .before .before .before .if1 .left), ← c .before .before .before .before .before .get .ensures, le-leb _ _ (c .before .before .if2 .left), ← c .is-void .ensures) (both-true _)
 
 pub calling-sound-spec : {M : Type 1} → statement M
 calling-sound-spec =
-    tie.close (tie.spec returns (λ c κs. tt) returns-2 returns-3 (λ c κs. tt) returns-4)
+    tie.close (tie.spec returns (λ c κs. tt) returns-2 (λ c κs. tt) returns-3)

@@ -6,12 +6,8 @@ use Rattle.sound.proofs.client_alone.Tie as tie
 
 returns : tie.Need-returns
 unfolding clientAlone
-returns c = rw (c .clients-with .ensures, ← c .before .before .numbered .ensures, c .before .if1 .taken)
-
-returns-2 : tie.Need-returns-2
-unfolding clientAlone
-returns-2 c = rw (← c .before .numbered .ensures, c .if1 .left)
+returns c = rw (c .clients-with .ensures)
 
 pub client-alone-spec : {M : Type 1} → statement M
 client-alone-spec =
-    tie.close (tie.spec (λ c κs. tt) (λ c κs. tt) returns returns-2)
+    tie.close (tie.spec (λ c κs. tt) returns)

@@ -14,10 +14,10 @@ use Rattle.sound.proofs.noted_alone.Statement.{statement}
 use Rattle.sound.proofs.noted_alone.Tie as tie
 
 abbrev Inv-loop : tie.InvT-loop
-Inv-loop os l n j₀ j = (j ≤ l .n) × (allBelow (λ (i : ℕ). clientAlone os noRequests l (notedAt l i)) j ≡ true)
+Inv-loop l n j₀ j = (j ≤ l .n) × (allBelow (λ (i : ℕ). clientAlone noRequests l (notedAt l i)) j ≡ true)
 
 abbrev μ-loop : tie.MeasureT-loop
-μ-loop os l n j₀ j = l .n - j
+μ-loop l n j₀ j = l .n - j
 
 loop-holds : tie.Need-loop-holds Inv-loop μ-loop
 loop-holds c = (search needs, all-none _)

@@ -14,10 +14,10 @@ use Rattle.sound.proofs.queue_alone.Statement.{statement}
 use Rattle.sound.proofs.queue_alone.Tie as tie
 
 abbrev Inv-loop : tie.InvT-loop
-Inv-loop os q l n j₀ j = (j ≤ q .queued) × (allBelow (λ (i : ℕ). clientAlone os q l (getD (q .at) i noClient)) j ≡ true)
+Inv-loop q l n j₀ j = (j ≤ q .queued) × (allBelow (λ (i : ℕ). clientAlone q l (getD (q .at) i noClient)) j ≡ true)
 
 abbrev μ-loop : tie.MeasureT-loop
-μ-loop os q l n j₀ j = q .queued - j
+μ-loop q l n j₀ j = q .queued - j
 
 loop-holds : tie.Need-loop-holds Inv-loop μ-loop
 loop-holds c = (search needs, all-none _)

@@ -16,10 +16,10 @@ use Rattle.sound.proofs.runnables_tallied.Statement.{statement}
 use Rattle.sound.proofs.runnables_tallied.Tie as tie
 
 abbrev Inv-loop : tie.InvT-loop
-Inv-loop cfg os y t l k₀ k = (k ≤ 16) × (allBelow (λ (i : ℕ). runnableTallied cfg os (y .noted) (getD (y .instances) i 0) i (runnableIn t i)) k ≡ true)
+Inv-loop cfg y t l k₀ k = (k ≤ 16) × (allBelow (λ (i : ℕ). runnableTallied cfg (y .noted) (getD (y .instances) i 0) i (runnableIn t i)) k ≡ true)
 
 abbrev μ-loop : tie.MeasureT-loop
-μ-loop cfg os y t l k₀ k = 16 - k
+μ-loop cfg y t l k₀ k = 16 - k
 
 loop-holds : tie.Need-loop-holds Inv-loop μ-loop
 loop-holds c = (search needs, all-none _)
@@ -46,19 +46,19 @@ loop-again : tie.Need-loop-again Inv-loop μ-loop
 unfolding runnableIn noRunnable noRequests
 loop-again c =
     let a = c .before .before .before .before .before .before .before .args in
-    let e : length (a .t4 .at) ≡ 16 = search (length-mapped, c .before .before .before .before .before .before .before .good .1 .1 .1) in
+    let e : length (a .t3 .at) ≡ 16 = search (length-mapped, c .before .before .before .before .before .before .before .good .1 .1) in
     let k = c .before .before .before .before .before .loop .k in
     let b = c .before .before .before .before .loop-test .taken in
-    (omega (arith, b), all-more _ _ (c .before .before .before .before .before .loop .inv .1) (rw (inside (a .t4 .at) k 16 _ noRunnable e b) at (sym (c .before .runnable-tallied .ensures) ∙ c .if1 .taken)))
+    (omega (arith, b), all-more _ _ (c .before .before .before .before .before .loop .inv .1) (rw (inside (a .t3 .at) k 16 _ noRunnable e b) at (sym (c .before .runnable-tallied .ensures) ∙ c .if1 .taken)))
 
 returns : tie.Need-returns Inv-loop μ-loop
 unfolding runnablesTallied runnableIn noRunnable noRequests
 returns c =
     let a = c .before .before .before .before .before .before .before .args in
-    let e : length (a .t4 .at) ≡ 16 = search (length-mapped, c .before .before .before .before .before .before .before .good .1 .1 .1) in
+    let e : length (a .t3 .at) ≡ 16 = search (length-mapped, c .before .before .before .before .before .before .before .good .1 .1) in
     let k = c .before .before .before .before .before .loop .k in
     let b = c .before .before .before .before .loop-test .taken in
-    sym (all-fails _ _ k b (rw (inside (a .t4 .at) k 16 _ noRunnable e b) at (sym (c .before .runnable-tallied .ensures) ∙ c .if1 .left)))
+    sym (all-fails _ _ k b (rw (inside (a .t3 .at) k 16 _ noRunnable e b) at (sym (c .before .runnable-tallied .ensures) ∙ c .if1 .left)))
 
 returns-2 : tie.Need-returns-2 Inv-loop μ-loop
 unfolding runnablesTallied

@@ -1,0 +1,2 @@
+-- What is claimed of recordings of any length.
+pub mod Length
