@@ -25,7 +25,7 @@ use Rattle.stays_sound.proofs.Ways.{Barred, shared, enterTaken, exitOther, call
 use Rattle.stays_sound.proofs.Refusals.{refused-same}
 use Rattle.causes.specs.declared.Cause.{Cause}
 use Rattle.causes.specs.declared.Cause.the-variants.{NoCause, Differs}
-use Rattle.causes.specs.Passing.{passesOf, operationStop, timerStop}
+use Rattle.causes.specs.Passing.{passesOf, operationStop}
 use Rattle.causes.specs.Causes.{causeRefusal, formCause, slotCause, codeCause, thereCause, ownCause, waitsElse, lifeCause, topCause, stillCause, fullCause, bearerOf, borneCause, openCause, dueCause, spawnCause, stopCause, earlyCause, owedCause, whyOf, claimCause, causeOf}
 
 -- ---- each number's causes have that number
@@ -99,9 +99,7 @@ spawn-number c x =
 
 stop-number : (cfg : Config) (st : State) (t : ℕ) → causeRefusal (stopCause cfg st t) ≡ tooFar
 unfolding stopCause
-stop-number cfg st t =
-    either-number (ltb (operationStop cfg (st .operations) t) (cfg .operations .n)) _ _ tooFar refl
-    (either-number (ltb (timerStop cfg (st .timers) t) (cfg .timers .n)) _ _ tooFar refl refl)
+stop-number cfg st t = either-number (ltb (operationStop cfg (st .operations) t) (cfg .operations .n)) _ _ tooFar refl refl
 
 early-number : (st : State) (s : Step) → causeRefusal (earlyCause st s) ≡ notOver
 unfolding earlyCause

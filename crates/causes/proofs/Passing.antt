@@ -6,17 +6,17 @@ use mathlib.Core.Path.{_≡_, refl, sym, ap, ap₂, _∙_}
 use native.Mathlib.Decide.{decLt, decLe}
 use native.Mathlib.Numerals.{add-one}
 use native.Mathlib.Omega.{arith}
-use lib.Dec.{leb, eqb}
+use lib.Dec.{leb}
 use borrow.Author.Tests.{lt-ltb, le-ltb, le-leb, lt-leb}
 use Rattle.laws.specs.Choice.{pick, both, either}
 use Rattle.laws.specs.Loop.{allBelow}
 use Rattle.laws.proofs.Choosing.{both-no}
 use Rattle.numbers.specs.Refusals.{tooFar}
 use Rattle.values.specs.Values.{answerRefusal, voidV}
-use Rattle.types.specs.Types.{Config, Operation, Runnable, Timer, State}
-use Rattle.state.specs.Tables.{operationIn, runnableIn, timerIn}
-use Rattle.effects.specs.Steps.{refused, took, operationLets, timerLets, runnableLets, operationsLet, timersLet, runnablesLet, allLet, waited, waitOf}
-use Rattle.causes.specs.Passing.{least, leastBelow, operationLeft, runnableLeft, operationsPass, timersPass, runnablesPass, passesOf}
+use Rattle.types.specs.Types.{Config, Operation, Timer, State}
+use Rattle.state.specs.Tables.{operationIn, timerIn}
+use Rattle.effects.specs.Steps.{refused, took, operationLets, timerLets, operationsLet, timersLet, allLet, waited, waitOf}
+use Rattle.causes.specs.Passing.{least, leastBelow, operationLeft, operationsPass, timersPass, passesOf}
 
 pub least-none : (f : ℕ → ℕ) (top : ℕ) → leastBelow f top 0 ≡ top
 unfolding leastBelow
@@ -61,32 +61,17 @@ operation-left t u x h = go (x .calling)
     go true = refl
     go false = h
 
-runnable-left : (t u : ℕ) (x : Runnable) → leb u t ≡ true → leb u (runnableLeft t x) ≡ runnableLets u x
-unfolding runnableLeft runnableLets
-runnable-left t u x h = go (eqb (x .interval) 0)
-  where
-    go : (b : Bool) → leb u (pick b t (x .interval)) ≡ either b (leb u (x .interval))
-    go true = h
-    go false = refl
-
 timer-left : (u : ℕ) (x : Timer) → leb u (x .count) ≡ timerLets u x
 unfolding timerLets
 timer-left u x = refl
 
 -- of any time up to t, just that may pass which is no more than this
 pub passes-exactly : (cfg : Config) (st : State) (t u : ℕ) → leb u t ≡ true → leb u (passesOf cfg st t) ≡ allLet cfg st u
-unfolding allLet passesOf operationsPass timersPass runnablesPass operationsLet timersLet runnablesLet
+unfolding allLet passesOf operationsPass timersPass operationsLet timersLet
 passes-exactly cfg st t u h =
     let a = least-all (λ (o : ℕ). operationLeft t (operationIn (st .operations) o)) t u (cfg .operations .n) h ∙ all-same (λ (o : ℕ). leb u (operationLeft t (operationIn (st .operations) o))) (λ (o : ℕ). operationLets u (operationIn (st .operations) o)) (cfg .operations .n) (λ o. operation-left t u (operationIn (st .operations) o) h) in
     let b = least-all (λ (k : ℕ). timerIn (st .timers) k .count) t u (cfg .timers .n) h ∙ all-same (λ (k : ℕ). leb u (timerIn (st .timers) k .count)) (λ (k : ℕ). timerLets u (timerIn (st .timers) k)) (cfg .timers .n) (λ k. timer-left u (timerIn (st .timers) k)) in
-    let c = least-all (λ (r : ℕ). runnableLeft t (runnableIn (st .runnables) r)) t u (cfg .runnables .n) h ∙ all-same (λ (r : ℕ). leb u (runnableLeft t (runnableIn (st .runnables) r))) (λ (r : ℕ). runnableLets u (runnableIn (st .runnables) r)) (cfg .runnables .n) (λ r. runnable-left t u (runnableIn (st .runnables) r) h) in
-    least-lets u (least (operationsPass cfg (st .operations) t) (timersPass cfg (st .timers) t)) (runnablesPass cfg (st .runnables) t)
-    ∙ ap₂ both (least-lets u (operationsPass cfg (st .operations) t) (timersPass cfg (st .timers) t) ∙ ap₂ both a b) c
-    ∙ both-turn (allBelow (λ (o : ℕ). operationLets u (operationIn (st .operations) o)) (cfg .operations .n)) (allBelow (λ (k : ℕ). timerLets u (timerIn (st .timers) k)) (cfg .timers .n)) (allBelow (λ (r : ℕ). runnableLets u (runnableIn (st .runnables) r)) (cfg .runnables .n))
-  where
-    both-turn : (a b c : Bool) → both (both a b) c ≡ both a (both b c)
-    both-turn true b c = refl
-    both-turn false b c = refl
+    least-lets u (operationsPass cfg (st .operations) t) (timersPass cfg (st .timers) t) ∙ ap₂ both a b
 
 -- a wait of up to t is taken exactly if it is no longer than may pass of t; else it is 13
 pub wait-goes : (cfg : Config) (st : State) (t u : ℕ) → leb u t ≡ true → answerRefusal (waitOf cfg st u .answer) ≡ pick (leb u (passesOf cfg st t)) 0 tooFar

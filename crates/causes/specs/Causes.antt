@@ -9,7 +9,7 @@ use Rattle.laws.specs.Loop.{anyBelow, firstBelow}
 use Rattle.values.specs.Values.{sameValue}
 use Rattle.numbers.specs.Refusals.{malformed, notThere, notOwn, barred, areaTaken, notOnTop, queueFull, numberBorne, stillOpen, notDue, noSlotFree, tooFar, notOver, areasHeld, wrongClient, otherAnswer}
 use Rattle.numbers.specs.Codes.{resultCode, timeoutCode}
-use Rattle.numbers.specs.Tags.{runnableTag, operationTag, timerTag}
+use Rattle.numbers.specs.Tags.{operationTag, timerTag}
 use Rattle.types.specs.Types.{Value, Step, Config, RunnableConf, Life, Owed, Stack, Runnable, Slots, State}
 use Rattle.config.specs.Tables.{runnableConfIn, operationConfIn}
 use Rattle.entries.specs.Entries.{countOf, entryOf}
@@ -22,7 +22,7 @@ use Rattle.rules.specs.Refusals.{formed}
 use Rattle.effects.specs.Step.{possibleOf, onAnswer}
 use Rattle.causes.specs.declared.Cause.{Cause}
 use Rattle.causes.specs.declared.Cause.the-variants.{NoCause, NoCode, HasWho, HasWhat, BadArgument, HandsNumber, NoSlot, EmptySlot, NoPart, Foreign, IsQueued, NotQueued, WaitsOn, IsFinished, HasFailed, FailedBack, NotWaiting, HeldBy, NoneHeld, OnTop, QueueFull, StillServed, StillQueued, CallOpen, InInterval, Runs, NotPending, NoRequest, NoRoom, Stops, NotOpen, CallRuns, TimerRuns, StillHeld, NoClient, HasClient, Differs}
-use Rattle.causes.specs.Passing.{passesOf, operationStop, timerStop, runnableStop}
+use Rattle.causes.specs.Passing.{passesOf, operationStop, timerStop}
 
 -- the number of refusal that a cause stands for; 0 for none ("Numbers of refusal")
 abbrev pub causeRefusal : Cause → ℕ
@@ -176,12 +176,11 @@ spawnCause c x =
 
 -- ---- 13, 14: time
 
--- the first count that lets no more than t pass, of operations, then timers, then start intervals ("Numbers of refusal", 13)
+-- the first count that lets no more than t pass, of operations, then timers ("Numbers of refusal", 13; W-203)
 unfoldable pub stopCause : Config → State → ℕ → Cause
 stopCause cfg st t =
     pick (ltb (operationStop cfg (st .operations) t) (cfg .operations .n)) (Stops operationTag (operationStop cfg (st .operations) t) t)
-    (pick (ltb (timerStop cfg (st .timers) t) (cfg .timers .n)) (Stops timerTag (timerStop cfg (st .timers) t) t)
-    (Stops runnableTag (runnableStop cfg (st .runnables) t) t))
+    (Stops timerTag (timerStop cfg (st .timers) t) t)
 
 -- a timeout without a call, or before its time; a tick before its time ("Numbers of refusal", 14)
 unfoldable pub earlyCause : State → Step → Cause

@@ -1,12 +1,12 @@
--- How far time may go: no further than the least count that runs, and which counts those are ("The eighteen steps", Wait).
+-- How far time may go: no further than the least count of an open call or a timer, and which counts those are ("The eighteen steps", Wait; W-203).
 -- Assumes nothing.
 use Prim.Native.Nat.{ℕ, zero, suc}
 use mathlib.Core.Bool.{Bool}
-use lib.Dec.{ltb, leb, eqb}
+use lib.Dec.{ltb, leb}
 use Rattle.laws.specs.Choice.{pick, both}
 use Rattle.laws.specs.Loop.{firstBelow}
-use Rattle.types.specs.Types.{Config, Operation, Operations, Runnable, Runnables, Timer, Timers, State}
-use Rattle.state.specs.Tables.{operationIn, runnableIn, timerIn}
+use Rattle.types.specs.Types.{Config, Operation, Operations, Timer, Timers, State}
+use Rattle.state.specs.Tables.{operationIn, timerIn}
 
 -- the lesser of two numbers (ours)
 abbrev pub least : ℕ → ℕ → ℕ
@@ -21,10 +21,6 @@ leastBelow f top (suc n) = least (leastBelow f top n) (f n)
 unfoldable pub operationLeft : ℕ → Operation → ℕ
 operationLeft t x = pick (x .calling) (x .count) t
 
--- what a runnable lets pass of t: no more than is left of a start interval that runs ("The eighteen steps", Wait)
-unfoldable pub runnableLeft : ℕ → Runnable → ℕ
-runnableLeft t x = pick (eqb (x .interval) 0) t (x .interval)
-
 -- what all operations let pass of t ("The eighteen steps", Wait)
 unfoldable pub operationsPass : Config → Operations → ℕ → ℕ
 operationsPass cfg os t = leastBelow (λ (o : ℕ). operationLeft t (operationIn os o)) t (cfg .operations .n)
@@ -33,13 +29,9 @@ operationsPass cfg os t = leastBelow (λ (o : ℕ). operationLeft t (operationIn
 unfoldable pub timersPass : Config → Timers → ℕ → ℕ
 timersPass cfg ts t = leastBelow (λ (k : ℕ). timerIn ts k .count) t (cfg .timers .n)
 
--- what all runnables let pass of t ("The eighteen steps", Wait)
-unfoldable pub runnablesPass : Config → Runnables → ℕ → ℕ
-runnablesPass cfg rs t = leastBelow (λ (r : ℕ). runnableLeft t (runnableIn rs r)) t (cfg .runnables .n)
-
--- how much of t may pass ("The eighteen steps", Wait)
+-- how much of t may pass; start intervals hold nothing back ("The eighteen steps", Wait; W-203)
 unfoldable pub passesOf : Config → State → ℕ → ℕ
-passesOf cfg st t = least (least (operationsPass cfg (st .operations) t) (timersPass cfg (st .timers) t)) (runnablesPass cfg (st .runnables) t)
+passesOf cfg st t = least (operationsPass cfg (st .operations) t) (timersPass cfg (st .timers) t)
 
 -- ---- which count lets no more than t pass
 
@@ -51,10 +43,6 @@ operationStops t x = both (x .calling) (leb (x .count) t)
 unfoldable pub timerStops : ℕ → Timer → Bool
 timerStops t x = leb (x .count) t
 
--- a start interval that runs does ("The eighteen steps", Wait)
-unfoldable pub runnableStops : ℕ → Runnable → Bool
-runnableStops t x = both (ltb 0 (x .interval)) (leb (x .interval) t)
-
 -- the first such operation, or how many there are ("The eighteen steps", Wait)
 unfoldable pub operationStop : Config → Operations → ℕ → ℕ
 operationStop cfg os t = firstBelow (λ (o : ℕ). operationStops t (operationIn os o)) (cfg .operations .n)
@@ -62,7 +50,3 @@ operationStop cfg os t = firstBelow (λ (o : ℕ). operationStops t (operationIn
 -- the first such timer, or how many there are ("The eighteen steps", Wait)
 unfoldable pub timerStop : Config → Timers → ℕ → ℕ
 timerStop cfg ts t = firstBelow (λ (k : ℕ). timerStops t (timerIn ts k)) (cfg .timers .n)
-
--- the first such runnable, or how many there are ("The eighteen steps", Wait)
-unfoldable pub runnableStop : Config → Runnables → ℕ → ℕ
-runnableStop cfg rs t = firstBelow (λ (r : ℕ). runnableStops t (runnableIn rs r)) (cfg .runnables .n)

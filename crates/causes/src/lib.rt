@@ -3,7 +3,7 @@ ghost use mathlib.Core.Path.{_≡_};
 ghost use lib.ListN.{getD};
 ghost use Rattle.config.specs.Tables.{runnableConfIn};
 ghost use Rattle.state.specs.Tables.{runnableIn};
-ghost use Rattle.causes.specs.Passing.{least, operationLeft, runnableLeft, operationsPass, timersPass, runnablesPass, passesOf, operationStops, timerStops, runnableStops, operationStop, timerStop, runnableStop};
+ghost use Rattle.causes.specs.Passing.{least, operationLeft, operationsPass, timersPass, passesOf, operationStops, timerStops, operationStop, timerStop};
 ghost use Rattle.causes.specs.Causes.{formCause, slotCause, codeCause, thereCause, ownCause, waitsElse, lifeCause, holdsOf, holderOf, topCause, fullCause, servesAs, bearerOf, borneCause, openCause, dueCause, spawnCause, stopCause, earlyCause, stillCause, owedCause, whyOf, claimCause, causeOf};
 ghost use Rattle.causes.specs.Allowed.{sampleOf, probeOf, allowedOf};
 use config::AreaConfs;
@@ -15,7 +15,6 @@ use state::Operation;
 use state::Operations;
 use state::Owed;
 use state::Runnable;
-use state::Runnables;
 use state::Slots;
 use state::Stack;
 use state::State;
@@ -68,7 +67,7 @@ pub enum Cause {
     NoRequest,
     // (12) all slots are in use
     NoRoom,
-    // (13) the count of this kind of part, by its tag, and of this number, lets no more ms pass than this
+    // (13) the count of this operation or timer, by its tag and number, lets no more ms pass than this
     Stops(u8, u8, u32),
     // (14) no call is open; the call, or the timer, has so many ms left
     NotOpen,
@@ -116,15 +115,6 @@ fn operation_left(t: u32, x: Operation) -> u32
     t
 }
 
-fn runnable_left(t: u32, x: Runnable) -> u32
-    ensures { λ r. ⌜ r ≡ runnableLeft t x ⌝ }
-{
-    if x.interval == 0 {
-        return t;
-    }
-    x.interval
-}
-
 fn operations_pass(cfg: Config, os: Operations, t: u32) -> u32
     ensures { λ r. ⌜ r ≡ operationsPass cfg os t ⌝ }
 {
@@ -154,34 +144,18 @@ fn timers_pass(cfg: Config, ts: Timers, t: u32) -> u32
     u
 }
 
-fn runnables_pass(cfg: Config, rs: Runnables, t: u32) -> u32
-    ensures { λ r. ⌜ r ≡ runnablesPass cfg rs t ⌝ }
-{
-    let confs = cfg.runnables;
-    let n = confs.n;
-    let mut u = t;
-    let mut r: u8 = 0;
-    while r < n {
-        u = less_of(u, runnable_left(t, rs.get(r)));
-        r = r + 1;
-    }
-    u
-}
-
-// How much of t milliseconds may pass: all of it, or as much as the least running count lets.
+// How much of t milliseconds may pass: all of it, or as much as the least count of an open call or a timer lets.
 pub fn passes(cfg: Config, st: State, t: u32) -> u32
     ensures { λ r. ⌜ r ≡ passesOf cfg st t ⌝ }
 {
     let os = st.operations;
     let ts = st.timers;
-    let rs = st.runnables;
     let a = operations_pass(cfg, os, t);
     let b = timers_pass(cfg, ts, t);
-    let c = runnables_pass(cfg, rs, t);
-    less_of(less_of(a, b), c)
+    less_of(a, b)
 }
 
-// Whether a count lets no more than t pass: that of an open call, of a timer, of a start interval that runs.
+// Whether a count lets no more than t pass: that of an open call, of a timer.
 fn operation_stops(t: u32, x: Operation) -> bool
     ensures { λ r. ⌜ r ≡ operationStops t x ⌝ }
 {
@@ -197,16 +171,7 @@ fn timer_stops(t: u32, x: Timer) -> bool
     x.count <= t
 }
 
-fn runnable_stops(t: u32, x: Runnable) -> bool
-    ensures { λ r. ⌜ r ≡ runnableStops t x ⌝ }
-{
-    if 0 < x.interval {
-        return x.interval <= t;
-    }
-    false
-}
-
-// The first operation whose count lets no more than t pass, or how many operations there are; and so for timers and runnables.
+// The first operation whose count lets no more than t pass, or how many operations there are; and so for timers.
 fn operation_stop(cfg: Config, os: Operations, t: u32) -> u8
     ensures { λ r. ⌜ r ≡ operationStop cfg os t ⌝ }
 {
@@ -230,21 +195,6 @@ fn timer_stop(cfg: Config, ts: Timers, t: u32) -> u8
     let mut k: u8 = 0;
     while k < n {
         if timer_stops(t, ts.get(k)) {
-            return k;
-        }
-        k = k + 1;
-    }
-    n
-}
-
-fn runnable_stop(cfg: Config, rs: Runnables, t: u32) -> u8
-    ensures { λ r. ⌜ r ≡ runnableStop cfg rs t ⌝ }
-{
-    let confs = cfg.runnables;
-    let n = confs.n;
-    let mut k: u8 = 0;
-    while k < n {
-        if runnable_stops(t, rs.get(k)) {
             return k;
         }
         k = k + 1;
@@ -504,13 +454,7 @@ fn stop_cause(cfg: Config, st: State, t: u32) -> Cause
         return Cause::Stops(numbers::TAG_OPERATION, o, t);
     }
     let ts = st.timers;
-    let k = timer_stop(cfg, ts, t);
-    let timers = cfg.timers;
-    if k < timers.n {
-        return Cause::Stops(numbers::TAG_TIMER, k, t);
-    }
-    let rs = st.runnables;
-    Cause::Stops(numbers::TAG_RUNNABLE, runnable_stop(cfg, rs, t), t)
+    Cause::Stops(numbers::TAG_TIMER, timer_stop(cfg, ts, t), t)
 }
 
 // 14: no call is open, or the count has not run out.

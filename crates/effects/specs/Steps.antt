@@ -443,10 +443,6 @@ operationLets t x = either (not (x .calling)) (leb t (x .count))
 unfoldable pub timerLets : ℕ → Timer → Bool
 timerLets t x = leb t (x .count)
 
--- a runnable lets t pass: its start interval has run out, or has t or more left ("The eighteen steps", Wait)
-unfoldable pub runnableLets : ℕ → Runnable → Bool
-runnableLets t x = either (eqb (x .interval) 0) (leb t (x .interval))
-
 -- every operation lets t pass ("The eighteen steps", Wait)
 unfoldable pub operationsLet : Config → Operations → ℕ → Bool
 operationsLet cfg os t = allBelow (λ (o : ℕ). operationLets t (operationIn os o)) (cfg .operations .n)
@@ -454,10 +450,6 @@ operationsLet cfg os t = allBelow (λ (o : ℕ). operationLets t (operationIn os
 -- every timer lets t pass ("The eighteen steps", Wait)
 unfoldable pub timersLet : Config → Timers → ℕ → Bool
 timersLet cfg ts t = allBelow (λ (k : ℕ). timerLets t (timerIn ts k)) (cfg .timers .n)
-
--- every runnable lets t pass ("The eighteen steps", Wait)
-unfoldable pub runnablesLet : Config → Runnables → ℕ → Bool
-runnablesLet cfg rs t = allBelow (λ (r : ℕ). runnableLets t (runnableIn rs r)) (cfg .runnables .n)
 
 -- an operation in a call has t less on its count, any other is the same ("The eighteen steps", Wait)
 unfoldable pub operationAfter : ℕ → Operation → Operation
@@ -467,7 +459,7 @@ operationAfter t x = pick (x .calling) (withCount x (x .count - t)) x
 abbrev pub timerAfter : ℕ → Timer → Timer
 timerAfter t x = record { count = x .count - t }
 
--- a runnable has t less on its start interval, and 0 is kept ("The eighteen steps", Wait)
+-- a runnable has t less on its start interval, which stops at 0 ("The eighteen steps", Wait; W-203)
 abbrev pub runnableAfter : ℕ → Runnable → Runnable
 runnableAfter t x = withInterval x (x .interval - t)
 
@@ -483,16 +475,16 @@ timersAfter cfg ts t = record { at = eachBelow (λ (k : ℕ) (x : Timer). timerA
 unfoldable pub runnablesAfter : Config → Runnables → ℕ → Runnables
 runnablesAfter cfg rs t = record { at = eachBelow (λ (r : ℕ) (x : Runnable). runnableAfter t x) noRunnable (cfg .runnables .n) (rs .at) }
 
--- every running count lets t pass ("The eighteen steps", Wait)
+-- every open call and every timer lets t pass; no start interval holds it back ("The eighteen steps", Wait; W-203)
 unfoldable pub allLet : Config → State → ℕ → Bool
-allLet cfg st t = both (operationsLet cfg (st .operations) t) (both (timersLet cfg (st .timers) t) (runnablesLet cfg (st .runnables) t))
+allLet cfg st t = both (operationsLet cfg (st .operations) t) (timersLet cfg (st .timers) t)
 
 -- the state after t has passed ("The eighteen steps", Wait)
 unfoldable pub waited : Config → State → ℕ → State
 waited cfg st t =
     withRunnables (withTimers (withOperations st (operationsAfter cfg (st .operations) t)) (timersAfter cfg (st .timers) t)) (runnablesAfter cfg (st .runnables) t)
 
--- t passes if every running count lets it, else 13 ("The eighteen steps", Wait)
+-- t passes if every open call and every timer lets it, else 13 ("The eighteen steps", Wait; W-203)
 unfoldable pub waitOf : Config → State → ℕ → Stepped
 waitOf cfg st t = pick (allLet cfg st t) (took voidV (waited cfg st t)) (refused tooFar st)
 

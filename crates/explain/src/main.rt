@@ -97,9 +97,6 @@ fn focused(f: Focus, c: Cause) -> Focus {
             if tag == 0x17 {
                 g.timer = k;
             }
-            if tag == 0x10 {
-                g.runnable = k;
-            }
         }
         _ => {}
     }

@@ -321,15 +321,10 @@ fn put_left_of(out: &mut [u8], at: usize, tag: u8) -> usize {
             at,
             b" ms may pass here: so much is left to the timeout of the call of ",
         ),
-        0x17 => put(
-            out,
-            at,
-            b" ms may pass here: so much is left to the tick of ",
-        ),
         _ => put(
             out,
             at,
-            b" ms may pass here: so much is left of the start interval of ",
+            b" ms may pass here: so much is left to the tick of ",
         ),
     }
 }

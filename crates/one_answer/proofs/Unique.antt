@@ -499,6 +499,11 @@ board-lines-put-told κs a x y s t p q = written-once _ _ _ _ _ _ _ p q
 pub board-lines-put-history : Lent Rattle.board_lines.proofs.put_history.Kinds.ps Rattle.board_lines.proofs.put_history.Kinds.r Rattle.board_lines.proofs.put_history.Reads.Post (λ κs s. s .0 .now)
 board-lines-put-history κs a x y s t p q = written-once _ _ _ _ _ _ _ p q
 
+-- ---- merging
+
+pub merging-merge : Lent Rattle.merging.proofs.merge.Kinds.ps Rattle.merging.proofs.merge.Kinds.r Rattle.merging.proofs.merge.Reads.Post (λ κs s. s .1 .0 .now)
+merging-merge κs a x y s t p q = (same (p .0) (q .0), same (p .1) (q .1))
+
 -- ---- causes
 
 pub causes-passes : One Rattle.causes.proofs.passes.Kinds.ps Rattle.causes.proofs.passes.Kinds.r Rattle.causes.proofs.passes.Reads.Post

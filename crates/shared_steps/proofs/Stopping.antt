@@ -1,7 +1,6 @@
--- Loops over a table that stop at its last place: what stands past it changes nothing and holds nothing back. And what stands inside, whatever would stand past the end.
+-- Loops over a table that stop at its last place: what stands past it changes nothing. And what stands inside, whatever would stand past the end.
 -- Assumes nothing.
 use Prim.Native.Nat.{ℕ, zero, suc, _+_, _≤_, _<_}
-use mathlib.Core.Bool.{Bool, true}
 use mathlib.Core.List.{List}
 use mathlib.Core.Path.{_≡_, sym, _∙_, ap}
 use native.Mathlib.Decide.{ℕ-discrete, decLt}
@@ -10,14 +9,12 @@ use lib.Dec.{ltb}
 use lib.ListN.{length, getD, set}
 use lib.Seq.{set-out}
 use borrow.Author.Tests.{lt-ltb, le-ltb}
-use Rattle.laws.specs.Choice.{pick, both}
-use Rattle.laws.specs.Loop.{allBelow}
+use Rattle.laws.specs.Choice.{pick}
 use Rattle.laws.specs.Row.{eachBelow}
-use Rattle.laws.proofs.Choosing.{both-true}
 use Rattle.laws.proofs.Places.{inside, each-length, each-more}
 use Rattle.types.specs.Types.{Runnable, Runnables, Element, Elements}
-use Rattle.state.specs.Parts.{noRunnable, noElement}
-use Rattle.state.specs.Tables.{runnableIn, elementIn}
+use Rattle.state.specs.Parts.{noElement}
+use Rattle.state.specs.Tables.{elementIn}
 
 -- ---- a row that ends at m
 
@@ -37,23 +34,6 @@ each-within m f d n l e = go (decLt n m)
     go (yes b) = rw (lt-ltb n m b)
     go (no b) = let a : length l ≤ m = omega arith in rw (le-ltb n m (omega (arith, b))) (sym (each-past m f d n l a (omega (arith, b))))
 
--- places from m on that pass do not count
-all-past : (m : ℕ) (p : ℕ → Bool) (n : ℕ) → ((k : ℕ) → m ≤ k → p k ≡ true) → m ≤ n → allBelow p n ≡ allBelow p m
-unfolding allBelow
-all-past m p zero h b = let e : 0 ≡ m = omega arith in ap (allBelow p) e
-all-past m p (suc n) h b = go (ℕ-discrete m (suc n)) (λ c. all-past m p n h c)
-  where
-    go : Dec (m ≡ suc n) → (m ≤ n → allBelow p n ≡ allBelow p m) → both (allBelow p n) (p n) ≡ allBelow p m
-    go (yes e) rest = ap (allBelow p) (sym e)
-    go (no k) rest = let c : m ≤ n = omega (arith, k) in rw (h n c, ← both-true (allBelow p n), rest c)
-
-pub all-within : (m : ℕ) (p : ℕ → Bool) (n : ℕ) → ((k : ℕ) → m ≤ k → p k ≡ true) → allBelow p (pick (ltb n m) n m) ≡ allBelow p n
-all-within m p n h = go (decLt n m)
-  where
-    go : Dec (n < m) → allBelow p (pick (ltb n m) n m) ≡ allBelow p n
-    go (yes b) = rw (lt-ltb n m b)
-    go (no b) = rw (le-ltb n m (omega (arith, b))) (sym (all-past m p n h (omega (arith, b))))
-
 -- one place more, read whatever would stand past the end
 pub each-put : {A : Type 0} (f : ℕ → A → A) (d : A) (l : List A) (u : List A) (k : ℕ) (z : A) → length l ≡ 16 → k < 16 → u ≡ eachBelow f d k l → set u k (f k (getD u k z)) ≡ eachBelow f d (k + 1) l
 each-put f d l u k z e b q =
@@ -68,10 +48,6 @@ runnables-made h = rw (← h)
 
 pub elements-made : {u : Elements} {l : List Element} → u .at ≡ l → _≡_ {A = Elements} u (record { at = l })
 elements-made h = rw (← h)
-
-pub runnable-here : (t : Runnables) (i : ℕ) (d : Runnable) → length (t .at) ≡ 16 → i < 16 → getD (t .at) i d ≡ runnableIn t i
-unfolding runnableIn
-runnable-here t i d e l = inside (t .at) i 16 d noRunnable e l
 
 pub element-here : (t : Elements) (i : ℕ) (d : Element) → length (t .at) ≡ 16 → i < 16 → getD (t .at) i d ≡ elementIn t i
 unfolding elementIn

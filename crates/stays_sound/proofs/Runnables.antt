@@ -228,5 +228,5 @@ module _ (cfg : Config) (st : State) where
       runnables-each cfg (λ (r : ℕ) (x : Runnable). runnableAfter t x) (st .runnables)
       (λ r x b q. let k = sits-told cfg r x q in
       sits-made cfg r (runnableAfter t x)
-      (record { interval = le-leb (x .interval - t) _ (omega (arith, leb-true (x .interval) (runnableConfIn (cfg .runnables) r .interval) (k .interval))); alone = k .alone; pending = k .pending; requests = k .requests }))
+      (record { interval = le-leb (runnableAfter t x .interval) _ (omega (arith, leb-true (x .interval) (runnableConfIn (cfg .runnables) r .interval) (k .interval))); alone = k .alone; pending = k .pending; requests = k .requests }))
       (s .runnables)

@@ -18,7 +18,7 @@ use Rattle.state.specs.Tables.{maxSlots, runnableIn, elementIn, operationIn, sl
 use Rattle.rules.specs.Sound.{componentOf, clientsAs, waitersOf}
 use Rattle.rules.specs.Rows.{aSlot, scheduler, rows, rowOf}
 use Rattle.rules.specs.Refusals.{argues, formed, partThere, queuesAs, partOwn, asksSynchronous, finishedLets, failedLets, lifeLets, ownedRefusal, instanceRefusal, schedulerRefusal, refusalBy, refusalOf}
-use Rattle.effects.specs.Steps.{isTaken, onTop, isBare, isOpen, isBorne, isBusy, requestsFull, serves, hasFailed, handsNumber, holds, isOver, maySpawn, lowestEmpty, isUp, operationsLet, timersLet, allLet}
+use Rattle.effects.specs.Steps.{isTaken, onTop, isBare, isOpen, isBorne, isBusy, requestsFull, serves, hasFailed, handsNumber, holds, isOver, maySpawn, lowestEmpty, isUp, operationsLet, allLet}
 use Rattle.stays_sound.specs.Facts.{Acts, CanWriteVariable, CanEnter, CanExit, CanRead, CanFeed, CanInvalidate, CanReceive, CanCall, CanCollect, CanHandBack, CanEnd, CanSpawn, CanTimeout, CanTick, CanWait, CanFail}
 
 -- ---- refusals 2 to 5, and 2 and 3
@@ -213,9 +213,4 @@ module _ (cfg : Config) (st : State) (i k : ℕ) (v : Value) where
 pub says-wait : (cfg : Config) (st : State) (t : ℕ) → allLet cfg st t ≡ true → CanWait cfg st t
 unfolding allLet
 says-wait cfg st t e =
-    let r = both-right (operationsLet cfg (st .operations) t) _ e in
-    record {
-      operations = both-left (operationsLet cfg (st .operations) t) _ e;
-      timers = both-left (timersLet cfg (st .timers) t) _ r;
-      runnables = both-right (timersLet cfg (st .timers) t) _ r;
-    }
+    record { operations = both-left (operationsLet cfg (st .operations) t) _ e; timers = both-right (operationsLet cfg (st .operations) t) _ e }

@@ -12,7 +12,7 @@ use Rattle.entries.specs.Faults.{isQueued, configSound}
 use Rattle.state.specs.Tables.{maxSlots, runnableIn, areaIn, elementIn, operationIn, timerIn, slotIn}
 use Rattle.state.specs.Queues.{topArea}
 use Rattle.rules.specs.Sound.{componentOf, slotsOf, holders, clientsAs, waitersOf, shaped, runnablesSound, variablesSound, elementsSound, operationsSound, timersSound, slotsSound}
-use Rattle.effects.specs.Steps.{isTaken, isOpen, serves, hasFailed, handsNumber, isDue, lowestEmpty, operationsLet, timersLet, runnablesLet}
+use Rattle.effects.specs.Steps.{isTaken, isOpen, serves, hasFailed, handsNumber, isDue, lowestEmpty, operationsLet, timersLet}
 
 -- ---- the clauses over two tables and more, at every place
 
@@ -181,11 +181,10 @@ pub record CanTick (cfg : Config) (st : State) (t : ℕ) : Type 0 where
   pub inside : t < cfg .timers .n
   pub zero : timerIn (st .timers) t .count ≡ 0
 
--- every running count lets the time pass
+-- every open call and every timer lets the time pass
 pub record CanWait (cfg : Config) (st : State) (t : ℕ) : Type 0 where
   pub operations : operationsLet cfg (st .operations) t ≡ true
   pub timers : timersLet cfg (st .timers) t ≡ true
-  pub runnables : runnablesLet cfg (st .runnables) t ≡ true
 
 -- an instance that acts, and has not failed before
 pub record CanFail (st : State) (i : ℕ) : Type 0 where

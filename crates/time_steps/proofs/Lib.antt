@@ -1,2 +1,2 @@
--- Laws that the proofs of spawn and wait cite.
+-- Laws that the proof of spawn cites.
 pub mod Places

@@ -2,7 +2,7 @@
 ghost use mathlib.Core.Path.{_≡_};
 ghost use Prim.Native.Nat.{_-_};
 ghost use Rattle.laws.specs.Choice.{both};
-ghost use Rattle.effects.specs.Steps.{isDue, maySpawn, starting, fresh, instanceOf, foundEmpty, spawnOf, tickOf, operationLets, timerLets, runnableLets, operationsLet, timersLet, runnablesLet, operationAfter, timerAfter, runnableAfter, operationsAfter, timersAfter, runnablesAfter, waitOf};
+ghost use Rattle.effects.specs.Steps.{isDue, maySpawn, starting, fresh, instanceOf, foundEmpty, spawnOf, tickOf, operationLets, timerLets, operationsLet, timersLet, operationAfter, timerAfter, runnableAfter, operationsAfter, timersAfter, runnablesAfter, waitOf};
 use config::Config;
 use config::RunnableConf;
 use config::RunnableConfs;
@@ -164,17 +164,11 @@ pub fn tick(cfg: Config, st: State, t: u8) -> Stepped
 
 // ---- 18: wait
 
-// What lets t pass: each open call, each timer and each start interval that still runs has t or more left.
+// What lets t pass: each open call and each timer has t or more left. A start interval holds nothing back.
 fn operation_lets(t: u32, x: Operation) -> bool
     ensures { λ r. ⌜ r ≡ operationLets t x ⌝ }
 {
     !x.calling || t <= x.count
-}
-
-fn runnable_lets(t: u32, x: Runnable) -> bool
-    ensures { λ r. ⌜ r ≡ runnableLets t x ⌝ }
-{
-    x.interval == 0 || t <= x.interval
 }
 
 fn timer_lets(t: u32, x: Timer) -> bool
@@ -215,28 +209,10 @@ fn timers_let(cfg: Config, ts: Timers, t: u32) -> bool
     true
 }
 
-fn runnables_let(cfg: Config, rs: Runnables, t: u32) -> bool
-    ensures { λ r. ⌜ r ≡ runnablesLet cfg rs t ⌝ }
+fn all_let(cfg: Config, os: Operations, ts: Timers, t: u32) -> bool
+    ensures { λ r. ⌜ r ≡ both (operationsLet cfg os t) (timersLet cfg ts t) ⌝ }
 {
-    let confs = cfg.runnables;
-    let n = shared_steps::within(confs.n, RunnableConfs::MAX as u8);
-    let mut r: u8 = 0;
-    while r < n {
-        let k = r as usize;
-        let x = rs.at[k];
-        if runnable_lets(t, x) {
-            r = r + 1;
-        } else {
-            return false;
-        }
-    }
-    true
-}
-
-fn all_let(cfg: Config, os: Operations, ts: Timers, rs: Runnables, t: u32) -> bool
-    ensures { λ r. ⌜ r ≡ both (operationsLet cfg os t) (both (timersLet cfg ts t) (runnablesLet cfg rs t)) ⌝ }
-{
-    operations_let(cfg, os, t) && (timers_let(cfg, ts, t) && runnables_let(cfg, rs, t))
+    operations_let(cfg, os, t) && timers_let(cfg, ts, t)
 }
 
 // What is left of n after t has passed.
@@ -249,7 +225,7 @@ fn less(n: u32, t: u32) -> u32
     0
 }
 
-// Each of those has t less; an interval that had run out is at 0 as before.
+// Each of those has t less, and so has each start interval, which stops at 0.
 fn operation_after(t: u32, x: Operation) -> Operation
     ensures { λ r. ⌜ r ≡ operationAfter t x ⌝ }
 {
@@ -322,14 +298,14 @@ fn runnables_after(cfg: Config, rs: Runnables, t: u32) -> Runnables
     u
 }
 
-// Time passes if every running count lets it.
+// Time passes if every open call and every timer lets it.
 pub fn wait(cfg: Config, st: State, t: u32) -> Stepped
     ensures { λ r. ⌜ r ≡ waitOf cfg st t ⌝ }
 {
     let os = st.operations;
     let ts = st.timers;
     let rs = st.runnables;
-    if all_let(cfg, os, ts, rs, t) {
+    if all_let(cfg, os, ts, t) {
         let mut next = st;
         next.operations = operations_after(cfg, os, t);
         next.timers = timers_after(cfg, ts, t);

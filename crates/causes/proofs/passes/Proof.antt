@@ -1,6 +1,7 @@
 -- `causes::passes` meets its contract.
 -- Assumes nothing.
-use Rattle.causes.specs.Passing.{passesOf}
+use mathlib.Core.Path.{ap₂, _∙_}
+use Rattle.causes.specs.Passing.{least, passesOf}
 use borrow.Author.Needs.{needs}
 use Rattle.causes.proofs.passes.Statement.{statement}
 use Rattle.causes.proofs.passes.Tie as tie
@@ -11,18 +12,12 @@ operations-pass-requires c κs = search needs
 timers-pass-requires : tie.Need-timers-pass-requires
 timers-pass-requires c κs = search needs
 
-runnables-pass-requires : tie.Need-runnables-pass-requires
-runnables-pass-requires c κs = search needs
-
 less-of-requires : tie.Need-less-of-requires
 less-of-requires c κs = search needs
 
-less-of-requires-2 : tie.Need-less-of-requires-2
-less-of-requires-2 c κs = search needs
-
 returns : tie.Need-returns
 unfolding passesOf
-returns c = rw (c .less-of2 .ensures, c .before .less-of .ensures, c .before .before .before .before .operations-pass .ensures, c .before .before .before .timers-pass .ensures, c .before .before .runnables-pass .ensures)
+returns c = c .less-of .ensures ∙ ap₂ least (c .before .before .operations-pass .ensures) (c .before .timers-pass .ensures)
 
 pub passes-spec : {M : Type 1} → statement M
 passes-spec =
@@ -30,7 +25,5 @@ passes-spec =
     (tie.spec
     operations-pass-requires
     timers-pass-requires
-    runnables-pass-requires
     less-of-requires
-    less-of-requires-2
     returns)

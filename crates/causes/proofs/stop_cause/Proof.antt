@@ -18,22 +18,7 @@ timer-stop-requires c κs = search needs
 
 returns-2 : tie.Need-returns-2
 unfolding stopCause
-returns-2 c = rw (← c .before .before .before .before .before .before .before .before .operation-stop .ensures, le-ltb _ _ (c .before .before .before .before .before .if1 .left), ← c .before .before .before .timer-stop .ensures, lt-ltb _ _ (c .if2 .taken))
-
-runnable-stop-requires : tie.Need-runnable-stop-requires
-runnable-stop-requires c κs = search needs
-
-returns-3 : tie.Need-returns-3
-unfolding stopCause
-returns-3 c = rw (← c .before .before .before .before .before .before .before .before .before .before .operation-stop .ensures, le-ltb _ _ (c .before .before .before .before .before .before .before .if1 .left), ← c .before .before .before .before .before .timer-stop .ensures, le-ltb _ _ (c .before .before .if2 .left), ← c .runnable-stop .ensures)
+returns-2 c = rw (← c .before .before .before .before .before .operation-stop .ensures, le-ltb _ _ (c .before .before .if1 .left), ← c .timer-stop .ensures)
 
 pub stop-cause-spec : {M : Type 1} → statement M
-stop-cause-spec =
-    tie.close
-    (tie.spec
-    operation-stop-requires
-    returns
-    timer-stop-requires
-    returns-2
-    runnable-stop-requires
-    returns-3)
+stop-cause-spec = tie.close (tie.spec operation-stop-requires returns timer-stop-requires returns-2)

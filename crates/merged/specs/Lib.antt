@@ -1,0 +1,2 @@
+-- What merging waits promises (W-203).
+pub mod Claims

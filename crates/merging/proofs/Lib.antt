@@ -1,0 +1,3 @@
+-- Laws of waits, and what the two walks over a recording keep.
+pub mod Waits
+pub mod Walking
