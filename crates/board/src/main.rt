@@ -3,10 +3,10 @@
 ghost use Prim.Native.Nat.{_≤_};
 ghost use lib.ListN.{length};
 ghost use Rattle.program_io.specs.Got.{Fits};
+use posting::Board;
+use posting::Posted;
+use posting::Told;
 use program_io::Got;
-use showing::Board;
-use showing::Posted;
-use showing::Told;
 
 // The file that an argument names, read into buf.
 fn read_arg(i: usize, buf: &mut [u8]) -> Got

@@ -3,10 +3,10 @@
 ghost use lib.ListN.{length};
 ghost use Rattle.program_io.specs.Got.{Fits};
 use libc::STDIN_FILENO;
+use posting::Board;
+use posting::Posted;
+use posting::Told;
 use program_io::Got;
-use showing::Board;
-use showing::Posted;
-use showing::Told;
 
 // The number that stands next, or none at the end of the input.
 fn next_number() -> Got {

@@ -13,10 +13,10 @@ use borrow.Author.Tests.{lt-ltb, ltb-true, le-leb}
 use Rattle.laws.specs.Choice.{pick}
 use Rattle.wire.specs.Bytes.{wroteBytes, Written, build}
 use Rattle.wire.specs.declared.Wrote.{Wrote}
-use Rattle.writing.proofs.Pieces.{Put, put-same, put-more, build-one}
+use Rattle.wire.proofs.Pieces.{Put, put-same, put-more, build-one}
 use Rattle.lines.specs.Lines.{spelled, decimalOf, tailOf, lineBytes}
-use Rattle.showing.specs.declared.Board.{Board}
-use Rattle.showing.specs.Showing.{rowsOf, rowIn}
+use Rattle.posting.specs.declared.Board.{Board}
+use Rattle.posting.specs.Posting.{rowsOf, rowIn}
 use Rattle.board_lines.specs.Printed.{finalWord, historyWord, shownLine, historyLines}
 
 -- ---- how long a line is

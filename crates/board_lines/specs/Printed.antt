@@ -4,13 +4,13 @@ use Prim.Native.Nat.{ℕ}
 use mathlib.Core.List.{List, [], _∷_, _++_}
 use Rattle.wire.specs.Bytes.{build}
 use Rattle.lines.specs.Lines.{lineBytes}
-use Rattle.printing.specs.Printed.{refusedWord, configurationWord, tooLongWords}
-use Rattle.showing.specs.declared.Shown.{Shown}
-use Rattle.showing.specs.declared.Shown.the-variants.{Final, Wait, NoPlan, None, Unjudged}
-use Rattle.showing.specs.declared.Board.{Board}
-use Rattle.showing.specs.declared.Told.{Told}
-use Rattle.showing.specs.declared.Told.the-variants.{Line, Refused, Configuration, TooLong}
-use Rattle.showing.specs.Showing.{rowsOf, rowIn}
+use Rattle.lines.specs.Words.{refusedWord, configurationWord, tooLongWords}
+use Rattle.posting.specs.declared.Shown.{Shown}
+use Rattle.posting.specs.declared.Shown.the-variants.{Final, Wait, NoPlan, None, Unjudged}
+use Rattle.posting.specs.declared.Board.{Board}
+use Rattle.posting.specs.declared.Told.{Told}
+use Rattle.posting.specs.declared.Told.the-variants.{Line, Refused, Configuration, TooLong}
+use Rattle.posting.specs.Posting.{rowsOf, rowIn}
 
 -- the word FINAL (W-213)
 abbrev pub finalWord : List ℕ

@@ -5,9 +5,9 @@ ghost use lib.ListN.{length, take};
 ghost use Rattle.wire.specs.Bytes.{wroteBytes, Written};
 ghost use Rattle.board_lines.specs.Printed.{shownLine, toldLine, historyLines};
 use libc::STDOUT_FILENO;
-use showing::Board;
-use showing::Shown;
-use showing::Told;
+use posting::Board;
+use posting::Shown;
+use posting::Told;
 use wire::Wrote;
 
 // A line of the board, written from a place on; it has no more than 17 bytes. Where it does not fit: 27, and the buffer stays as it is.

@@ -1,4 +1,3 @@
--- Laws that the proofs of the causes cite, and the theorems of this crate.
-pub mod Passing
+-- The theorems of this crate.
 pub mod Numbers
 pub mod Asked

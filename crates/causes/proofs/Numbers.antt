@@ -23,10 +23,11 @@ use Rattle.effects.specs.Step.{possibleOf, onAnswer, claimedOf, innerOf, stepOf
 use Rattle.effects.proofs.Codes.{never}
 use Rattle.stays_sound.proofs.Ways.{Barred, shared, enterTaken, exitOther, callBorne, callFull, collectOpen, answerNumber, answerNone, endServing, endHolding, spawnNeed, spawnFull, timeoutEarly, tickEarly, waitFar, Went, bars, goes, went}
 use Rattle.stays_sound.proofs.Refusals.{refused-same}
-use Rattle.causes.specs.declared.Cause.{Cause}
-use Rattle.causes.specs.declared.Cause.the-variants.{NoCause, Differs}
-use Rattle.causes.specs.Passing.{passesOf, operationStop}
-use Rattle.causes.specs.Causes.{causeRefusal, formCause, slotCause, codeCause, thereCause, ownCause, waitsElse, lifeCause, topCause, stillCause, fullCause, bearerOf, borneCause, openCause, dueCause, spawnCause, stopCause, earlyCause, owedCause, whyOf, claimCause, causeOf}
+use Rattle.whys.specs.declared.Cause.{Cause}
+use Rattle.whys.specs.declared.Cause.the-variants.{NoCause, Differs}
+use Rattle.passing.specs.Passing.{passesOf, operationStop}
+use Rattle.whys.specs.Whys.{causeRefusal, formCause, slotCause, codeCause, thereCause, ownCause, waitsElse, lifeCause, topCause, stillCause, fullCause, bearerOf, borneCause, openCause, dueCause, spawnCause, stopCause, earlyCause, owedCause, whyOf}
+use Rattle.causes.specs.Causes.{claimCause, causeOf}
 
 -- ---- each number's causes have that number
 

@@ -1,4 +1,3 @@
--- Why a step is refused, finer than its number; how far time may go; what is allowed in a state.
+-- The cause of a refusal, and what is allowed in a state.
 pub mod Causes
-pub mod Passing
 pub mod Allowed

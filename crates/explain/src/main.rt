@@ -13,7 +13,6 @@ mod words;
 
 ghost use lib.ListN.{length};
 ghost use Rattle.program_io.specs.Got.{Fits};
-use causes::Cause;
 use config::Config;
 use judging::Line;
 use program_io::Got;
@@ -29,6 +28,7 @@ use table::Walk;
 use table::Widths;
 use values::Step;
 use values::Value;
+use whys::Cause;
 
 // What the call asks for.
 struct Asked {

@@ -15,9 +15,9 @@ use crate::table::width_of;
 use crate::words::is_slots;
 use crate::words::put_part;
 use crate::words::put_slot;
-use causes::Cause;
 use state::State;
 use values::Step;
+use whys::Cause;
 
 // The page up to its table.
 pub(crate) fn show_top() {

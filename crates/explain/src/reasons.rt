@@ -8,9 +8,9 @@ use crate::words::put_part;
 use crate::words::put_slot;
 use crate::words::put_value;
 use crate::words::put_who;
-use causes::Cause;
 use values::Step;
 use values::Value;
+use whys::Cause;
 
 // What a rule is about, in a few words.
 pub(crate) fn put_rule(out: &mut [u8], at: usize, k: u8) -> usize {

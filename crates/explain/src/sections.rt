@@ -187,7 +187,7 @@ fn show_scheduler(cfg: Config, st: State, names: &[u8]) {
     at = put_code(&mut line, at, cfg, st, names, 15, 0);
     at = put_code(&mut line, at, cfg, st, names, 16, 0);
     at = put_code(&mut line, at, cfg, st, names, 17, 0);
-    at = put_wait(&mut line, at, causes::passes(cfg, st, 4294967295));
+    at = put_wait(&mut line, at, passing::passes(cfg, st, 4294967295));
     at = end_options(&mut line, from, at);
     show(&line, at);
 }

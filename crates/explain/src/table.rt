@@ -16,12 +16,12 @@ use crate::words::put_deed;
 use crate::words::put_part;
 use crate::words::put_slot;
 use crate::words::put_value;
-use causes::Cause;
 use config::Config;
 use recording::Field;
 use state::State;
 use values::Step;
 use values::Value;
+use whys::Cause;
 
 // How wide each column is; 0 for one that is not shown.
 pub struct Widths {

@@ -30,8 +30,9 @@ use Rattle.judging.specs.Judging.{judgeFrom, judgeOf}
 use Rattle.gaps.specs.declared.Mended.the-variants.{Whole, Refused as NotMended}
 use Rattle.gaps.specs.Report.{fitted, stepNotes, turnNotes, noteCount, surveyOf, mendTo}
 use Rattle.gaps.proofs.Same.{turns-once, survey-once}
-use Rattle.showing.specs.declared.Shown.the-variants.{Final, Wait, Unjudged}
-use Rattle.showing.specs.Showing.{isUnplanned, doneShown, operationShown, judgedShown}
+use Rattle.posting.specs.declared.Shown.the-variants.{Final, Wait, Unjudged}
+use Rattle.posting.specs.Posting.{isUnplanned, doneShown, operationShown}
+use Rattle.showing.specs.Showing.{judgedShown}
 
 -- ---- the configuration: a client, a server of which several instances may run, and an asynchronous operation of the one on the other
 

@@ -16,7 +16,7 @@ use Rattle.laws.specs.Choice.{pick}
 use Rattle.wire.specs.Bytes.{putAt, Written}
 use Rattle.wire.specs.declared.Wrote.{Wrote}
 use Rattle.wire.specs.declared.Wrote.the-variants.{To, Refused}
-use Rattle.writing.proofs.Pieces.{Put, put-same, put-more, short-written}
+use Rattle.wire.proofs.Pieces.{Put, put-same, put-more, short-written}
 use Rattle.lines.specs.Lines.{spelled, decimalOf, numberBytes, tailOf, lineBytes}
 
 -- ---- digits

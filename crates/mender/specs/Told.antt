@@ -13,7 +13,7 @@ use Rattle.reading.specs.declared.Outcome.the-variants.{Whole as Read, Refused 
 use Rattle.reading.specs.Reading.{configOf}
 use Rattle.judging.specs.Line.{maxConfig, maxRecording}
 use Rattle.lines.specs.Lines.{lineBytes}
-use Rattle.printing.specs.Printed.{refusedWord, configurationWord, tooLongWords}
+use Rattle.lines.specs.Words.{refusedWord, configurationWord, tooLongWords}
 use Rattle.gaps.specs.declared.Mended.{Mended}
 use Rattle.gaps.specs.declared.Mended.the-variants.{Whole, Refused}
 use Rattle.gaps.specs.Report.{mendTo, mendWritten, mendReported}

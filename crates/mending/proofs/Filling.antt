@@ -25,8 +25,9 @@ use Rattle.gaps.proofs.Reported.{notes-length, notes-one}
 use Rattle.gaps.proofs.Turns.{answered-length}
 use Rattle.gaps.proofs.Answers.{spawn, timeout, tick, answered-recorded}
 use Rattle.mending.specs.declared.Picks.{Picks}
-use Rattle.mending.specs.Going.{Counted, mostOf, choiceAt, picksOf, Fillable, crossedOf, picked, restOf, takenAll, claimingOf, fieldsOf, noteOf, Room}
-use Rattle.mending.proofs.Searching.{Passed}
+use Rattle.searching.specs.Search.{Counted, choiceAt, claimingOf}
+use Rattle.mending.specs.Going.{mostOf, picksOf, Fillable, crossedOf, picked, restOf, takenAll, fieldsOf, noteOf, Room}
+use Rattle.searching.proofs.Searching.{Passed}
 use Rattle.mending.proofs.Ranking.{picks-are, picked-none, picked-rest, length-picked, taken-none, taken-next}
 use Rattle.mending.proofs.Walking.{most-is}
 use Rattle.mending.proofs.Putting.{put-none, length-put, put-more, wrote-fits, step-fits, length-fields, fields-append, fields-one}

@@ -1,6 +1,4 @@
--- What the functions of mending cite: choices by number, sequences by rank, the search.
-pub mod Counting
-pub mod Searching
+-- What the functions of mending cite: sequences by rank, the walk over a recording, what is written.
 pub mod Ranking
 pub mod Walking
 pub mod Putting

@@ -1,7 +1,6 @@
--- Sequences by their rank: what the search passes over in all, and the choices of the sequence that stands at a rank.
+-- Sequences by their rank: the choices of the sequence that stands at a rank.
 -- Assumes nothing.
 use Prim.Native.Nat.{ℕ, zero, suc, _+_, _-_, _*_, _/_, _%_, _≤_, _<_}
-use mathlib.Core.Bool.{Bool}
 use mathlib.Core.List.{List, [], _∷_, _++_, map}
 use mathlib.Core.Path.{_≡_, refl, sym, ap, ap₂, _∙_}
 use native.Mathlib.Nat.{not-suc-le-zero, one-le-mul, div-add-mod', mod-lt, div-lt-iff-lt-mul}
@@ -13,46 +12,14 @@ use borrow.Author.Tests.{lt-ltb, le-ltb}
 use Rattle.types.specs.Types.{Step, Config, State, Stepped}
 use Rattle.effects.specs.Step.{possibleOf}
 use Rattle.gaps.specs.declared.Choices.{Choices}
-use Rattle.gaps.specs.Orders.{passedOver, behind, sequences, upToThree}
+use Rattle.gaps.specs.Orders.{behind, sequences, upToThree}
 use Rattle.gaps.specs.Gaps.{choicesIn}
-use Rattle.gaps.proofs.Ordered.{passed-front, passed-behind, length-one, length-two}
+use Rattle.gaps.proofs.Ordered.{length-one, length-two}
 use Rattle.gaps.proofs.Members.{length-choices}
-use Rattle.mending.specs.Going.{Counted, choiceAt, sizeOf, mostOf, picks, picksOf, restOf, picked, takenAll}
+use Rattle.searching.specs.Search.{Counted, choiceAt, sizeOf}
+use Rattle.searching.proofs.Counting.{some-of, at-second, choice-is, size-is}
+use Rattle.mending.specs.Going.{mostOf, picks, picksOf, restOf, picked, takenAll}
 use Rattle.mending.specs.declared.Picks.{Picks}
-use Rattle.mending.proofs.Counting.{some-of, at-second, choice-is, size-is}
-
--- ---- four lists behind each other
-
-module _ {A : Type 0} (p : A → Bool) (l m : List A) {a n : ℕ} (passed : a ≡ passedOver p l) (size : n ≡ length l) where
-  in-first : a < n → passedOver p (l ++ m) ≡ a
-  in-first h = passed-front p l m (omega arith) ∙ sym passed
-
-  in-second : n ≤ a → {b : ℕ} → b ≡ passedOver p m → passedOver p (l ++ m) ≡ n + b
-  in-second h {b} q = passed-behind p l m (omega arith) ∙ omega arith
-
-module _ (p : List Step → Bool) (xs : List Step) {a none : ℕ}
-    (first : a ≡ passedOver p (sequences xs 0)) (nones : none ≡ length (sequences xs 0)) where
-  pub rank-none : a < none → a ≡ passedOver p (upToThree xs)
-  unfolding upToThree
-  rank-none h = sym (in-first p (sequences xs 0) _ first nones h)
-
-  module _ {b one : ℕ} (past : none ≤ a) (second : b ≡ passedOver p (sequences xs 1)) (ones : one ≡ length (sequences xs 1)) where
-    pub rank-one : b < one → none + b ≡ passedOver p (upToThree xs)
-    unfolding upToThree
-    rank-one h = sym (in-second p (sequences xs 0) _ first nones past (sym (in-first p (sequences xs 1) _ second ones h)))
-
-    module _ {c two : ℕ} (beyond : one ≤ b) (third : c ≡ passedOver p (sequences xs 2)) (twos : two ≡ length (sequences xs 2)) where
-      pub rank-two : c < two → none + (one + c) ≡ passedOver p (upToThree xs)
-      unfolding upToThree
-      rank-two h =
-          sym (in-second p (sequences xs 0) _ first nones past
-          (sym (in-second p (sequences xs 1) _ second ones beyond (sym (in-first p (sequences xs 2) (sequences xs 3) third twos h)))))
-
-      pub rank-three : {d : ℕ} → two ≤ c → d ≡ passedOver p (sequences xs 3) → none + (one + (two + d)) ≡ passedOver p (upToThree xs)
-      unfolding upToThree
-      rank-three h q =
-          sym (in-second p (sequences xs 0) _ first nones past
-          (sym (in-second p (sequences xs 1) _ second ones beyond (sym (in-second p (sequences xs 2) (sequences xs 3) third twos h q)))))
 
 -- ---- the sequence at a place
 

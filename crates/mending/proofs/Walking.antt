@@ -33,9 +33,10 @@ use Rattle.gaps.proofs.Turns.{bare, turns-on, turns-off, answered-length, rank-
 use Rattle.gaps.proofs.Same.{answered-is}
 use Rattle.gaps.proofs.Reported.{mended-one, counted-one}
 use Rattle.mending.specs.declared.Picks.{Picks}
-use Rattle.mending.specs.Going.{Counted, mostOf, picksOf, picked, takenAll}
+use Rattle.searching.specs.Search.{Counted}
+use Rattle.mending.specs.Going.{mostOf, picksOf, picked, takenAll}
 use Rattle.mending.proofs.Ranking.{picks-are, length-picked}
-use Rattle.mending.proofs.Searching.{Passed}
+use Rattle.searching.proofs.Searching.{Passed}
 
 -- ---- what holds before a field
 

@@ -1,17 +1,16 @@
-// Mending: the scheduler's steps that a recorder lost, looked for in order and put back.
+// Mending: the scheduler's steps that a recorder lost, put back as the search finds them.
 ghost use mathlib.Core.Path.{_≡_};
-ghost use Prim.Native.Nat.{_+_, _-_, _*_, _%_, _≤_};
+ghost use Prim.Native.Nat.{_+_, _*_, _≤_};
 ghost use lib.Dec.{leb};
-ghost use lib.ListN.{length, drop};
+ghost use lib.ListN.{length};
 ghost use Rattle.laws.specs.Choice.{both};
 ghost use Rattle.wire.specs.Bytes.{putAt, Written};
 ghost use Rattle.recording.specs.Whole.{stepsIn, textOf};
 ghost use Rattle.effects.specs.Step.{innerOf};
-ghost use Rattle.gaps.specs.Orders.{passedOver, behind, sequences, upToThree};
-ghost use Rattle.gaps.specs.Gaps.{choice, countsOf, choicesIn, fills, answeredAll, turnOf, turnSteps, turnsOf, mendedSteps};
+ghost use Rattle.gaps.specs.Gaps.{answeredAll, turnOf, turnSteps, turnsOf, mendedSteps};
 ghost use Rattle.gaps.specs.Report.{onMended, stepNotes, turnNotes, reportFrom, onLast, surveyOf, fitted, mendTo, mendWritten, mendReported};
 ghost use Rattle.gaps.specs.declared.Mended.the-variants.{Whole};
-ghost use Rattle.mending.specs.Going.{countIn, Counted, claimedOf, claimingOf, fieldsOf, noteOf, Room, Fillable, Mendable, crossedOf, choiceAt, sizeOf, mostOf, picks, picksOf, picked, takenAll};
+ghost use Rattle.mending.specs.Going.{fieldsOf, noteOf, Room, Fillable, Mendable, crossedOf, mostOf, picks, picksOf, picked, takenAll};
 use config::Config;
 use gaps::Choices;
 use gaps::Mended;
@@ -47,128 +46,6 @@ impl Picks {
             third,
         }
     }
-}
-
-// How many parts a configuration has to spawn, to time out and to tick.
-fn choices_of(cfg: Config) -> Choices
-    ensures { λ r. ⌜ r ≡ countsOf cfg ⌝ }
-{
-    let runnables = cfg.runnables;
-    let operations = cfg.operations;
-    let timers = cfg.timers;
-    Choices {
-        spawns: runnables.n,
-        timeouts: operations.n,
-        ticks: timers.n,
-    }
-}
-
-fn count_of(all: Choices) -> usize
-    ensures { λ r. ⌜ Counted all r ⌝ }
-{
-    all.spawns as usize + all.timeouts as usize + all.ticks as usize
-}
-
-// A step of the scheduler that may have been lost.
-fn choice(code: u8, k: usize) -> Step
-    ensures { λ r. ⌜ r ≡ choice code (k % 256) ⌝ }
-{
-    Step {
-        code: code,
-        who: 0,
-        what: (k % 256) as u8,
-        argument: Value::VOID,
-        claim: Value::VOID,
-    }
-}
-
-// The choice with the number k: spawns first, then timeouts, then ticks.
-fn choice_at(all: Choices, k: usize) -> Step
-    ensures { λ r. ⌜ r ≡ choiceAt all k ⌝ }
-{
-    let spawns = all.spawns as usize;
-    let both = spawns + all.timeouts as usize;
-    if k < spawns {
-        return choice(numbers::CODE_SPAWN, k);
-    }
-    if k < both {
-        return choice(numbers::CODE_TIMEOUT, k - spawns);
-    }
-    choice(numbers::CODE_TICK, k - both)
-}
-
-// How many sequences of n choices there are, of k to choose from.
-fn size_of(k: usize, n: u8) -> usize
-    requires { ⌜ k ≤ 765 ⌝ }
-    ensures { λ r. ⌜ (r ≡ sizeOf k n) × (r ≤ 447697125) × (n ≤ 2 → r ≤ 585225) ⌝ }
-{
-    match n {
-        0 => 1,
-        1 => k,
-        2 => k * k,
-        _ => k * (k * k),
-    }
-}
-
-// What is passed over of all sequences of n choices, before the first that fills the gap before s: all of them if none does.
-fn stepper(cfg: Config, st: State, s: Step, all: Choices, n: u8) -> usize
-    requires { ⌜ n ≤ 3 ⌝ }
-    ensures { λ r. ⌜ (r ≡ passedOver (fills (innerOf cfg) cfg st s) (sequences (choicesIn all) n)) × (r ≤ 447697125) ⌝ }
-{
-    if n == 0 {
-        let r = machine::inner(cfg, st, s);
-        let a = r.answer;
-        return match a {
-            Answer::Taken(_) => 0,
-            Answer::Refused(_) => 1,
-        };
-    }
-    chooser(cfg, st, s, all, n - 1, count_of(all))
-}
-
-// The same of the sequences that begin with one of the last `left` choices and go on with n others. A choice that is refused passes over all that stands behind it.
-fn chooser(cfg: Config, st: State, s: Step, all: Choices, n: u8, left: usize) -> usize
-    requires { ⌜ (n ≤ 2) × (left ≤ countIn all) ⌝ }
-    ensures { λ r. ⌜ (r ≡ passedOver (fills (innerOf cfg) cfg st s) (behind (drop (countIn all - left) (choicesIn all)) (sequences (choicesIn all) n))) × (r ≤ left * 585225) ⌝ }
-{
-    if left == 0 {
-        return 0;
-    }
-    let k = count_of(all);
-    let size = size_of(k, n);
-    let r = machine::possible(cfg, st, choice_at(all, k - left));
-    let a = r.answer;
-    if let Answer::Taken(_) = a {
-        let next = r.state;
-        let p = stepper(cfg, next, s, all, n);
-        if p < size {
-            return p;
-        }
-    }
-    size + chooser(cfg, st, s, all, n, left - 1)
-}
-
-// What is passed over of all sequences of at most three choices, shorter first, before the first that fills the gap before s: all of them if none does.
-fn rank(cfg: Config, st: State, s: Step, all: Choices) -> usize
-    ensures { λ r. ⌜ (r ≡ passedOver (fills (innerOf cfg) cfg st s) (upToThree (choicesIn all))) × (r ≤ 450000000) ⌝ }
-{
-    let k = count_of(all);
-    let a = stepper(cfg, st, s, all, 0);
-    let none = size_of(k, 0);
-    if a < none {
-        return a;
-    }
-    let b = stepper(cfg, st, s, all, 1);
-    let one = size_of(k, 1);
-    if b < one {
-        return none + b;
-    }
-    let c = stepper(cfg, st, s, all, 2);
-    let two = size_of(k, 2);
-    if c < two {
-        return none + (one + c);
-    }
-    none + (one + (two + stepper(cfg, st, s, all, 3)))
 }
 
 // How many sequences of at most three choices there are, of k to choose from.
@@ -212,7 +89,7 @@ fn taken_all(cfg: Config, st: State, all: Choices, fill: Picks) -> State
     let mut reached = st;
     let mut left = fill;
     while left.length > 0 {
-        let r = machine::possible(cfg, reached, choice_at(all, left.first));
+        let r = machine::possible(cfg, reached, searching::choice_at(all, left.first));
         reached = r.state;
         left = Picks::of(left.length - 1, left.second, left.third, 0);
     }
@@ -235,8 +112,8 @@ fn ended(f: Field, count: usize, steps: usize, notes: usize) -> Mended
 fn survey(cfg: Config, st: State, s: &[u8]) -> Mended
     ensures { λ r. ⌜ r ≡ surveyOf (innerOf cfg) cfg st (now (s .entry)) ⌝ }
 {
-    let all = choices_of(cfg);
-    let k = count_of(all);
+    let all = searching::choices_of(cfg);
+    let k = searching::count_of(all);
     let most = most_of(k);
     let mut reached = st;
     let mut count: usize = 0;
@@ -258,7 +135,7 @@ fn survey(cfg: Config, st: State, s: &[u8]) -> Mended
                 at = at + size;
             }
             Answer::Refused(_) => {
-                let passed = rank(cfg, reached, x, all);
+                let passed = searching::rank(cfg, reached, x, all);
                 if most <= passed {
                     return Mended::Refused(count + 1, numbers::NO_FILL);
                 }
@@ -274,24 +151,6 @@ fn survey(cfg: Config, st: State, s: &[u8]) -> Mended
             }
         }
     }
-}
-
-// A choice as it is inserted: its answer is its claim.
-fn claiming(x: Step, a: Answer) -> Step
-    ensures { λ r. ⌜ r ≡ claimingOf x a ⌝ }
-{
-    match a {
-        Answer::Taken(v) => claimed(x, v),
-        Answer::Refused(_) => claimed(x, Value::VOID),
-    }
-}
-
-fn claimed(x: Step, v: Value) -> Step
-    ensures { λ r. ⌜ r ≡ claimedOf x v ⌝ }
-{
-    let mut y = x;
-    y.claim = v;
-    y
 }
 
 // A note of the report written from a place on.
@@ -349,10 +208,10 @@ fn write_fill(
     let mut left = fill;
     let mut done: usize = 0;
     while left.length > 0 {
-        let x = choice_at(all, left.first);
+        let x = searching::choice_at(all, left.first);
         let r = machine::possible(cfg, reached, x);
         let a = r.answer;
-        let y = claiming(x, a);
+        let y = searching::claiming(x, a);
         recording::write_step(out, (n + done) * 16, y);
         write_note(
             report,
@@ -386,8 +245,8 @@ fn write_gap(
     ensures { λ r. ⌜ now (out .exit) ≡ putAt (now (out .entry)) (n * 16) (fieldsOf (turnSteps (turnOf (innerOf cfg) cfg st s))) ⌝ }
     ensures { λ r. ⌜ now (report .exit) ≡ putAt (now (report .entry)) (m * 16) (turnNotes n (turnOf (innerOf cfg) cfg st s)) ⌝ }
 {
-    let k = count_of(all);
-    let passed = rank(cfg, st, s, all);
+    let k = searching::count_of(all);
+    let passed = searching::rank(cfg, st, s, all);
     let fill = picks_of(k, passed);
     let next = write_fill(cfg, st, all, fill, out, n, report, m);
     let inserted = fill.length as usize;
@@ -411,7 +270,7 @@ fn write_all(cfg: Config, st: State, s: &[u8], out: &mut [u8], report: &mut [u8]
     ensures { λ r. ⌜ now (out .exit) ≡ putAt (now (out .entry)) 0 (textOf (mendedSteps (turnsOf (innerOf cfg) cfg st (stepsIn (now (s .entry)))))) ⌝ }
     ensures { λ r. ⌜ now (report .exit) ≡ putAt (now (report .entry)) 0 (reportFrom 0 (turnsOf (innerOf cfg) cfg st (stepsIn (now (s .entry))))) ⌝ }
 {
-    let all = choices_of(cfg);
+    let all = searching::choices_of(cfg);
     let mut reached = st;
     let mut steps: usize = 0;
     let mut notes: usize = 0;
@@ -468,7 +327,7 @@ fn mend_sound(cfg: Config, st: State, s: &[u8], out: &mut [u8], report: &mut [u8
     };
     if has_room(steps, notes, out.len(), report.len()) {
         if notes == 0 {
-            recording::rewrite(s, out);
+            copying::rewrite(s, out);
             return r;
         }
         write_all(cfg, st, s, out, report);

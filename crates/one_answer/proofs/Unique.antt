@@ -293,14 +293,14 @@ recording-write-step κs a x y s t p q = (same (p .0) (q .0), same (p .1) (q .1)
 pub recording-write-end : Lent Rattle.recording.proofs.write_end.Kinds.ps Rattle.recording.proofs.write_end.Kinds.r Rattle.recording.proofs.write_end.Reads.Post (λ κs s. s .0 .now)
 recording-write-end κs a x y s t p q = written-once _ _ _ _ _ _ _ p q
 
-pub recording-is-sound : One Rattle.recording.proofs.is_sound.Kinds.ps Rattle.recording.proofs.is_sound.Kinds.r Rattle.recording.proofs.is_sound.Reads.Post
-recording-is-sound κs a x y s t = same
+pub copying-is-sound : One Rattle.copying.proofs.is_sound.Kinds.ps Rattle.copying.proofs.is_sound.Kinds.r Rattle.copying.proofs.is_sound.Reads.Post
+copying-is-sound κs a x y s t = same
 
-pub recording-rewrite : Lent Rattle.recording.proofs.rewrite.Kinds.ps Rattle.recording.proofs.rewrite.Kinds.r Rattle.recording.proofs.rewrite.Reads.Post (λ κs s. s .1 .0 .now)
-recording-rewrite κs a x y s t p q = (same (p .0) (q .0), same (p .1) (q .1))
+pub copying-rewrite : Lent Rattle.copying.proofs.rewrite.Kinds.ps Rattle.copying.proofs.rewrite.Kinds.r Rattle.copying.proofs.rewrite.Reads.Post (λ κs s. s .1 .0 .now)
+copying-rewrite κs a x y s t p q = (same (p .0) (q .0), same (p .1) (q .1))
 
-pub recording-write-and-read : Lent Rattle.recording.proofs.write_and_read.Kinds.ps Rattle.recording.proofs.write_and_read.Kinds.r Rattle.recording.proofs.write_and_read.Reads.Post (λ κs s. s .0 .now)
-recording-write-and-read κs a x y s t p q = (same (p .0) (q .0), same (p .1) (q .1))
+pub copying-write-and-read : Lent Rattle.copying.proofs.write_and_read.Kinds.ps Rattle.copying.proofs.write_and_read.Kinds.r Rattle.copying.proofs.write_and_read.Reads.Post (λ κs s. s .0 .now)
+copying-write-and-read κs a x y s t p q = (same (p .0) (q .0), same (p .1) (q .1))
 
 -- ---- reading
 
@@ -451,6 +451,23 @@ judging-line-of κs a x y s t = same
 pub printing-put-printed : Lent Rattle.printing.proofs.put_printed.Kinds.ps Rattle.printing.proofs.put_printed.Kinds.r Rattle.printing.proofs.put_printed.Reads.Post (λ κs s. s .0 .now)
 printing-put-printed κs a x y s t p q = written-once _ _ _ _ _ _ _ p q
 
+-- ---- searching
+
+pub searching-choices-of : One Rattle.searching.proofs.choices_of.Kinds.ps Rattle.searching.proofs.choices_of.Kinds.r Rattle.searching.proofs.choices_of.Reads.Post
+searching-choices-of κs a x y s t = same
+
+pub searching-count-of : One Rattle.searching.proofs.count_of.Kinds.ps Rattle.searching.proofs.count_of.Kinds.r Rattle.searching.proofs.count_of.Reads.Post
+searching-count-of κs a x y s t p q = same (p .is) (q .is)
+
+pub searching-choice-at : One Rattle.searching.proofs.choice_at.Kinds.ps Rattle.searching.proofs.choice_at.Kinds.r Rattle.searching.proofs.choice_at.Reads.Post
+searching-choice-at κs a x y s t = same
+
+pub searching-claiming : One Rattle.searching.proofs.claiming.Kinds.ps Rattle.searching.proofs.claiming.Kinds.r Rattle.searching.proofs.claiming.Reads.Post
+searching-claiming κs a x y s t = same
+
+pub searching-rank : One Rattle.searching.proofs.rank.Kinds.ps Rattle.searching.proofs.rank.Kinds.r Rattle.searching.proofs.rank.Reads.Post
+searching-rank κs a x y s t p q = same (p .0) (q .0)
+
 -- ---- mending
 
 pub mending-mend : Lent Rattle.mending.proofs.mend.Kinds.ps Rattle.mending.proofs.mend.Kinds.r Rattle.mending.proofs.mend.Reads.Post (λ κs s. s .1 .1 .1 .0 .now ++ s .1 .1 .1 .1 .0 .now)
@@ -470,19 +487,27 @@ mender-put-told κs a x y s t p q = written-once _ _ _ _ _ _ _ p q
 pub mender-size-of : One Rattle.mender.proofs.size_of.Kinds.ps Rattle.mender.proofs.size_of.Kinds.r Rattle.mender.proofs.size_of.Reads.Post
 mender-size-of κs a x y s t p q = same (p .0) (q .0)
 
+-- ---- posting
+
+pub posting-Board-none : One Rattle.posting.proofs.Board.none.Kinds.ps Rattle.posting.proofs.Board.none.Kinds.r Rattle.posting.proofs.Board.none.Reads.Post
+posting-Board-none κs a x y s t = same
+
+pub posting-Board-rows : One Rattle.posting.proofs.Board.rows.Kinds.ps Rattle.posting.proofs.Board.rows.Kinds.r Rattle.posting.proofs.Board.rows.Reads.Post
+posting-Board-rows κs a x y s t = same
+
+pub posting-Board-row : One Rattle.posting.proofs.Board.row.Kinds.ps Rattle.posting.proofs.Board.row.Kinds.r Rattle.posting.proofs.Board.row.Reads.Post
+posting-Board-row κs a x y s t = same
+
+pub posting-Board-post : One Rattle.posting.proofs.Board.post.Kinds.ps Rattle.posting.proofs.Board.post.Kinds.r Rattle.posting.proofs.Board.post.Reads.Post
+posting-Board-post κs a x y s t = same
+
+pub posting-leaves : One Rattle.posting.proofs.leaves.Kinds.ps Rattle.posting.proofs.leaves.Kinds.r Rattle.posting.proofs.leaves.Reads.Post
+posting-leaves κs a x y s t = same
+
+pub posting-operation-shown : One Rattle.posting.proofs.operation_shown.Kinds.ps Rattle.posting.proofs.operation_shown.Kinds.r Rattle.posting.proofs.operation_shown.Reads.Post
+posting-operation-shown κs a x y s t = same
+
 -- ---- showing
-
-pub showing-Board-none : One Rattle.showing.proofs.Board.none.Kinds.ps Rattle.showing.proofs.Board.none.Kinds.r Rattle.showing.proofs.Board.none.Reads.Post
-showing-Board-none κs a x y s t = same
-
-pub showing-Board-rows : One Rattle.showing.proofs.Board.rows.Kinds.ps Rattle.showing.proofs.Board.rows.Kinds.r Rattle.showing.proofs.Board.rows.Reads.Post
-showing-Board-rows κs a x y s t = same
-
-pub showing-Board-row : One Rattle.showing.proofs.Board.row.Kinds.ps Rattle.showing.proofs.Board.row.Kinds.r Rattle.showing.proofs.Board.row.Reads.Post
-showing-Board-row κs a x y s t = same
-
-pub showing-Board-post : One Rattle.showing.proofs.Board.post.Kinds.ps Rattle.showing.proofs.Board.post.Kinds.r Rattle.showing.proofs.Board.post.Reads.Post
-showing-Board-post κs a x y s t = same
 
 pub showing-show : One Rattle.showing.proofs.show.Kinds.ps Rattle.showing.proofs.show.Kinds.r Rattle.showing.proofs.show.Reads.Post
 showing-show κs a x y s t = same
@@ -504,10 +529,23 @@ board-lines-put-history κs a x y s t p q = written-once _ _ _ _ _ _ _ p q
 pub merging-merge : Lent Rattle.merging.proofs.merge.Kinds.ps Rattle.merging.proofs.merge.Kinds.r Rattle.merging.proofs.merge.Reads.Post (λ κs s. s .1 .0 .now)
 merging-merge κs a x y s t p q = (same (p .0) (q .0), same (p .1) (q .1))
 
--- ---- causes
+-- ---- passing
 
-pub causes-passes : One Rattle.causes.proofs.passes.Kinds.ps Rattle.causes.proofs.passes.Kinds.r Rattle.causes.proofs.passes.Reads.Post
-causes-passes κs a x y s t = same
+pub passing-passes : One Rattle.passing.proofs.passes.Kinds.ps Rattle.passing.proofs.passes.Kinds.r Rattle.passing.proofs.passes.Reads.Post
+passing-passes κs a x y s t = same
+
+pub passing-operation-stop : One Rattle.passing.proofs.operation_stop.Kinds.ps Rattle.passing.proofs.operation_stop.Kinds.r Rattle.passing.proofs.operation_stop.Reads.Post
+passing-operation-stop κs a x y s t = same
+
+pub passing-timer-stop : One Rattle.passing.proofs.timer_stop.Kinds.ps Rattle.passing.proofs.timer_stop.Kinds.r Rattle.passing.proofs.timer_stop.Reads.Post
+passing-timer-stop κs a x y s t = same
+
+-- ---- whys
+
+pub whys-why : One Rattle.whys.proofs.why.Kinds.ps Rattle.whys.proofs.why.Kinds.r Rattle.whys.proofs.why.Reads.Post
+whys-why κs a x y s t = same
+
+-- ---- causes
 
 pub causes-cause-of : One Rattle.causes.proofs.cause_of.Kinds.ps Rattle.causes.proofs.cause_of.Kinds.r Rattle.causes.proofs.cause_of.Reads.Post
 causes-cause-of κs a x y s t = same

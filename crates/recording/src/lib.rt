@@ -5,8 +5,7 @@ use wire::Wrote;
 ghost use mathlib.Core.Path.{_≡_};
 ghost use lib.ListN.{drop};
 ghost use Rattle.wire.specs.Bytes.{endBytes, Written};
-ghost use Rattle.recording.specs.Recording.{valuesGood, tested, stepIn, endIn, fieldOf, stepTo, stepWritten, writeAndReadOf};
-ghost use Rattle.recording.specs.Whole.{isSound, rewriteTo, rewriteWritten};
+ghost use Rattle.recording.specs.Recording.{valuesGood, tested, stepIn, endIn, fieldOf, stepTo, stepWritten};
 
 // What stands next in a recording: a step and the size of its field, the end, or a refusal: how many places past the field asked for it stands, and its number.
 pub enum Field {
@@ -143,64 +142,4 @@ pub fn write_end(buf: &mut [u8], at: usize) -> Wrote
     ensures { λ r. ⌜ Written (now (buf .entry)) at endBytes r (now (buf .exit)) ⌝ }
 {
     wire::write(buf, at, &[numbers::TAG_END, 0, 0])
-}
-
-// A text is a recording: step fields, then the end.
-pub fn is_sound(s: &[u8]) -> bool
-    ensures { λ r. ⌜ r ≡ isSound (now (s .entry)) ⌝ }
-{
-    let mut at: usize = 0;
-    loop {
-        match read_field(s, at) {
-            Field::Step(_, size) => {
-                at = at + size;
-            }
-            Field::End => {
-                return true;
-            }
-            Field::Refused(_, _) => {
-                return false;
-            }
-        }
-    }
-}
-
-// A recording read field by field and written again: 18 where it is none, then 27 where it does not fit.
-pub fn rewrite(s: &[u8], buf: &mut [u8]) -> Wrote
-    ensures { λ r. ⌜ r ≡ rewriteTo (now (s .entry)) (now (buf .entry)) ⌝ }
-    ensures { λ r. ⌜ now (buf .exit) ≡ rewriteWritten (now (s .entry)) (now (buf .entry)) ⌝ }
-{
-    if is_sound(s) {
-        if buf.len() < s.len() {
-            return Wrote::Refused(numbers::NO_ROOM);
-        }
-    } else {
-        return Wrote::Refused(numbers::BAD_FIELD);
-    }
-    let mut at: usize = 0;
-    loop {
-        match read_field(s, at) {
-            Field::Step(step, size) => {
-                write_step(buf, at, step);
-                at = at + size;
-            }
-            Field::End => {
-                return write_end(buf, at);
-            }
-            Field::Refused(_, r) => {
-                return Wrote::Refused(r);
-            }
-        }
-    }
-}
-
-// A step written and read back.
-pub fn write_and_read(buf: &mut [u8], at: usize, s: Step) -> Field
-    ensures { λ r. ⌜ r ≡ writeAndReadOf (now (buf .entry)) at s ⌝ }
-    ensures { λ r. ⌜ now (buf .exit) ≡ stepWritten (now (buf .entry)) at s ⌝ }
-{
-    match write_step(buf, at, s) {
-        Wrote::To(_) => read_field(buf, at),
-        Wrote::Refused(r) => Field::Refused(0, r),
-    }
 }

@@ -13,7 +13,7 @@ use Rattle.entries.specs.declared.Entry.{Entry}
 use Rattle.entries.specs.Entries.{countOf, entryOf}
 use Rattle.reading.proofs.Adding.{Adds}
 use Rattle.writing.specs.Writing.{entryBytes, partBytes, kindBytes, blockOf, partsBytes}
-use Rattle.writing.proofs.Pieces.{build-one}
+use Rattle.wire.proofs.Pieces.{build-one}
 
 -- ---- one part more: its field comes last
 

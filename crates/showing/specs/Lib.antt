@@ -1,2 +1,2 @@
--- The plan board: the line for a recording, and the last eight lines (W-213).
+-- The plan board at work (W-213).
 pub mod Showing

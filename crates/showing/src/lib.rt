@@ -1,79 +1,17 @@
-// The plan board: the line for a recording, and the last eight lines, newest first.
+// The plan board at work: the line for a recording that is judged, and the board after it.
 ghost use mathlib.Core.Path.{_≡_};
-ghost use Rattle.showing.specs.Showing.{isUnplanned, doneShown, operationShown, judgedShown, recordingShown, noBoard, rowsOf, rowIn, postOf, leaves, showOf, showFilesOf};
+ghost use Rattle.showing.specs.Showing.{judgedShown, recordingShown, showOf, showFilesOf};
 use config::Config;
 use judging::ALLOWED;
 use judging::Judged;
 use judging::MAX_CONFIG;
 use judging::Verdict;
+use posting::Board;
+use posting::Posted;
+use posting::Shown;
+use posting::Told;
 use reading::Outcome;
-use state::Operation;
 use state::State;
-use values::Value;
-
-// The line of the board: a plan that is final; a call that is open; a call that ended without a plan; no call that brought anything; or nothing, as the
-// recording is refused or unfinished.
-pub enum Shown {
-    Final(u32),
-    Wait,
-    NoPlan,
-    None,
-    Unjudged,
-}
-
-// A row of the board.
-pub struct Row {
-    pub shown: Shown,
-}
-
-// The last lines, the newest in row 0; the first `count` rows have one.
-pub struct Board {
-    pub count: u8,
-    pub at: [Row; Board::ROWS],
-}
-
-// What a showing tells: its line; 3, where the operation is not there; or that the configuration can't be used, as the judge says it.
-pub enum Told {
-    Line(Shown),
-    Refused(u8),
-    Configuration(usize, u8),
-    TooLong,
-}
-
-// A showing: what it tells, and the board after it.
-pub struct Posted {
-    pub told: Told,
-    pub board: Board,
-}
-
-// What is shown of a result. A plan that did not come in time is none.
-fn done_shown(v: Value) -> Shown
-    ensures { λ r. ⌜ r ≡ doneShown v ⌝ }
-{
-    if v.kind == 1 {
-        return Shown::Final(v.number);
-    }
-    if is_unplanned(v) {
-        return Shown::NoPlan;
-    }
-    Shown::None
-}
-
-fn is_unplanned(v: Value) -> bool
-    ensures { λ r. ⌜ r ≡ isUnplanned v ⌝ }
-{
-    v.kind == Value::TIMEOUT.kind || v.kind == Value::SERVER_ERR.kind
-}
-
-// What is shown of an operation.
-fn operation_shown(x: Operation) -> Shown
-    ensures { λ r. ⌜ r ≡ operationShown x ⌝ }
-{
-    if x.calling {
-        return Shown::Wait;
-    }
-    done_shown(x.done)
-}
 
 // The line of what was judged.
 fn judged_shown(operation: u8, j: Judged) -> Shown
@@ -84,7 +22,7 @@ fn judged_shown(operation: u8, j: Judged) -> Shown
         Verdict::Accepted => {
             let st = j.state;
             let t = st.operations;
-            operation_shown(t.get(operation))
+            posting::operation_shown(t.get(operation))
         }
         Verdict::Refused(_, _) => Shown::Unjudged,
         Verdict::Unfinished => Shown::Unjudged,
@@ -101,77 +39,6 @@ fn recording_shown(cfg: Config, operation: u8, s: &[u8], allowance: u32) -> Show
     )
 }
 
-impl Board {
-    pub const ROWS: usize = 8;
-
-    // A board that has shown nothing.
-    pub fn none() -> Board
-        ensures { λ r. ⌜ r ≡ noBoard ⌝ }
-    {
-        Board {
-            count: 0,
-            at: [Row {
-                shown: Shown::Unjudged,
-            }; Board::ROWS],
-        }
-    }
-
-    // How many rows have a line.
-    pub fn rows(self) -> usize
-        ensures { λ r. ⌜ r ≡ rowsOf self ⌝ }
-    {
-        if self.count < 8 {
-            return self.count as usize;
-        }
-        Board::ROWS
-    }
-
-    // The line in row i.
-    pub fn row(self, i: usize) -> Shown
-        ensures { λ r. ⌜ r ≡ rowIn self i ⌝ }
-    {
-        if i < Board::ROWS {
-            let x = self.at[i];
-            return x.shown;
-        }
-        Shown::Unjudged
-    }
-
-    // One line more, in front.
-    pub fn post(self, x: Shown) -> Board
-        ensures { λ r. ⌜ r ≡ postOf self x ⌝ }
-    {
-        let old = self.at;
-        let rows = [
-            Row { shown: x },
-            old[0],
-            old[1],
-            old[2],
-            old[3],
-            old[4],
-            old[5],
-            old[6],
-        ];
-        if self.count < 8 {
-            return Board {
-                count: self.count + 1,
-                at: rows,
-            };
-        }
-        Board { count: 8, at: rows }
-    }
-}
-
-// Something else than a line is told, and the board stays as it was.
-fn leaves(board: Board, told: Told) -> Posted
-    ensures { λ r. ⌜ r ≡ leaves board told ⌝ }
-{
-    Posted {
-        told: told,
-        board: board,
-    }
-}
-
 // Shows a recording on the board, by its plan operation. An operation that is not there is refused before anything is judged, and the board stays.
 pub fn show(cfg: Config, operation: u32, s: &[u8], allowance: u32, board: Board) -> Posted
     ensures { λ r. ⌜ r ≡ showOf cfg operation (now (s .entry)) allowance board ⌝ }
@@ -184,7 +51,7 @@ pub fn show(cfg: Config, operation: u32, s: &[u8], allowance: u32, board: Board)
             board: board.post(x),
         };
     }
-    leaves(board, Told::Refused(numbers::NOT_THERE))
+    posting::leaves(board, Told::Refused(numbers::NOT_THERE))
 }
 
 // The same for the bytes of a configuration and of a recording.
@@ -192,12 +59,12 @@ pub fn show_files(config: &[u8], operation: u32, recording: &[u8], board: Board)
     ensures { λ r. ⌜ r ≡ showFilesOf (now (config .entry)) operation (now (recording .entry)) board ⌝ }
 {
     if MAX_CONFIG < config.len() {
-        return leaves(board, Told::TooLong);
+        return posting::leaves(board, Told::TooLong);
     }
     let g = reading::read_config(config);
     let o = g.outcome;
     match o {
-        Outcome::Refused(place, k) => leaves(board, Told::Configuration(place, k)),
+        Outcome::Refused(place, k) => posting::leaves(board, Told::Configuration(place, k)),
         Outcome::Whole => show(g.config, operation, recording, ALLOWED, board),
     }
 }

@@ -10,12 +10,13 @@ use lib.ListN.{length, take, length-append}
 use lib.Seq.{getD-take, take-all, take-at, take-take}
 use borrow.Author.Tests.{lt-ltb, le-ltb}
 use Rattle.laws.specs.Choice.{pick}
-use Rattle.showing.specs.declared.Shown.{Shown}
-use Rattle.showing.specs.declared.Row.{Row}
-use Rattle.showing.specs.declared.Board.{Board}
-use Rattle.showing.specs.declared.Told.the-variants.{Line}
-use Rattle.showing.specs.declared.Posted.{Posted}
-use Rattle.showing.specs.Showing.{noRow, noBoard, rowsOf, rowIn, postOf, showFilesOf}
+use Rattle.posting.specs.declared.Shown.{Shown}
+use Rattle.posting.specs.declared.Row.{Row}
+use Rattle.posting.specs.declared.Board.{Board}
+use Rattle.posting.specs.declared.Told.the-variants.{Line}
+use Rattle.posting.specs.declared.Posted.{Posted}
+use Rattle.posting.specs.Posting.{noRow, noBoard, rowsOf, rowIn, postOf}
+use Rattle.showing.specs.Showing.{showFilesOf}
 use Rattle.shown.specs.Claims.{toldOf, linesTo, linesOf, BoardFollows, postAll, LastEight}
 use Rattle.shown.proofs.Lines.{Files, tooLong, unread, absent, there, files, kindOf, lineIn, told-by}
 

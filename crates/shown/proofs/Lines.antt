@@ -26,13 +26,14 @@ use Rattle.history.proofs.Proofs.{done-is-delivered, done-is-final, open-is-une
 use Rattle.config.specs.Tables.{operationConfIn}
 use Rattle.claims.proofs.FromBytes.{accepted-is-run}
 use Rattle.gaps.proofs.Reported.{text-length}
-use Rattle.showing.specs.declared.Shown.{Shown}
-use Rattle.showing.specs.declared.Shown.the-variants.{Final, Wait, NoPlan, None, Unjudged}
-use Rattle.showing.specs.declared.Board.{Board}
-use Rattle.showing.specs.declared.Told.{Told}
-use Rattle.showing.specs.declared.Told.the-variants.{Line, Refused, Configuration, TooLong}
-use Rattle.showing.specs.declared.Posted.{Posted}
-use Rattle.showing.specs.Showing.{recordingShown, showOf, showFilesOf, enters, leaves}
+use Rattle.posting.specs.declared.Shown.{Shown}
+use Rattle.posting.specs.declared.Shown.the-variants.{Final, Wait, NoPlan, None, Unjudged}
+use Rattle.posting.specs.declared.Board.{Board}
+use Rattle.posting.specs.declared.Told.{Told}
+use Rattle.posting.specs.declared.Told.the-variants.{Line, Refused, Configuration, TooLong}
+use Rattle.posting.specs.declared.Posted.{Posted}
+use Rattle.posting.specs.Posting.{enters, leaves}
+use Rattle.showing.specs.Showing.{recordingShown, showOf, showFilesOf}
 use Rattle.shown.specs.Claims.{toldOf, There, Whole, afterAll, NoneOpen, Means, LineIsMeant, RefusedIsAbsent, Planned, FinalIsHandedBack, JudgedIsAccepted}
 use Rattle.shown.proofs.Meant.{last-in, config-sound, inside, shown-unjudged, whole-or, shown-by, none-unended, last-ended, shown-means, means-shown}
 

@@ -36,9 +36,10 @@ use Rattle.history.proofs.Accepts.{deed}
 use Rattle.history.proofs.Unended.{started-some}
 use Rattle.history.proofs.Proofs.{ends-properly, done-is-delivered, open-is-unended, unended-is-latest, latest-started}
 use Rattle.claims.proofs.Verdicts.{accepted-is-whole}
-use Rattle.showing.specs.declared.Shown.{Shown}
-use Rattle.showing.specs.declared.Shown.the-variants.{Final, Wait, NoPlan, None, Unjudged}
-use Rattle.showing.specs.Showing.{isUnplanned, doneShown, operationShown, judgedShown, recordingShown}
+use Rattle.posting.specs.declared.Shown.{Shown}
+use Rattle.posting.specs.declared.Shown.the-variants.{Final, Wait, NoPlan, None, Unjudged}
+use Rattle.posting.specs.Posting.{isUnplanned, doneShown, operationShown}
+use Rattle.showing.specs.Showing.{judgedShown, recordingShown}
 use Rattle.shown.specs.Claims.{There, Whole, afterAll, Open, NoneOpen, NoneYet, Unplanned, Means}
 
 -- ---- endings

@@ -3,10 +3,10 @@
 use Prim.Native.Nat.{ℕ}
 use mathlib.Core.Path.{_≡_, refl, ap}
 use native.Mathlib.Omega.{arith}
-use Rattle.showing.specs.declared.Shown.{Shown}
-use Rattle.showing.specs.declared.Shown.the-variants.{Final, Wait, NoPlan, None, Unjudged}
-use Rattle.showing.specs.declared.Told.{Told}
-use Rattle.showing.specs.declared.Told.the-variants.{Line, Refused, Configuration, TooLong}
+use Rattle.posting.specs.declared.Shown.{Shown}
+use Rattle.posting.specs.declared.Shown.the-variants.{Final, Wait, NoPlan, None, Unjudged}
+use Rattle.posting.specs.declared.Told.{Told}
+use Rattle.posting.specs.declared.Told.the-variants.{Line, Refused, Configuration, TooLong}
 use Rattle.shown.specs.Claims.{toldForm, toldRefusal, shownForm, shownPlan, toldShown, ToldByNumbers}
 
 -- two lines with the same numbers

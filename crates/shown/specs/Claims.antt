@@ -19,12 +19,13 @@ use Rattle.recording.specs.Whole.{stepsIn, isSound, textOf}
 use Rattle.judging.specs.Line.{maxConfig, allowed, lineOf, lineForm}
 use Rattle.history.specs.History.{How, byTimeout, byInstance, byFailure, Ending, History, historyOf, takenBy, failedBy, latestOn, endsOf, lastOn, Started, timeSince}
 use Rattle.history.specs.Promises.{Run}
-use Rattle.showing.specs.declared.Shown.{Shown}
-use Rattle.showing.specs.declared.Shown.the-variants.{Final, Wait, NoPlan, None, Unjudged}
-use Rattle.showing.specs.declared.Board.{Board}
-use Rattle.showing.specs.declared.Told.{Told}
-use Rattle.showing.specs.declared.Told.the-variants.{Line, Refused, Configuration, TooLong}
-use Rattle.showing.specs.Showing.{noBoard, rowsOf, rowIn, postOf, showFilesOf}
+use Rattle.posting.specs.declared.Shown.{Shown}
+use Rattle.posting.specs.declared.Shown.the-variants.{Final, Wait, NoPlan, None, Unjudged}
+use Rattle.posting.specs.declared.Board.{Board}
+use Rattle.posting.specs.declared.Told.{Told}
+use Rattle.posting.specs.declared.Told.the-variants.{Line, Refused, Configuration, TooLong}
+use Rattle.posting.specs.Posting.{noBoard, rowsOf, rowIn, postOf}
+use Rattle.showing.specs.Showing.{showFilesOf}
 
 -- ---- the words
 

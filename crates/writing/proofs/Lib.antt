@@ -1,4 +1,3 @@
--- Laws of texts: pieces put into a buffer one behind the other, and the text of a configuration.
-pub mod Pieces
+-- Laws of texts: the text of a configuration.
 pub mod Texts
 pub mod Numbers

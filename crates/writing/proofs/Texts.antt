@@ -19,7 +19,7 @@ use Rattle.entries.specs.declared.Entry.{Entry}
 use Rattle.entries.specs.Entries.{countOf, entryOf}
 use Rattle.entries.specs.Faults.{configSound}
 use Rattle.writing.specs.Writing.{runnableBytes, variableBytes, areaBytes, operationBytes, timerBytes, pairBytes, entryBytes, fieldSize, partBytes, kindBytes, kindSize, editionBytes, partsBytes, partsSize, blockOf, textOf, configTo, configWritten}
-use Rattle.writing.proofs.Pieces.{Put, put-none, put-same, put-more, put-written, short-written, build-sum, build-size}
+use Rattle.wire.proofs.Pieces.{Put, put-none, put-same, put-more, put-written, short-written, build-sum, build-size}
 
 -- ---- the length of a text
 

@@ -7,7 +7,7 @@ use native.Mathlib.Omega.{arith}
 use lib.ListN.{length}
 use denote.Ref.{now}
 use borrow.Author.Needs.{needs}
-use Rattle.showing.specs.Showing.{rowsOf}
+use Rattle.posting.specs.Posting.{rowsOf}
 use Rattle.board_lines.proofs.Texts.{RowsPut, rows-start, rows-same, rows-step, rows-done, rows-most}
 use Rattle.board_lines.proofs.put_rows.Statement.{statement}
 use Rattle.board_lines.proofs.put_rows.Tie as tie

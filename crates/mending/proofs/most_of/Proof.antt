@@ -2,7 +2,7 @@
 -- Assumes nothing.
 use mathlib.Core.Path.{refl}
 use native.Mathlib.Omega.{arith}
-use Rattle.mending.proofs.Counting.{square-most, cube-most}
+use Rattle.searching.proofs.Counting.{square-most, cube-most}
 use Rattle.mending.proofs.most_of.Statement.{statement}
 use Rattle.mending.proofs.most_of.Tie as tie
 

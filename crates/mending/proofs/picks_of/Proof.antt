@@ -5,7 +5,7 @@ use Prim.Native.Nat.{_*_}
 use native.Mathlib.Nat.{one-le-mul}
 use mathlib.Core.Path.{sym, _∙_}
 use native.Mathlib.Omega.{arith}
-use Rattle.mending.proofs.Counting.{square-most, cube-most, some-of}
+use Rattle.searching.proofs.Counting.{square-most, cube-most, some-of}
 use Rattle.mending.proofs.Ranking.{picks-none, picks-one, picks-two, picks-three, picks-past}
 use Rattle.mending.proofs.picks_of.Statement.{statement}
 use Rattle.mending.proofs.picks_of.Tie as tie

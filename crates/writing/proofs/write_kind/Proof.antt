@@ -8,7 +8,7 @@ use lib.ListN.{length}
 use denote.Ref.{now}
 use Rattle.entries.specs.Entries.{countOf}
 use Rattle.writing.specs.Writing.{partBytes, kindBytes}
-use Rattle.writing.proofs.Pieces.{Putting, putting-start, putting-same, putting-room, putting-step, putting-done}
+use Rattle.wire.proofs.Pieces.{Putting, putting-start, putting-same, putting-room, putting-step, putting-done}
 use Rattle.writing.proofs.Texts.{kind-size, run-room, run-short, part-size, part-written}
 use Rattle.writing.proofs.write_kind.Statement.{statement}
 use Rattle.writing.proofs.write_kind.Tie as tie

@@ -7,7 +7,7 @@ use native.Mathlib.Omega.{arith}
 use lib.ListN.{length}
 use denote.Ref.{now}
 use Rattle.writing.specs.Writing.{blockOf, partsBytes}
-use Rattle.writing.proofs.Pieces.{Putting, putting-start, putting-same, putting-room, putting-step, putting-done}
+use Rattle.wire.proofs.Pieces.{Putting, putting-start, putting-same, putting-room, putting-step, putting-done}
 use Rattle.writing.proofs.Texts.{parts-size, block-size, run-room, run-short}
 use Rattle.writing.proofs.write_parts.Statement.{statement}
 use Rattle.writing.proofs.write_parts.Tie as tie

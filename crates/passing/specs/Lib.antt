@@ -1,0 +1,2 @@
+-- How far time may go (ours).
+pub mod Passing

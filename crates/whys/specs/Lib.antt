@@ -1,0 +1,2 @@
+-- Why a step is refused, finer than its number.
+pub mod Whys
