@@ -9,7 +9,7 @@ use Rattle.laws.specs.Choice.{pick, both}
 use Rattle.laws.proofs.Choosing.{pick-has}
 use Rattle.numbers.specs.Refusals.{malformed, notThere, notOwn, barred, areaTaken, notOnTop, queueFull, numberBorne, stillOpen, notDue, noSlotFree, tooFar, notOver, areasHeld, wrongClient, otherAnswer}
 use Rattle.numbers.specs.Codes.{timeoutCode}
-use Rattle.values.specs.Values.{answerRefusal, sameValue}
+use Rattle.values.specs.Values.{answerRefusal}
 use Rattle.types.specs.Types.{Value, Step, Answer, Taken, Refused, Config, RunnableConf, Life, Runnable, Slots, State, Stepped}
 use Rattle.config.specs.Tables.{runnableConfIn}
 use Rattle.entries.specs.Entries.{entryOf}
@@ -19,7 +19,7 @@ use Rattle.rules.specs.Sound.{componentOf, soundOf}
 use Rattle.rules.specs.Rows.{aSlot, scheduler, noPart, rowOf}
 use Rattle.rules.specs.Refusals.{formed, partThere, partOwn, lifeLets, ownedRefusal, instanceRefusal, schedulerRefusal, refusalBy, refusalOf}
 use Rattle.effects.specs.Steps.{refused}
-use Rattle.effects.specs.Step.{possibleOf, onAnswer, claimedOf, innerOf, stepOf}
+use Rattle.effects.specs.Step.{possibleOf, onAnswer, agrees, claimedOf, innerOf, stepOf}
 use Rattle.effects.proofs.Codes.{never}
 use Rattle.stays_sound.proofs.Ways.{Barred, shared, enterTaken, exitOther, callBorne, callFull, collectOpen, answerNumber, answerNone, endServing, endHolding, spawnNeed, spawnFull, timeoutEarly, tickEarly, waitFar, Went, bars, goes, went}
 use Rattle.stays_sound.proofs.Refusals.{refused-same}
@@ -241,8 +241,8 @@ module _ (cfg : Config) (st : State) (s : Step) where
   unfolding causeOf innerOf claimedOf claimCause
   cause-is-refusal = go (possibleOf cfg st s) (possibleOf cfg st s .answer) refl possible-fair
     where
-      go : (r : Stepped) (a : Answer) → r .answer ≡ a → Fair r → causeRefusal (onAnswer a (λ (v : Value). pick (sameValue v (s .claim)) NoCause (Differs v)) (λ (n : ℕ). whyOf cfg st s n)) ≡ answerRefusal (onAnswer a (λ (v : Value). pick (sameValue v (s .claim)) r (refused otherAnswer st)) (λ (n : ℕ). r) .answer)
-      go r (Taken v) e f = told (sameValue v (s .claim))
+      go : (r : Stepped) (a : Answer) → r .answer ≡ a → Fair r → causeRefusal (onAnswer a (λ (v : Value). pick (agrees (s .code) v (s .claim)) NoCause (Differs v)) (λ (n : ℕ). whyOf cfg st s n)) ≡ answerRefusal (onAnswer a (λ (v : Value). pick (agrees (s .code) v (s .claim)) r (refused otherAnswer st)) (λ (n : ℕ). r) .answer)
+      go r (Taken v) e f = told (agrees (s .code) v (s .claim))
         where
           told : (b : Bool) → causeRefusal (pick b NoCause (Differs v)) ≡ answerRefusal (pick b r (refused otherAnswer st) .answer)
           told true = sym (ap answerRefusal e)

@@ -15,10 +15,10 @@ const NOTHING: u8 = 0;
 const A_PAYLOAD: u8 = 1;
 
 // 17, or no cause: by the answer that the step would have.
-fn claim_cause(v: Value, claim: Value) -> Cause
-    ensures { λ r. ⌜ r ≡ claimCause v claim ⌝ }
+fn claim_cause(code: u8, v: Value, claim: Value) -> Cause
+    ensures { λ r. ⌜ r ≡ claimCause code v claim ⌝ }
 {
-    if v.same(claim) {
+    if machine::agrees(code, v, claim) {
         return Cause::NoCause;
     }
     Cause::Differs(v)
@@ -31,7 +31,7 @@ pub fn cause_of(cfg: Config, st: State, s: Step) -> Cause
     let r = machine::possible(cfg, st, s);
     let a = r.answer;
     match a {
-        Answer::Taken(v) => claim_cause(v, s.claim),
+        Answer::Taken(v) => claim_cause(s.code, v, s.claim),
         Answer::Refused(n) => whys::why(cfg, st, s, n),
     }
 }

@@ -2,17 +2,13 @@
 -- an accepted text is a whole recording, and all of its steps are counted; an unfinished one has used up its allowance, and a step follows.
 -- Assumes nothing.
 use Prim.Native.Nat.{ℕ, suc, _+_, _≤_, _<_}
-use mathlib.Core.Bool.{Bool, true, false}
+use mathlib.Core.Bool.{true}
 use mathlib.Core.List.{List, [], _∷_}
 use mathlib.Core.Path.{_≡_, refl, sym, ap, _∙_}
 use native.Mathlib.Omega.{arith}
 use lib.ListN.{length, take, drop}
-use Rattle.laws.specs.Choice.{pick}
-use Rattle.types.specs.Types.{Value, Step, Answer, Taken, Refused as Barred, Config, State, Stepped}
-use Rattle.values.specs.Values.{sameValue}
-use Rattle.rules.specs.Sound.{soundOf}
-use Rattle.effects.specs.Steps.{refused}
-use Rattle.effects.specs.Step.{claimedOf, possibleOf, innerOf, stepOf}
+use Rattle.types.specs.Types.{Value, Step, Taken, Config, State}
+use Rattle.effects.specs.Step.{stepOf}
 use Rattle.recording.specs.declared.Field.the-variants.{Step as IsStep, End}
 use Rattle.recording.specs.Recording.{fieldOf}
 use Rattle.recording.specs.Whole.{Whole, stepsIn, isEnd, isSound}
@@ -24,26 +20,6 @@ use Rattle.judging.specs.Judging.{judged, judgeFrom}
 use Rattle.judging.proofs.Laws.{judged-each, unfinished-accepted, unfinished-refused, accepted-refused}
 use Rattle.history.specs.Promises.{Accepted as AllAccepted}
 use Rattle.history.proofs.Runs.{of-taken}
-use Rattle.history.proofs.Deeds.{same-value}
-
--- ---- a step that is taken answers what it claims
-
-claimed-is : (claim : Value) (st y : State) (x : Answer) (v : Value) → claimedOf claim st (record { answer = x; state = y }) .answer ≡ Taken v → v ≡ claim
-unfolding claimedOf
-claimed-is claim st y (Taken w) v h = go (sameValue w claim) refl h
-  where
-    go : (b : Bool) → sameValue w claim ≡ b → (pick {A = Stepped} b (record { answer = Taken w; state = y }) (refused 17 st)) .answer ≡ Taken v → v ≡ claim
-    go true e k = let p : v ≡ w = cc in p ∙ same-value w claim e
-    go false e k = absurd (let z : _≡_ {A = ℕ} 0 1 = cc in omega arith)
-claimed-is claim st y (Barred k) v h = absurd (let z : _≡_ {A = ℕ} 0 1 = cc in omega arith)
-
-pub taken-claims : (cfg : Config) (st : State) (s : Step) (v : Value) → stepOf cfg st s .answer ≡ Taken v → stepOf cfg st s .answer ≡ Taken (s .claim)
-unfolding stepOf innerOf
-taken-claims cfg st s v h = go (soundOf cfg st) refl
-  where
-    go : (b : Bool) → soundOf cfg st ≡ b → stepOf cfg st s .answer ≡ Taken (s .claim)
-    go true e = h ∙ ap Taken (claimed-is (s .claim) st (possibleOf cfg st s .state) (possibleOf cfg st s .answer) v (rw e at h))
-    go false e = absurd (let q : _≡_ {A = Answer} (Barred 1) (Taken v) = rw e at h in let z : _≡_ {A = ℕ} 0 1 = cc in omega arith)
 
 -- ---- the steps of a text
 
@@ -62,7 +38,7 @@ sound-end t e = ap (λ (w : Whole). isEnd (w .last)) (whole-end t e)
 -- one more accepted step in front
 one-accepted : (cfg : Config) (st : State) (s : Step) (v : Value) (rs l : List Step) (x : State) → stepOf cfg st s .answer ≡ Taken v → AllAccepted cfg (stepOf cfg st s .state) rs x → l ≡ s ∷ rs → AllAccepted cfg st l x
 unfolding AllAccepted
-one-accepted cfg st s v rs l x q h e = rw e (of-taken _ _ (taken-claims cfg st s v q), h)
+one-accepted cfg st s v rs l x q h e = rw e (of-taken cfg st s q, h)
 
 none-accepted : (cfg : Config) (st : State) (l : List Step) → l ≡ [] → AllAccepted cfg st l st
 unfolding AllAccepted

@@ -1,7 +1,7 @@
 -- What is noted of the elements says the same as the elements themselves.
 -- Assumes nothing.
-use Prim.Native.Nat.{ℕ, zero, suc, _<_}
-use mathlib.Core.Bool.{Bool, true}
+use Prim.Native.Nat.{ℕ, zero, suc, _≤_, _<_}
+use mathlib.Core.Bool.{Bool, true, false}
 use mathlib.Core.List.{List}
 use mathlib.Core.Path.{_≡_, refl}
 use native.Mathlib.Decide.{decLt}
@@ -9,16 +9,18 @@ use native.Mathlib.Omega.{arith}
 use lib.ListN.{length, getD, replicate}
 use Rattle.laws.specs.Choice.{pick}
 use Rattle.laws.specs.Row.{eachBelow}
+use Rattle.laws.proofs.Choosing.{both-no}
 use Rattle.laws.proofs.Looping.{any-same}
+use Rattle.laws.proofs.Masks.{mask-same}
 use Rattle.laws.proofs.Places.{past, each-at, each-length}
 use Rattle.types.specs.Types.{Config, Elements, Runnable, Runnables}
 use Rattle.config.specs.Tables.{requiredConfIn, dataEventIn, noRequiredConf}
 use Rattle.entries.specs.Faults.{isQueued}
 use Rattle.state.specs.Parts.{noRunnable}
 use Rattle.state.specs.Tables.{elementIn}
-use Rattle.effects.specs.Steps.{accepts, woken, feeds, isFed, fedRunnables, isFull, anyFull}
+use Rattle.effects.specs.Steps.{linked, accepts, woken, feeds, isFed, fedRunnables, isFull, fullMask}
 use Rattle.data_steps.specs.declared.Rooms.{Rooms}
-use Rattle.data_steps.specs.Rooms.{roomsOf, roomIn, feedsBy, isFedBy, fedRunnablesBy, isFullBy, anyFullBy}
+use Rattle.data_steps.specs.Rooms.{roomsOf, roomIn, feedsBy, isFedBy, fedRunnablesBy, isFullBy, fullMaskBy}
 
 pub rooms-made : {u : Rooms} {l : List Bool} → u .at ≡ l → _≡_ {A = Rooms} u (record { at = l })
 rooms-made h = rw (← h)
@@ -62,7 +64,12 @@ module _ (cfg : Config) (t : Elements) (e : length (cfg .required .at) ≡ 16) w
   unfolding isFullBy isFull
   full-by p q = rw (room-in q)
 
-  -- whether a linked queue is full
-  pub any-full-by : (p : ℕ) → anyFullBy cfg (roomsOf cfg t) p ≡ anyFull cfg t p
-  unfolding anyFullBy anyFull
-  any-full-by p = any-same (isFullBy cfg (roomsOf cfg t) p) (isFull cfg t p) (cfg .required .n) (λ q l. full-by p q)
+  -- which linked queues are full
+  pub full-mask-by : (p : ℕ) → fullMaskBy cfg (roomsOf cfg t) p ≡ fullMask cfg t p
+  unfolding fullMaskBy fullMask
+  full-mask-by p = mask-same (isFullBy cfg (roomsOf cfg t) p) (isFull cfg t p) (cfg .required .n) (λ q l. full-by p q)
+
+-- past the last place nothing is full
+pub full-past : (cfg : Config) (u : Rooms) (p q : ℕ) → length (u .at) ≡ 16 → 16 ≤ q → isFullBy cfg u p q ≡ false
+unfolding isFullBy roomIn
+full-past cfg u p q e l = let z : getD (u .at) q true ≡ true = past (u .at) q 16 true e l in rw z (both-no (linked cfg p q) false refl)

@@ -6,6 +6,7 @@ use lib.Dec.{eqb}
 use lib.ListN.{replicate, getD}
 use Rattle.laws.specs.Choice.{pick, both}
 use Rattle.laws.specs.Loop.{anyBelow}
+use Rattle.laws.specs.Mask.{maskBelow}
 use Rattle.laws.specs.Row.{eachBelow}
 use Rattle.types.specs.Types.{Config, Runnable, Runnables, Elements}
 use Rattle.config.specs.Tables.{maxRequiredConfs, dataEventIn}
@@ -42,6 +43,6 @@ fedRunnablesBy cfg u p rs =
 unfoldable pub isFullBy : Config → Rooms → ℕ → ℕ → Bool
 isFullBy cfg u p q = both (linked cfg p q) (not (roomIn u q))
 
--- some linked queue is full, by the note ("The eighteen steps", 10)
-unfoldable pub anyFullBy : Config → Rooms → ℕ → Bool
-anyFullBy cfg u p = anyBelow (isFullBy cfg u p) (cfg .required .n)
+-- the linked queues that are full, as a mask, by the note (W-201)
+unfoldable pub fullMaskBy : Config → Rooms → ℕ → ℕ
+fullMaskBy cfg u p = maskBelow (isFullBy cfg u p) (cfg .required .n)

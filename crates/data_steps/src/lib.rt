@@ -6,8 +6,8 @@ ghost use lib.Dec.{ltb};
 ghost use Rattle.laws.specs.Choice.{either};
 ghost use Rattle.laws.specs.Loop.{anyBelow};
 ghost use Rattle.config.specs.Tables.{linkIn};
-ghost use Rattle.data_steps.specs.Rooms.{roomIn, roomsOf, feedsBy, isFedBy, fedRunnablesBy, isFullBy, anyFullBy};
-ghost use Rattle.effects.specs.Steps.{readVariableOf, writeVariableOf, entering, exiting, enterOf, onTop, exitOf, seen, readOf, updatedOf, joins, storing, queueing, fedElement, fedElements, writeOf, invalidateOf, sendOf, receiving, receiveOf};
+ghost use Rattle.data_steps.specs.Rooms.{roomIn, roomsOf, feedsBy, isFedBy, fedRunnablesBy, isFullBy, fullMaskBy};
+ghost use Rattle.effects.specs.Steps.{readVariableOf, writeVariableOf, entering, exiting, enterOf, onTop, exitOf, seen, readOf, updatedOf, joins, storing, queueing, fedElement, fedElements, writeOf, invalidateOf, sentOf, sendOf, receiving, receiveOf};
 use config::Config;
 use config::Link;
 use config::Links;
@@ -342,22 +342,36 @@ fn is_full(cfg: Config, rooms: Rooms, p: u8, q: u8) -> bool
     false
 }
 
-fn any_full(cfg: Config, rooms: Rooms, p: u8) -> bool
-    ensures { λ r. ⌜ r ≡ anyFullBy cfg rooms p ⌝ }
+// The linked queues that are full, each as the bit of its element.
+fn full_mask(cfg: Config, rooms: Rooms, p: u8) -> u32
+    ensures { λ r. ⌜ r ≡ fullMaskBy cfg rooms p ⌝ }
 {
     let required = cfg.required;
-    let n = required.n;
+    let n = shared_steps::within(required.n, RequiredConfs::MAX as u8);
+    let mut mask: u32 = 0;
+    let mut bit: u32 = 1;
     let mut q: u8 = 0;
     while q < n {
         if is_full(cfg, rooms, p, q) {
-            return true;
+            mask = mask + bit;
         }
+        bit = bit + bit;
         q = q + 1;
     }
-    false
+    mask
 }
 
-// Limit if any linked queue was full, else Ok.
+// Ok if no linked queue was full, else Full with the mask of those that were.
+fn sent(mask: u32) -> Value
+    ensures { λ r. ⌜ r ≡ sentOf mask ⌝ }
+{
+    if mask == 0 {
+        return Value::OK;
+    }
+    Value::full(mask)
+}
+
+// The answer names the linked queues that were full.
 pub fn send(cfg: Config, st: State, p: u8, v: Value) -> Stepped
     ensures { λ r. ⌜ r ≡ sendOf cfg st p v ⌝ }
 {
@@ -367,10 +381,7 @@ pub fn send(cfg: Config, st: State, p: u8, v: Value) -> Stepped
     let mut next = st;
     next.elements = fed_elements(cfg, p, v, t);
     next.runnables = fed_runnables(cfg, rooms, p, rs);
-    if any_full(cfg, rooms, p) {
-        return shared_steps::take(Value::LIMIT, next);
-    }
-    shared_steps::take(Value::OK, next)
+    shared_steps::take(sent(full_mask(cfg, rooms, p)), next)
 }
 
 // ---- 9: receive

@@ -1,2 +1,4 @@
--- Laws of the definitions: the codes of the table, and what a step of each does.
+-- Laws of the definitions: the codes of the table, and what a step of each does; answers that agree with claims; what a send says.
+pub mod Agreeing
 pub mod Codes
+pub mod Sends

@@ -1,11 +1,12 @@
 -- One step: by its code, before and with its claim, and after the test of soundness ("The eighteen steps"; "Numbers of refusal").
 -- Assumes nothing.
 use Prim.Native.Nat.{ℕ}
+use mathlib.Core.Bool.{Bool}
 use lib.Dec.{eqb}
 use Rattle.numbers.specs.Refusals.{notSound, otherAnswer}
 use Rattle.numbers.specs.Codes.{readVariableCode, writeVariableCode, enterCode, exitCode, readCode, writeCode, updatedCode, invalidateCode, receiveCode, sendCode, callCode, resultCode, handBackCode, endCode, spawnCode, timeoutCode, tickCode, waitCode}
-use Rattle.laws.specs.Choice.{pick}
-use Rattle.values.specs.Values.{sameValue}
+use Rattle.laws.specs.Choice.{pick, both, either}
+use Rattle.values.specs.Values.{limitV, saysFull, sameValue}
 use Rattle.types.specs.Types.{Value, Step, Answer, Taken, Refused, Config, State, Stepped}
 use Rattle.rules.specs.Sound.{soundOf}
 use Rattle.rules.specs.Refusals.{refusalOf}
@@ -46,13 +47,21 @@ abbrev pub onAnswer : {A : Type 0} → Answer → (Value → A) → (ℕ → A) 
 onAnswer (Taken v) taken refusal = taken v
 onAnswer (Refused n) taken refusal = refusal n
 
--- 17: a step that could be taken, and that would answer something else than it claims ("Numbers of refusal", 17)
-unfoldable pub claimedOf : Value → State → Stepped → Stepped
-claimedOf claim st r = onAnswer (r .answer) (λ v. pick (sameValue v claim) r (refused otherAnswer st)) (λ n. r)
+-- a send that answers Full, and claims Limit as units do that name no queue (W-201)
+abbrev pub isOlder : ℕ → Value → Value → Bool
+isOlder code v claim = both (eqb code sendCode) (both (saysFull v) (sameValue claim limitV))
+
+-- what a step of this code answers agrees with what it claims: it is the same, or a Full claimed as Limit by a send ("Numbers of refusal", 17; W-201)
+unfoldable pub agrees : ℕ → Value → Value → Bool
+agrees code v claim = either (isOlder code v claim) (sameValue v claim)
+
+-- 17: a step that could be taken, and whose answer does not agree with what it claims ("Numbers of refusal", 17)
+unfoldable pub claimedOf : Step → State → Stepped → Stepped
+claimedOf s st r = onAnswer (r .answer) (λ v. pick (agrees (s .code) v (s .claim)) r (refused otherAnswer st)) (λ n. r)
 
 -- the step without the test of soundness, for a state that is known to be sound ("Numbers of refusal", 2 to 17)
 unfoldable pub innerOf : Config → State → Step → Stepped
-innerOf cfg st s = claimedOf (s .claim) st (possibleOf cfg st s)
+innerOf cfg st s = claimedOf s st (possibleOf cfg st s)
 
 -- 1: for an unsound configuration or state; else the step ("Numbers of refusal", 1)
 unfoldable pub stepOf : Config → State → Step → Stepped

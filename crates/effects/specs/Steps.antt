@@ -1,4 +1,4 @@
--- The eighteen steps and fail, once refusals 2 to 5 have let them through: each with its own refusals, its answer and the state after it ("The eighteen steps" and the paragraphs below its table; W-205).
+-- The eighteen steps and fail, once refusals 2 to 5 have let them through: each with its own refusals, its answer and the state after it ("The eighteen steps" and the paragraphs below its table; W-201; W-205).
 -- Assumes nothing.
 use Prim.Native.Nat.{ℕ, _+_, _-_, _%_}
 use mathlib.Core.Bool.{Bool, true, false, not}
@@ -6,8 +6,9 @@ use lib.Dec.{ltb, leb, eqb}
 use Rattle.numbers.specs.Refusals.{malformed, areaTaken, notOnTop, queueFull, numberBorne, stillOpen, notDue, noSlotFree, tooFar, notOver, areasHeld, wrongClient}
 use Rattle.laws.specs.Choice.{pick, both, either, bit}
 use Rattle.laws.specs.Loop.{allBelow, anyBelow, firstBelow}
+use Rattle.laws.specs.Mask.{maskBelow}
 use Rattle.laws.specs.Row.{eachBelow}
-use Rattle.values.specs.Values.{voidV, numberV, okV, limitV, noDataV, timeoutV, invalidV, serverErrV, isNumber}
+use Rattle.values.specs.Values.{voidV, numberV, okV, limitV, noDataV, timeoutV, invalidV, fullV, serverErrV, isNumber}
 use Rattle.types.specs.Types.{Value, Taken, Refused, Config, RunnableConf, Link, Client, Runnable, Runnables, Element, Elements, Operation, Operations, Timer, Timers, Owed, Slot, Slots, State, Stepped}
 use Rattle.config.specs.Tables.{runnableConfIn, requiredConfIn, linkIn, operationConfIn, timerConfIn, dataEventIn, returnEventIn}
 use Rattle.entries.specs.Faults.{isQueued}
@@ -165,13 +166,17 @@ invalidateOf cfg st p = took voidV (invalidated cfg st p)
 unfoldable pub isFull : Config → Elements → ℕ → ℕ → Bool
 isFull cfg t p q = both (linked cfg p q) (not (accepts cfg q (elementIn t q)))
 
--- some linked queue is full ("The eighteen steps", 10)
-unfoldable pub anyFull : Config → Elements → ℕ → Bool
-anyFull cfg t p = anyBelow (isFull cfg t p) (cfg .required .n)
+-- the linked queues that are full, as a mask: bit q for the required element q (W-201)
+unfoldable pub fullMask : Config → Elements → ℕ → ℕ
+fullMask cfg t p = maskBelow (isFull cfg t p) (cfg .required .n)
 
--- the value goes to each linked queue that has a place left; Limit if one had none, else Ok ("The eighteen steps", 10)
+-- what a send answers: Ok if no linked queue was full, else Full with the mask of those that were ("The eighteen steps", 10; W-201)
+unfoldable pub sentOf : ℕ → Value
+sentOf mask = pick (eqb mask 0) okV (fullV mask)
+
+-- the value goes to each linked queue that has a place left, and the answer names those that had none ("The eighteen steps", 10; W-201)
 unfoldable pub sendOf : Config → State → ℕ → Value → Stepped
-sendOf cfg st p v = took (pick (anyFull cfg (st .elements) p) limitV okV) (fed cfg st p v)
+sendOf cfg st p v = took (sentOf (fullMask cfg (st .elements) p)) (fed cfg st p v)
 
 -- ---- 9: receive
 

@@ -8,7 +8,7 @@ use lib.ListN.{replicate, set}
 use Rattle.laws.specs.Choice.{allOf}
 use Rattle.laws.specs.Loop.{allBelow, anyBelow, sumBelow, firstBelow}
 use Rattle.laws.specs.Row.{eachBelow, shifted, placeFilled, filled}
-use Rattle.values.specs.Values.{isVoid, isPayload, isKind, isGood, sameValue, voidV, numberV, okV, timeoutV, serverErrV}
+use Rattle.values.specs.Values.{isVoid, isPayload, isKind, isMask, isGood, sameValue, voidV, numberV, okV, timeoutV, serverErrV}
 use Rattle.config.specs.Tables.{runnableConfIn, addRunnableConf, variableConfIn, addVariableConf, areaConfIn, addAreaConf, requiredConfIn, addRequiredConf, providedConfIn, addProvidedConf, linkIn, addLink, operationConfIn, addOperationConf, timerConfIn, addTimerConf, dataEventIn, addDataEvent, returnEventIn, addReturnEvent, noConfig, noRunnableConf, noAreaConf, noRequiredConf, noOperationConf, noVariableConfs, noProvidedConfs, noLinks, noTimerConfs, noDataEvents, noReturnEvents}
 use Rattle.state.specs.Parts.{noRequests, noRunnable, noValues, noElement, noStack, noSlot, noClient, noOwed, noVariable, noArea, noOperation, noTimer}
 use Rattle.state.specs.Tables.{withRunnables, withVariables, withAreas, withElements, withOperations, withTimers, withSlots, noRunnables, runnableIn, withRunnable, noVariables, variableIn, withVariable, noAreas, areaIn, withArea, noElements, elementIn, withElement, noOperations, operationIn, withOperation, noTimers, timerIn, withTimer, noSlots, slotIn, withSlot}
@@ -173,7 +173,7 @@ unfolding soundOf clauses
 clauses-are cfg st = refl
 
 pub state-sound : soundOf config state ≡ true
-unfolding allOf allBelow anyBelow sumBelow firstBelow eachBelow shifted placeFilled filled isVoid isPayload isKind isGood sameValue runnableConfIn addRunnableConf variableConfIn addVariableConf areaConfIn addAreaConf requiredConfIn addRequiredConf providedConfIn addProvidedConf linkIn addLink operationConfIn addOperationConf timerConfIn addTimerConf dataEventIn addDataEvent returnEventIn addReturnEvent noConfig noRequests noRunnable noValues noElement noStack noSlot noRunnables runnableIn withRunnable noVariables variableIn withVariable noAreas areaIn withArea noElements elementIn withElement noOperations operationIn withOperation noTimers timerIn withTimer noSlots slotIn withSlot pushRequest firstRequest restRequests pushValue firstValue restValues pushArea topArea popArea startVariable startElement startRunnables startVariables startElements startOf maxOf countOf placesOf entryOf placed inRange namesThere isServer isQueued rises risesAt pairsWell entryFault isNoEntry placeSound kindSound configSound isNoClient clientFits requestsSound valuesSound runnableSound variableSound isStored elementSound isOutcome callingSound doneSound operationSound timerSound waitsWell lifeSound owedSound areaFits stackSound isNoSlot slotSound ofRunnable slotsOf countSound timesIn holders areaSound isClient queuedAs servedAs clientsAs clientSound queuedSound servedSound calledSound waitsOn waitersOf waiterSound runnablesSound variablesSound elementsSound operationsSound timersSound slotsSound countsSound areasSound clientsSound waitersSound shaped soundOf configWith config caller nested one served life idle waiter first second slotsWith runnablesWith asked queueOne queueTwo operationsWith doneWith shutWith freeWith elementsWith state
+unfolding allOf allBelow anyBelow sumBelow firstBelow eachBelow shifted placeFilled filled isVoid isPayload isKind isMask isGood sameValue runnableConfIn addRunnableConf variableConfIn addVariableConf areaConfIn addAreaConf requiredConfIn addRequiredConf providedConfIn addProvidedConf linkIn addLink operationConfIn addOperationConf timerConfIn addTimerConf dataEventIn addDataEvent returnEventIn addReturnEvent noConfig noRequests noRunnable noValues noElement noStack noSlot noRunnables runnableIn withRunnable noVariables variableIn withVariable noAreas areaIn withArea noElements elementIn withElement noOperations operationIn withOperation noTimers timerIn withTimer noSlots slotIn withSlot pushRequest firstRequest restRequests pushValue firstValue restValues pushArea topArea popArea startVariable startElement startRunnables startVariables startElements startOf maxOf countOf placesOf entryOf placed inRange namesThere isServer isQueued rises risesAt pairsWell entryFault isNoEntry placeSound kindSound configSound isNoClient clientFits requestsSound valuesSound runnableSound variableSound isStored elementSound isOutcome callingSound doneSound operationSound timerSound waitsWell lifeSound owedSound areaFits stackSound isNoSlot slotSound ofRunnable slotsOf countSound timesIn holders areaSound isClient queuedAs servedAs clientsAs clientSound queuedSound servedSound calledSound waitsOn waitersOf waiterSound runnablesSound variablesSound elementsSound operationsSound timersSound slotsSound countsSound areasSound clientsSound waitersSound shaped soundOf configWith config caller nested one served life idle waiter first second slotsWith runnablesWith asked queueOne queueTwo operationsWith doneWith shutWith freeWith elementsWith state
 state-sound = refl
 
 -- ---- near it, and unsound for one clause alone
@@ -339,7 +339,7 @@ near =
 
 -- of each, the clauses hold as it says: all but one
 pub near-unsound : map (λ (x : Near). clauses (x .config) (x .state)) near ≡ map (λ (x : Near). allBut (x .fails)) near
-unfolding allOf allBelow anyBelow sumBelow firstBelow eachBelow shifted placeFilled filled isVoid isPayload isKind isGood sameValue runnableConfIn addRunnableConf variableConfIn addVariableConf areaConfIn addAreaConf requiredConfIn addRequiredConf providedConfIn addProvidedConf linkIn addLink operationConfIn addOperationConf timerConfIn addTimerConf dataEventIn addDataEvent returnEventIn addReturnEvent noConfig noRequests noRunnable noValues noElement noStack noSlot noRunnables runnableIn withRunnable noVariables variableIn withVariable noAreas areaIn withArea noElements elementIn withElement noOperations operationIn withOperation noTimers timerIn withTimer noSlots slotIn withSlot pushRequest firstRequest restRequests pushValue firstValue restValues pushArea topArea popArea startVariable startElement startRunnables startVariables startElements startOf maxOf countOf placesOf entryOf placed inRange namesThere isServer isQueued rises risesAt pairsWell entryFault isNoEntry placeSound kindSound configSound isNoClient clientFits requestsSound valuesSound runnableSound variableSound isStored elementSound isOutcome callingSound doneSound operationSound timerSound waitsWell lifeSound owedSound areaFits stackSound isNoSlot slotSound ofRunnable slotsOf countSound timesIn holders areaSound isClient queuedAs servedAs clientsAs clientSound queuedSound servedSound calledSound waitsOn waitersOf waiterSound runnablesSound variablesSound elementsSound operationsSound timersSound slotsSound countsSound areasSound clientsSound waitersSound shaped soundOf configWith config caller nested one served life idle waiter first second slotsWith runnablesWith asked queueOne queueTwo operationsWith doneWith shutWith freeWith elementsWith state clauses near allBut unconfigured slotsMore serverPending twiceWithout otherServer variableUnused queueLong queueOk behindQueue countAbove errNumbered timerUnused waitsAsync waitsForeign owesFinished finishedPlain foreignArea emptyUsed emptyFailed noInstance heldFree heldTwice callAlone callAhead clientTwice pastTwice apartTwice callUnbound waitersTwo
+unfolding allOf allBelow anyBelow sumBelow firstBelow eachBelow shifted placeFilled filled isVoid isPayload isKind isMask isGood sameValue runnableConfIn addRunnableConf variableConfIn addVariableConf areaConfIn addAreaConf requiredConfIn addRequiredConf providedConfIn addProvidedConf linkIn addLink operationConfIn addOperationConf timerConfIn addTimerConf dataEventIn addDataEvent returnEventIn addReturnEvent noConfig noRequests noRunnable noValues noElement noStack noSlot noRunnables runnableIn withRunnable noVariables variableIn withVariable noAreas areaIn withArea noElements elementIn withElement noOperations operationIn withOperation noTimers timerIn withTimer noSlots slotIn withSlot pushRequest firstRequest restRequests pushValue firstValue restValues pushArea topArea popArea startVariable startElement startRunnables startVariables startElements startOf maxOf countOf placesOf entryOf placed inRange namesThere isServer isQueued rises risesAt pairsWell entryFault isNoEntry placeSound kindSound configSound isNoClient clientFits requestsSound valuesSound runnableSound variableSound isStored elementSound isOutcome callingSound doneSound operationSound timerSound waitsWell lifeSound owedSound areaFits stackSound isNoSlot slotSound ofRunnable slotsOf countSound timesIn holders areaSound isClient queuedAs servedAs clientsAs clientSound queuedSound servedSound calledSound waitsOn waitersOf waiterSound runnablesSound variablesSound elementsSound operationsSound timersSound slotsSound countsSound areasSound clientsSound waitersSound shaped soundOf configWith config caller nested one served life idle waiter first second slotsWith runnablesWith asked queueOne queueTwo operationsWith doneWith shutWith freeWith elementsWith state clauses near allBut unconfigured slotsMore serverPending twiceWithout otherServer variableUnused queueLong queueOk behindQueue countAbove errNumbered timerUnused waitsAsync waitsForeign owesFinished finishedPlain foreignArea emptyUsed emptyFailed noInstance heldFree heldTwice callAlone callAhead clientTwice pastTwice apartTwice callUnbound waitersTwo
 near-unsound = refl
 
 -- ---- near it, and sound
@@ -359,5 +359,5 @@ soundToo =
     ∷ []
 
 pub near-sound : map (λ (x : State). soundOf config x) soundToo ≡ true ∷ true ∷ true ∷ true ∷ true ∷ true ∷ true ∷ true ∷ []
-unfolding allOf allBelow anyBelow sumBelow firstBelow eachBelow shifted placeFilled filled isVoid isPayload isKind isGood sameValue runnableConfIn addRunnableConf variableConfIn addVariableConf areaConfIn addAreaConf requiredConfIn addRequiredConf providedConfIn addProvidedConf linkIn addLink operationConfIn addOperationConf timerConfIn addTimerConf dataEventIn addDataEvent returnEventIn addReturnEvent noConfig noRequests noRunnable noValues noElement noStack noSlot noRunnables runnableIn withRunnable noVariables variableIn withVariable noAreas areaIn withArea noElements elementIn withElement noOperations operationIn withOperation noTimers timerIn withTimer noSlots slotIn withSlot pushRequest firstRequest restRequests pushValue firstValue restValues pushArea topArea popArea startVariable startElement startRunnables startVariables startElements startOf maxOf countOf placesOf entryOf placed inRange namesThere isServer isQueued rises risesAt pairsWell entryFault isNoEntry placeSound kindSound configSound isNoClient clientFits requestsSound valuesSound runnableSound variableSound isStored elementSound isOutcome callingSound doneSound operationSound timerSound waitsWell lifeSound owedSound areaFits stackSound isNoSlot slotSound ofRunnable slotsOf countSound timesIn holders areaSound isClient queuedAs servedAs clientsAs clientSound queuedSound servedSound calledSound waitsOn waitersOf waiterSound runnablesSound variablesSound elementsSound operationsSound timersSound slotsSound countsSound areasSound clientsSound waitersSound shaped soundOf configWith config caller nested one served life idle waiter first second slotsWith runnablesWith asked queueOne queueTwo operationsWith doneWith shutWith freeWith elementsWith state soundToo
+unfolding allOf allBelow anyBelow sumBelow firstBelow eachBelow shifted placeFilled filled isVoid isPayload isKind isMask isGood sameValue runnableConfIn addRunnableConf variableConfIn addVariableConf areaConfIn addAreaConf requiredConfIn addRequiredConf providedConfIn addProvidedConf linkIn addLink operationConfIn addOperationConf timerConfIn addTimerConf dataEventIn addDataEvent returnEventIn addReturnEvent noConfig noRequests noRunnable noValues noElement noStack noSlot noRunnables runnableIn withRunnable noVariables variableIn withVariable noAreas areaIn withArea noElements elementIn withElement noOperations operationIn withOperation noTimers timerIn withTimer noSlots slotIn withSlot pushRequest firstRequest restRequests pushValue firstValue restValues pushArea topArea popArea startVariable startElement startRunnables startVariables startElements startOf maxOf countOf placesOf entryOf placed inRange namesThere isServer isQueued rises risesAt pairsWell entryFault isNoEntry placeSound kindSound configSound isNoClient clientFits requestsSound valuesSound runnableSound variableSound isStored elementSound isOutcome callingSound doneSound operationSound timerSound waitsWell lifeSound owedSound areaFits stackSound isNoSlot slotSound ofRunnable slotsOf countSound timesIn holders areaSound isClient queuedAs servedAs clientsAs clientSound queuedSound servedSound calledSound waitsOn waitersOf waiterSound runnablesSound variablesSound elementsSound operationsSound timersSound slotsSound countsSound areasSound clientsSound waitersSound shaped soundOf configWith config caller nested one served life idle waiter first second slotsWith runnablesWith asked queueOne queueTwo operationsWith doneWith shutWith freeWith elementsWith state soundToo
 near-sound = refl

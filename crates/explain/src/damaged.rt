@@ -19,11 +19,20 @@ fn put_whose(out: &mut [u8], at: usize, argument: bool) -> usize {
 }
 
 fn put_bad(out: &mut [u8], at: usize, kind: u8, number: u32) -> usize {
-    if is_bad(kind, 0) {
-        return put(out, at, b"; the kinds of values are 0 to 7 and 9.\n");
+    if is_bad(kind, 1) {
+        if is_bad(kind, 0) {
+            return put(out, at, b"; the kinds of values are 0 to 9.\n");
+        }
     }
     let a = put_with(out, at, b" and has the number ", number as u64);
-    put(out, a, b"; only a Number, kind 1, has one.\n")
+    if kind == 8 {
+        return put(out, a, b"; the mask of a Full is 1 to 65535.\n");
+    }
+    put(
+        out,
+        a,
+        b"; only a Number, kind 1, and a Full, kind 8, have one.\n",
+    )
 }
 
 fn is_bad(kind: u8, number: u32) -> bool {

@@ -134,9 +134,9 @@ fn put_claimed(out: &mut [u8], at: usize, names: &[u8], x: Step, c: Cause) -> us
             let a = put(out, at, b" says that `");
             let b = words::put_deed(out, a, names, x);
             let d = put(out, b, b"` answered ");
-            let e = table::put_meant(out, d, x.code, x.claim);
+            let e = table::put_meant(out, d, names, x.code, x.claim);
             let f = put(out, e, b". It can't have: the answer is ");
-            let g = table::put_meant(out, f, x.code, v);
+            let g = table::put_meant(out, f, names, x.code, v);
             put(out, g, b".")
         }
         _ => {

@@ -2,6 +2,7 @@
 use crate::putting::put;
 use crate::putting::put_number;
 use crate::putting::put_with;
+use crate::words::put_answered;
 use crate::words::put_count;
 use crate::words::put_kind;
 use crate::words::put_part;
@@ -364,13 +365,13 @@ fn put_has_client(out: &mut [u8], at: usize, names: &[u8], o: u8, s: Step) -> us
 }
 
 // 17: the right answer.
-fn put_differs(out: &mut [u8], at: usize, v: Value, s: Step) -> usize {
+fn put_differs(out: &mut [u8], at: usize, names: &[u8], v: Value, s: Step) -> usize {
     let a = put(out, at, b"the step is possible, and its answer is ");
-    let b = put_value(out, a, v);
+    let b = put_answered(out, a, names, v);
     let c = put(out, b, b"; ");
     let d = put_who(out, c, s);
     let e = put(out, d, b" claims ");
-    let f = put_value(out, e, s.claim);
+    let f = put_answered(out, e, names, s.claim);
     put(out, f, b".")
 }
 
@@ -419,7 +420,7 @@ pub(crate) fn put_cause(out: &mut [u8], at: usize, names: &[u8], s: Step, c: Cau
         Cause::TimerRuns(t) => put_runs_on(out, at, names, t, s),
         Cause::NoClient => put_no_client(out, at, s),
         Cause::HasClient(o) => put_has_client(out, at, names, o, s),
-        Cause::Differs(v) => put_differs(out, at, v, s),
+        Cause::Differs(v) => put_differs(out, at, names, v, s),
         _ => put_first(out, at, names, s, c),
     }
 }

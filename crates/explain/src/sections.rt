@@ -65,7 +65,7 @@ fn put_option(
     let a = put(out, at, b"; ");
     let b = crate::words::put_option(out, a, names, probe(code, who, what));
     let c = put_void(out, b, st, code, who);
-    put_answer(out, c, v)
+    put_answer(out, c, names, v)
 }
 
 fn put_allowed(
@@ -266,7 +266,7 @@ fn put_inserted(
         Field::Step(x, _) => {
             let a = put(out, at, b"  scheduler ");
             let b = put_deed(out, a, names, x);
-            let c = put_answer(out, b, x.claim);
+            let c = put_answer(out, b, names, x.claim);
             put(out, c, b"\n")
         }
         _ => at,

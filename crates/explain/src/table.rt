@@ -12,6 +12,7 @@ use crate::putting::show;
 use crate::putting::show_trimmed;
 use crate::words::is_slots;
 use crate::words::put_answer;
+use crate::words::put_answered;
 use crate::words::put_deed;
 use crate::words::put_part;
 use crate::words::put_slot;
@@ -19,6 +20,7 @@ use crate::words::put_value;
 use config::Config;
 use recording::Field;
 use state::State;
+use values::Answer;
 use values::Step;
 use values::Value;
 use whys::Cause;
@@ -192,8 +194,8 @@ fn put_remark(out: &mut [u8], at: usize, code: u8, v: Value) -> usize {
 }
 
 // An answer, and what it means.
-pub(crate) fn put_meant(out: &mut [u8], at: usize, code: u8, v: Value) -> usize {
-    let a = put_value(out, at, v);
+pub(crate) fn put_meant(out: &mut [u8], at: usize, names: &[u8], code: u8, v: Value) -> usize {
+    let a = put_answered(out, at, names, v);
     put_remark(out, a, code, v)
 }
 
@@ -203,7 +205,7 @@ pub(crate) fn put_done(out: &mut [u8], at: usize, names: &[u8], x: Step) -> usiz
         return put(out, at, b"fails");
     }
     let a = put_deed(out, at, names, x);
-    let b = put_answer(out, a, x.claim);
+    let b = put_answer(out, a, names, x.claim);
     put_remark(out, b, x.code, x.claim)
 }
 
@@ -213,9 +215,9 @@ pub(crate) fn put_refused(out: &mut [u8], at: usize, names: &[u8], x: Step, c: C
     match c {
         Cause::Differs(v) => {
             let b = put(out, a, b": RECORDED ");
-            let d = put_meant(out, b, x.code, x.claim);
+            let d = put_meant(out, b, names, x.code, x.claim);
             let e = put(out, d, b"; RIGHT ");
-            put_meant(out, e, x.code, v)
+            put_meant(out, e, names, x.code, v)
         }
         _ => put(out, a, b": NOT POSSIBLE"),
     }
@@ -661,6 +663,18 @@ fn weigh(names: &[u8], s: &[u8], p: Plan, t: Walk, o: u8, x: Step, place: usize)
     u
 }
 
+// The step with its answer in place of its claim: a send may claim Limit where it answered Full.
+fn answering(x: Step, a: Answer) -> Step {
+    let mut y = x;
+    match a {
+        Answer::Taken(v) => {
+            y.claim = v;
+            y
+        }
+        Answer::Refused(_) => y,
+    }
+}
+
 // One accepted step of a walk.
 fn pass(
     cfg: Config,
@@ -675,10 +689,11 @@ fn pass(
     let st = t.state;
     let r = machine::inner(cfg, st, x);
     let after = r.state;
+    let a = r.answer;
     let mut u = t;
     u.state = after;
     u.ms = later(t.ms, x);
-    weigh(names, s, p, u, o, x, place)
+    weigh(names, s, p, u, o, answering(x, a), place)
 }
 
 // The accepted steps from the start on.

@@ -17,6 +17,7 @@ pub(crate) fn put_value(out: &mut [u8], at: usize, v: Value) -> usize {
         5 => put(out, at, b"Timeout"),
         6 => put(out, at, b"NeverReceived"),
         7 => put(out, at, b"Invalid"),
+        8 => put_with(out, at, b"Full ", v.number as u64),
         9 => put(out, at, b"ServerErr"),
         _ => put_with(out, at, b"a bad value of kind ", kind as u64),
     }
@@ -96,13 +97,48 @@ fn put_argument(out: &mut [u8], at: usize, s: Step) -> usize {
     at
 }
 
+// A queue that was full, behind those before it.
+fn put_one_full(out: &mut [u8], at: usize, names: &[u8], q: u8, first: bool) -> usize {
+    if first {
+        let a = put(out, at, b": ");
+        return put_part(out, a, names, 0x13, q);
+    }
+    let b = put(out, at, b", ");
+    put_part(out, b, names, 0x13, q)
+}
+
+// The queues of a mask.
+fn put_full(out: &mut [u8], at: usize, names: &[u8], mask: u32) -> usize {
+    let mut next = put(out, at, b"Full");
+    let mut m = mask;
+    let mut first = true;
+    let mut q: u8 = 0;
+    while q < 16 {
+        if m % 2 == 1 {
+            next = put_one_full(out, next, names, q, first);
+            first = false;
+        }
+        m = m / 2;
+        q = q + 1;
+    }
+    next
+}
+
+// What a step answers: a Full names its queues.
+pub(crate) fn put_answered(out: &mut [u8], at: usize, names: &[u8], v: Value) -> usize {
+    if v.says_full() {
+        return put_full(out, at, names, v.number);
+    }
+    put_value(out, at, v)
+}
+
 // An answer behind an arrow; Void goes without saying.
-pub(crate) fn put_answer(out: &mut [u8], at: usize, v: Value) -> usize {
+pub(crate) fn put_answer(out: &mut [u8], at: usize, names: &[u8], v: Value) -> usize {
     if v.is_void() {
         return at;
     }
     let a = put(out, at, b" -> ");
-    put_value(out, a, v)
+    put_answered(out, a, names, v)
 }
 
 // A code is that of a step which the instance in a slot takes.

@@ -6,15 +6,15 @@ use mathlib.Core.List.{List, [], _∷_}
 use mathlib.Core.Path.{_≡_, refl, ap, _∙_}
 use lib.Dec.{ltb, eqb}
 use lib.ListN.{length, getD}
-use borrow.Author.Tests.{eq-eqb}
 use Rattle.numbers.specs.Refusals.{otherAnswer}
 use Rattle.laws.specs.Choice.{pick, both}
 use Rattle.types.specs.Types.{Value, Step, Answer, Taken, Refused as Barred, Config, State, Stepped}
-use Rattle.values.specs.Values.{answerValue, sameValue}
+use Rattle.values.specs.Values.{answerValue}
 use Rattle.rules.specs.Sound.{soundOf}
 use Rattle.rules.specs.Refusals.{instanceRefusal, schedulerRefusal, refusalBy, refusalOf}
 use Rattle.effects.specs.Steps.{refused}
-use Rattle.effects.specs.Step.{onAnswer, possibleOf, claimedOf, innerOf, stepOf}
+use Rattle.effects.specs.Step.{onAnswer, agrees, possibleOf, claimedOf, innerOf, stepOf}
+use Rattle.effects.proofs.Agreeing.{agrees-self}
 use Rattle.stays_sound.proofs.Keeps.{once, kept-step}
 use Rattle.recording.specs.Whole.{wholeOf, stepsIn}
 use Rattle.gaps.specs.Gaps.{Turn, sequencesOf, isTaken, answered, fills, rankOf, canFill, fillOf, answeredAll, stateAfter, turnOf, turnSteps, turnsOf, mendedSteps}
@@ -32,21 +32,17 @@ possible-claimed cfg st x v = refl
 pub possible-answered : (cfg : Config) (st : State) (x : Step) → possibleOf cfg st (answered cfg st x) ≡ possibleOf cfg st x
 possible-answered cfg st x = possible-claimed cfg st x (answerValue (possibleOf cfg st x .answer))
 
-same-self : (v : Value) → sameValue v v ≡ true
-unfolding sameValue
-same-self v = rw (eq-eqb (v .kind) (v .kind) refl, eq-eqb (v .number) (v .number) refl)
-
-claimed-itself : (st : State) (r : Stepped) → claimedOf (answerValue (r .answer)) st r ≡ r
+claimed-itself : (s : Step) (st : State) (r : Stepped) → s .claim ≡ answerValue (r .answer) → claimedOf s st r ≡ r
 unfolding claimedOf
-claimed-itself st r = go (r .answer)
+claimed-itself s st r e = rw e (go (r .answer))
   where
-    go : (a : Answer) → onAnswer a (λ (v : Value). pick (sameValue v (answerValue a)) r (refused otherAnswer st)) (λ (n : ℕ). r) ≡ r
-    go (Taken v) = rw (same-self v)
+    go : (a : Answer) → onAnswer a (λ (v : Value). pick (agrees (s .code) v (answerValue a)) r (refused otherAnswer st)) (λ (n : ℕ). r) ≡ r
+    go (Taken v) = rw (agrees-self (s .code) v)
     go (Barred n) = refl
 
 pub answered-is : (cfg : Config) (st : State) (x : Step) → innerOf cfg st (answered cfg st x) ≡ possibleOf cfg st x
 unfolding innerOf
-answered-is cfg st x = ap (claimedOf (answerValue (possibleOf cfg st x .answer)) st) (possible-answered cfg st x) ∙ claimed-itself st (possibleOf cfg st x)
+answered-is cfg st x = ap (claimedOf (answered cfg st x) st) (possible-answered cfg st x) ∙ claimed-itself (answered cfg st x) st (possibleOf cfg st x) refl
 
 -- ---- a step function that is the same wherever a test holds, and keeps it, mends the same
 

@@ -1,11 +1,11 @@
--- From an accepted step to its deed: it went a way of its code (`way` in crate stays_sound), and every way is a deed (`deed-way`). Most ways are calm: they touch no call, no area and no timer (`calm`).
+-- From an accepted step to its deed: it went a way of its code (`gone` in crate stays_sound), and every way is a deed (`deed-way`). Most ways are calm: they touch no call, no area and no timer (`calm`).
 -- Assumes nothing.
 use Prim.Native.Nat.{ℕ}
 use mathlib.Core.Bool.{Bool, true, false}
 use mathlib.Core.Path.{_≡_, refl, sym, _∙_, ap}
 use native.Mathlib.Omega.{arith}
 use lib.Dec.{eqb}
-use Rattle.numbers.specs.Codes.{enterCode, exitCode, callCode, handBackCode, endCode, spawnCode, timeoutCode, tickCode, waitCode, failCode}
+use Rattle.numbers.specs.Codes.{enterCode, exitCode, sendCode, callCode, handBackCode, endCode, spawnCode, timeoutCode, tickCode, waitCode, failCode}
 use Rattle.laws.specs.Choice.{either}
 use Rattle.laws.proofs.Choosing.{clash}
 use Rattle.types.specs.Types.{Value, Step, Taken, Config, State}
@@ -17,7 +17,7 @@ use Rattle.stays_sound.specs.Facts.{Sound, CanSpawn}
 use Rattle.stays_sound.proofs.Told.{told}
 use Rattle.stays_sound.proofs.Ways.{Way}
 use Rattle.stays_sound.proofs.Ways as go
-use Rattle.stays_sound.proofs.Accepted.{accepted, way}
+use Rattle.stays_sound.proofs.Accepted.{accepted, claim-told, gone}
 use Rattle.history.specs.History.{timeOf}
 use Rattle.history.proofs.Timed.{still}
 use Rattle.history.proofs.Passes.{Calm, calm-same, write-variable-calm, elements-calm, fed-calm, enter-alike, exit-alike, collect-calm, tick-alike, tick-unmoved, wait-alike, wait-unmoved}
@@ -78,7 +78,7 @@ module _ (cfg : Config) (st : State) (s : Step) where
       by true e = server c k e z refl
       by false e = plain c k e z refl
 
-  deed-way : {n : ℕ} {w : Value} {t : State} → Sound cfg st → s .code ≡ n → s .claim ≡ w → Way cfg st s n w t → Deed cfg st s t
+  deed-way : {n : ℕ} {w : Value} {t : State} → Sound cfg st → s .code ≡ n → (eqb n sendCode ≡ false → s .claim ≡ w) → Way cfg st s n w t → Deed cfg st s t
   unfolding timeOf
   deed-way g c k go.readVariable = calm c refl refl (calm-same st)
   deed-way g c k (go.writeVariable z) = calm c refl refl (write-variable-calm st _ _)
@@ -93,15 +93,15 @@ module _ (cfg : Config) (st : State) (s : Step) where
   deed-way g c k (go.receiveNone e) = calm c refl refl (calm-same st)
   deed-way g c k (go.receive z) = calm c refl refl (elements-calm st _)
   deed-way g c k (go.send z) = calm c refl refl (fed-calm cfg st _ _)
-  deed-way g c k (go.callBusy e) = calm-by c refl (quiet-open s c k) (calm-same st)
-  deed-way g c k (go.call z) = call c k z refl
+  deed-way g c k (go.callBusy e) = calm-by c refl (quiet-open s c (k refl)) (calm-same st)
+  deed-way g c k (go.call z) = call c (k refl) z refl
   deed-way g c k (go.pollOpen a e) = calm c refl refl (calm-same st)
   deed-way g c k (go.poll a e) = calm c refl refl (calm-same st)
   deed-way g c k (go.collect z) = calm c refl refl (collect-calm st _)
-  deed-way g c k (go.answer z e) = answer c k z e refl
-  deed-way g c k (go.late z e) = late c k z refl
+  deed-way g c k (go.answer z e) = answer c (k refl) z e refl
+  deed-way g c k (go.late z e) = late c (k refl) z refl
   deed-way g c k (go.end z) = end c z refl
-  deed-way g c k (go.spawn z) = spawn-deed c k z
+  deed-way g c k (go.spawn z) = spawn-deed c (k refl) z
   deed-way g c k (go.timeout z) = timeout c z refl
   deed-way g c k (go.tick z) =
       pass (rw (still s (other-code waitCode c refl)) (tick-alike cfg st _)) (quiet s c refl) (stays (other-code enterCode c refl) (other-code exitCode c refl) (tick-unmoved cfg st _)) (ticks c z refl)
@@ -109,5 +109,5 @@ module _ (cfg : Config) (st : State) (s : Step) where
       pass (rw c (wait-alike cfg st _ g z)) (quiet s c refl) (stays (other-code enterCode c refl) (other-code exitCode c refl) (wait-unmoved cfg st _ g z)) (waits c z refl)
   deed-way g c k (go.fail z) = fail c z refl
 
-  pub deed : stepOf cfg st s .answer ≡ Taken (s .claim) → Deed cfg st s (stepOf cfg st s .state)
-  deed h = deed-way (told cfg st (accepted cfg st s (s .claim) h .0)) refl refl (way cfg st s refl h)
+  pub deed : {v : Value} → stepOf cfg st s .answer ≡ Taken v → Deed cfg st s (stepOf cfg st s .state)
+  deed h = deed-way (told cfg st (accepted cfg st s h .0)) refl (claim-told cfg st s h) (gone cfg st s refl h)

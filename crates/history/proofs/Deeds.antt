@@ -9,13 +9,14 @@ use native.Mathlib.Omega.{arith}
 use lib.Dec.{eqb}
 use borrow.Author.Tests.{ltb-true, ltb-false, eqb-true, eq-eqb, ne-eqb}
 use Rattle.numbers.specs.Codes.{enterCode, exitCode, callCode, handBackCode, endCode, spawnCode, timeoutCode, tickCode, waitCode, failCode}
-use Rattle.laws.proofs.Choosing.{clash, both-left, both-right, pick-has}
-use Rattle.types.specs.Types.{Value, Step, Config, State}
+use Rattle.laws.proofs.Choosing.{clash, pick-has}
+use Rattle.types.specs.Types.{Step, Config, State}
 use Rattle.values.specs.Values.{numberV, okV, timeoutV, sameValue}
 use Rattle.config.specs.Tables.{runnableConfIn}
 use Rattle.entries.specs.Faults.{isServer}
 use Rattle.state.specs.Tables.{runnableIn}
 use Rattle.effects.specs.Steps.{entered, exited, called, closed, answers, clientOf, finished, answered, handedBack, emptied, isDue, lowestEmpty, spawned, ticked, waited, failed}
+use Rattle.effects.proofs.Agreeing.{same-value}
 use Rattle.stays_sound.specs.Facts.{Sound, CanEnter, CanExit, CanCall, CanHandBack, CanEnd, CanSpawn, CanTimeout, CanTick, CanWait, CanFail}
 use Rattle.history.specs.History.{noRequest, byTimeout, History, passed, begins, closes, backBy, fails, takes, takesOldest, takenBy, observe, timeOf}
 use Rattle.history.proofs.Tied.{Alike, Tied, tied-alike}
@@ -63,14 +64,6 @@ pub other-code : {k n : ℕ} (m : ℕ) → k ≡ n → eqb n m ≡ false → k �
 other-code {k} {n} m c f e = clash (eqb n m) (eq-eqb n m (sym c ∙ e)) f
 
 -- ---- what each adds to the history
-
--- two values that are the same
-pub same-value : (v w : Value) → sameValue v w ≡ true → v ≡ w
-unfolding sameValue
-same-value v w h =
-    let k : v .kind ≡ w .kind = eqb-true _ _ (both-left (eqb (v .kind) (w .kind)) _ h) in
-    let n : v .number ≡ w .number = eqb-true _ _ (both-right (eqb (v .kind) (w .kind)) _ h) in
-    λ i. record { kind = k i; number = n i }
 
 module _ (cfg : Config) (h : History) (s : Step) where
   pub pass-adds : Quiet s → observe cfg h s ≡ passed h

@@ -15,12 +15,13 @@ use Rattle.types.specs.Types.{Value, Step, Config, Client, State}
 use Rattle.values.specs.Values.{voidV, isNumber, isVoid, isPayload, sameValue}
 use Rattle.state.specs.Tables.{operationIn}
 use Rattle.effects.specs.Steps.{answers, serves, clientOf, hasFailed}
+use Rattle.effects.proofs.Agreeing.{same-value}
 use Rattle.stays_sound.specs.Facts.{CanHandBack}
 use Rattle.history.specs.History.{byInstance, byFailure, Ending, History, nothing, historyOf, takenBy, failedBy, latestOn, observe, HandedBack, EndedBy, InTime}
 use Rattle.history.specs.Promises.{Ended}
 use Rattle.history.proofs.Tied.{Tag, Tied}
 use Rattle.history.proofs.Named.{Named}
-use Rattle.history.proofs.Deeds.{Deed, pass, call, answer, late, end, server, plain, timeout, fail, same-value, pass-adds, call-adds, answer-adds, late-adds, end-adds, server-adds, plain-adds, timeout-adds, fail-adds}
+use Rattle.history.proofs.Deeds.{Deed, pass, call, answer, late, end, server, plain, timeout, fail, pass-adds, call-adds, answer-adds, late-adds, end-adds, server-adds, plain-adds, timeout-adds, fail-adds}
 use Rattle.history.proofs.Timed.{Timed}
 
 -- ---- every ending stands at its step, in time

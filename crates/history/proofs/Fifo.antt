@@ -20,10 +20,11 @@ use Rattle.types.specs.Types.{Step, Config, State}
 use Rattle.values.specs.Values.{okV, sameValue}
 use Rattle.config.specs.Tables.{operationConfIn}
 use Rattle.entries.specs.Faults.{isServer}
+use Rattle.effects.proofs.Agreeing.{same-value}
 use Rattle.history.specs.History.{Request, noRequest, History, nothing, passed, begins, takes, takesOldest, queuedAt, observe, allQueued, allSpawns}
 use Rattle.history.proofs.Beside.{all-alike}
 use Rattle.history.proofs.Tied.{Tied}
-use Rattle.history.proofs.Deeds.{Deed, pass, call, answer, late, end, server, plain, timeout, fail, same-value, pass-adds, call-adds, answer-adds, late-adds, end-adds, server-adds, plain-adds, timeout-adds, fail-adds, due-server}
+use Rattle.history.proofs.Deeds.{Deed, pass, call, answer, late, end, server, plain, timeout, fail, pass-adds, call-adds, answer-adds, late-adds, end-adds, server-adds, plain-adds, timeout-adds, fail-adds, due-server}
 
 -- ---- what a recording queues at r, and how often it spawns r
 

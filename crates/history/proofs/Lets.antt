@@ -1,26 +1,28 @@
--- What an accepted step was let through with, beyond its way: whoever takes it as an instance is in its slot (`taker-used`) and, if it has failed, does what is left to it (`failed-lets`), as it does if it is finished (`finished-lets`) or waits (`waiting-lets`); and a result of a synchronous operation finds no call open there (`collected-shut`).
+-- What an accepted step was let through with, beyond its way: whoever takes it as an instance is in its slot (`taker-used`) and, if it has failed, does what is left to it (`failed-lets`), as it does if it is finished (`finished-lets`) or waits (`waiting-lets`); a result of a synchronous operation finds no call open there (`collected-shut`), and a send is of a queued element (`sent-queued`).
 -- Assumes nothing.
 use mathlib.Core.Bool.{Bool, true, false}
 use mathlib.Core.Path.{_≡_, refl}
-use lib.Dec.{eqb}
+use lib.Dec.{ltb, eqb}
 use borrow.Author.Tests.{eqb-true}
-use Rattle.numbers.specs.Codes.{exitCode, resultCode, handBackCode, endCode}
-use Rattle.laws.specs.Choice.{both, either}
-use Rattle.laws.proofs.Choosing.{both-left, both-right, all-told}
-use Rattle.types.specs.Types.{Step, Taken, Config, State}
-use Rattle.config.specs.Tables.{operationConfIn}
+use Rattle.numbers.specs.Codes.{exitCode, sendCode, resultCode, handBackCode, endCode}
+use Rattle.laws.specs.Choice.{both, either, bit}
+use Rattle.laws.proofs.Choosing.{both-left, both-right, all-told, alike-is}
+use Rattle.types.specs.Types.{Value, Step, Taken, Config, State}
+use Rattle.config.specs.Tables.{providedConfIn, operationConfIn}
+use Rattle.entries.specs.Entries.{entryOf}
 use Rattle.state.specs.Tables.{slotIn}
-use Rattle.rules.specs.Rows.{aSlot, rowOf}
-use Rattle.rules.specs.Refusals.{finishedLets, failedLets, lifeLets, refusalOf}
+use Rattle.rules.specs.Rows.{aSlot, rows, rowOf}
+use Rattle.rules.specs.Sound.{componentOf}
+use Rattle.rules.specs.Refusals.{queuesAs, partOwn, finishedLets, failedLets, lifeLets, refusalOf}
 use Rattle.effects.specs.Steps.{isOpen, collectOf, resultOf, hasFailed}
 use Rattle.effects.specs.Step.{stepOf}
 use Rattle.effects.proofs.Codes.{never, result, possible-by, possible-let}
 use Rattle.stays_sound.proofs.Says.{let-told}
 use Rattle.stays_sound.proofs.Accepted.{accepted}
 
-module _ (cfg : Config) (st : State) (s : Step) (a : stepOf cfg st s .answer ≡ Taken (s .claim)) where
+module _ (cfg : Config) (st : State) (s : Step) {v : Value} (a : stepOf cfg st s .answer ≡ Taken v) where
   let-through : refusalOf cfg (st .slots) s ≡ 0
-  let-through = possible-let cfg st s (rw (accepted cfg st s (s .claim) a .1) at a)
+  let-through = possible-let cfg st s (rw (accepted cfg st s a .1) at a)
 
   pub taker-used : rowOf (s .code) .who ≡ aSlot → slotIn (st .slots) (s .who) .used ≡ true
   taker-used w = let-told cfg st s refl let-through w .used
@@ -39,12 +41,23 @@ module _ (cfg : Config) (st : State) (s : Step) (a : stepOf cfg st s .answer ≡
       let t = rw f at (all-told _ (let-told cfg st s refl let-through w .life) .0) in
       (eqb-true _ _ (both-left (eqb (s .code) resultCode) _ t), eqb-true _ _ (both-right (eqb (s .code) resultCode) _ t))
 
+  -- a send is of a queued element
+  pub sent-queued : s .code ≡ sendCode → providedConfIn (cfg .provided) (s .what) .queued ≡ true
+  unfolding rowOf rows partOwn queuesAs entryOf
+  sent-queued c =
+      on (providedConfIn (cfg .provided) (s .what) .queued) (alike-is (ltb 0 (bit (providedConfIn (cfg .provided) (s .what) .queued))) true
+      (both-right (eqb (providedConfIn (cfg .provided) (s .what) .component) (componentOf cfg (slotIn (st .slots) (s .who) .life .runnable))) _ (let-told cfg st s c let-through refl .own)))
+    where
+      on : (b : Bool) → ltb 0 (bit b) ≡ true → b ≡ true
+      on true h = refl
+      on false h = h
+
   pub collected-shut : s .code ≡ resultCode → operationConfIn (cfg .operations) (s .what) .asynchronous ≡ false → isOpen st (s .what) ≡ false
   unfolding resultOf collectOf
   collected-shut c f = go (isOpen st (s .what)) refl
     where
-      taken : resultOf cfg st (s .who) (s .what) .answer ≡ Taken (s .claim)
-      taken = rw (accepted cfg st s (s .claim) a .1, possible-by cfg st s result c let-through) at a
+      taken : resultOf cfg st (s .who) (s .what) .answer ≡ Taken v
+      taken = rw (accepted cfg st s a .1, possible-by cfg st s result c let-through) at a
 
       go : (b : Bool) → isOpen st (s .what) ≡ b → isOpen st (s .what) ≡ false
       go true e = absurd (never (rw (f, e) at taken))

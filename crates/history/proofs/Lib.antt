@@ -24,5 +24,6 @@ pub mod Waiting
 pub mod Goes
 pub mod Reached
 pub mod Proofs
+pub mod Sends
 pub mod Together
 pub mod Refuted

@@ -9,10 +9,11 @@ use mathlib.Core.Option.{some}
 use mathlib.Core.Path.{_≡_, refl, sym, _∙_, ap}
 use native.Mathlib.Nat.{add-zero}
 use native.Mathlib.Omega.{arith}
-use lib.Dec.{ltb}
+use lib.Dec.{ltb, eqb}
 use lib.ListN.{length, getD, length-drop}
 use lib.Seq.{getD-drop}
 use borrow.Author.Tests.{ltb-true, ltb-false, lt-ltb, eq-eqb}
+use Rattle.numbers.specs.Codes.{sendCode}
 use Rattle.laws.specs.Choice.{bit}
 use Rattle.types.specs.Types.{Value, Step, Taken, Config, State}
 use Rattle.values.specs.Values.{numberV, serverErrV}
@@ -28,7 +29,7 @@ use Rattle.stays_sound.proofs.Kept.{here, lowest-empty}
 use Rattle.stays_sound.proofs.Areas.{times-none, exit-stack}
 use Rattle.stays_sound.proofs.Clients.{requests-told}
 use Rattle.stays_sound.proofs.Ways.{Way}
-use Rattle.stays_sound.proofs.Accepted.{way, enter-told, exit-told, collect-told, result-told, answer-told, end-told, spawn-told, timeout-told, tick-told}
+use Rattle.stays_sound.proofs.Accepted.{answerIn, way, enter-told, exit-told, collect-told, result-told, answer-told, end-told, spawn-told, timeout-told, tick-told}
 use Rattle.history.specs.History.{noRequest, History, historyOf, takenBy, latestOn, endsOf, lastOn, isUnended, livesIn, boundIn, awaitsIn, holderOf, allQueued, allSpawns}
 use Rattle.history.specs.Promises.{Run, OfRuns, OfSteps, StaysSound, HeldBy, AreasHeld, EntersFree, ExitsHeld, EndsEmpty, SpawnsEmpty, ActsAlive, HolderStays, FailedStops, BackIsLast, EndsPaid, FailedGoesOn, RequestsFit, ValuesFit, CallsOneByOne, WaiterWaits, BackIsAnswered, EndsOnce, EndsProperly, TimeoutAtZero, TimeoutInTime, BackInTime, OpenInTime, TicksInTime, TimersInTime, ResultIsDelivered, ResultIsOwn, DoneIsDelivered, NumberIsFinal, DoneIsFinal, FailureIsFinal, DoneIsFailure, UsedIsLived, FailedFollowed, FinishedFollowed, NumberGoesRound, WaitingFollowed, BoundFollowed, OpenIsUnended, UnendedIsLatest, LatestStarted, CountIsRest, QueuesFollowed, ServedFollowed, FirstInFirstOut, SpawnTakesNext}
 use Rattle.history.proofs.Runs.{Halves, halves, first, history-one}
@@ -53,11 +54,11 @@ module _ (cfg : Config) (before after : List Step) (s : Step) (st : State) (c : 
   sound-before : Sound cfg (found .mid)
   sound-before = sound-at cfg before (found .mid) c (found .before)
 
-  taken-there : stepOf cfg (found .mid) s .answer ≡ Taken (s .claim)
+  taken-there : stepOf cfg (found .mid) s .answer ≡ Taken (answerIn cfg (found .mid) s)
   taken-there = first cfg (found .mid) st s after (found .after)
 
-  way-there : {n : ℕ} → s .code ≡ n → Way cfg (found .mid) s n (s .claim) (stepOf cfg (found .mid) s .state)
-  way-there q = way cfg (found .mid) s q taken-there
+  way-there : {n : ℕ} → s .code ≡ n → eqb n sendCode ≡ false → Way cfg (found .mid) s n (s .claim) (stepOf cfg (found .mid) s .state)
+  way-there q f = way cfg (found .mid) s q f taken-there
 
 -- ---- states
 
@@ -73,28 +74,28 @@ pub enters-free : OfSteps EntersFree
 enters-free cfg before after s st c e q =
     let g = sound-before cfg before after s st c e in
     let m = found cfg before after s st c e in
-    let z = enter-told cfg (m .mid) s (way-there cfg before after s st c e q) in
+    let z = enter-told cfg (m .mid) s (way-there cfg before after s st c e q refl) in
     free-none cfg (m .mid) (s .what) g (omega (arith, z .inside, areas-most cfg c)) (holderOf (s .what) before) (holds-at cfg before (m .mid) (s .what) (m .before)) (z .free)
 
 pub exits-held : OfSteps ExitsHeld
 exits-held cfg before after s st c e q =
     let g = sound-before cfg before after s st c e in
     let m = found cfg before after s st c e in
-    let z = exit-told cfg (m .mid) s (way-there cfg before after s st c e q) in
+    let z = exit-told cfg (m .mid) s (way-there cfg before after s st c e q refl) in
     stack-holder cfg (m .mid) (s .what) g (omega (arith, z .inside, areas-most cfg c)) (holderOf (s .what) before) (s .who) (holds-at cfg before (m .mid) (s .what) (m .before))
     (here cfg (m .mid) (s .who) g (z .there)) (omega (arith, exit-stack cfg (m .mid) (s .who) (s .what) z (s .what), ap bit (eq-eqb (s .what) (s .what) refl)))
 
 pub ends-empty : OfSteps EndsEmpty
 ends-empty cfg before after s st c e q a b h =
     let m = found cfg before after s st c e in
-    let z = end-told cfg (m .mid) s (way-there cfg before after s st c e q) in
+    let z = end-told cfg (m .mid) s (way-there cfg before after s st c e q refl) in
     let w : Holds (m .mid) a (some (s .who)) = rw h at (holds-at cfg before (m .mid) a (m .before)) in
     omega (arith, w .1, times-none a (slotIn (m .mid .slots) (s .who) .stack) (z .flat))
 
 pub spawns-empty : OfSteps SpawnsEmpty
 spawns-empty cfg before after s st c e q =
     let m = found cfg before after s st c e in
-    let z = spawn-told cfg (m .mid) s (way-there cfg before after s st c e q) in
+    let z = spawn-told cfg (m .mid) s (way-there cfg before after s st c e q refl) in
     let k = lowestEmpty (m .mid .slots) in
     rw (z .1) (z .0 .slot, omega (arith, ltb-false 0 (livesIn k before) (sym (lives-at cfg before (m .mid) (m .before) .used k) ∙ lowest-empty (m .mid .slots) (z .0 .slot))))
 
@@ -125,7 +126,7 @@ pub failed-stops : OfSteps FailedStops
 failed-stops cfg before after s st c e w f =
     let m = found cfg before after s st c e in
     let g = tied-at cfg before (m .mid) (m .before) .failed .each (s .who) ∙ f in
-    (failed-lets cfg (m .mid) s (taken-there cfg before after s st c e) w g, λ q. back-failed cfg (m .mid) s g (way-there cfg before after s st c e q))
+    (failed-lets cfg (m .mid) s (taken-there cfg before after s st c e) w g, λ q. back-failed cfg (m .mid) s g (way-there cfg before after s st c e q refl))
 
 pub back-is-last : OfSteps BackIsLast
 back-is-last cfg before after s st c e w f =
@@ -136,7 +137,7 @@ back-is-last cfg before after s st c e w f =
 pub ends-paid : OfSteps EndsPaid
 ends-paid cfg before after s st c e q l =
     let m = found cfg before after s st c e in
-    let z = end-told cfg (m .mid) s (way-there cfg before after s st c e q) in
+    let z = end-told cfg (m .mid) s (way-there cfg before after s st c e q refl) in
     sym (backs-at cfg before (m .mid) (m .before) .finished (s .who)) ∙ (rw (z .none) at (paid-at cfg before (m .mid) (m .before) .each (s .who) l))
 
 pub failed-goes-on : OfRuns FailedGoesOn
@@ -157,7 +158,7 @@ values-fit cfg rs st c e q b = values-told cfg st q (sound-at cfg rs st c e) b
 pub calls-one-by-one : OfSteps CallsOneByOne
 calls-one-by-one cfg before after s st c e q =
     let m = found cfg before after s st c e in
-    call-alone cfg (m .mid) s (historyOf cfg before) (boundIn cfg (s .what) before) (tied-at cfg before (m .mid) (m .before)) (bounds-at cfg before (m .mid) (m .before) .bound (s .what)) (way-there cfg before after s st c e q)
+    call-alone cfg (m .mid) s (historyOf cfg before) (boundIn cfg (s .what) before) (tied-at cfg before (m .mid) (m .before)) (bounds-at cfg before (m .mid) (m .before) .bound (s .what)) (way-there cfg before after s st c e q refl)
 
 -- who waits for a call: it does so in the state, and its call is at its place
 waits-there : (cfg : Config) (rs : List Step) (st : State) (i : ℕ) → Run cfg rs st → 0 < awaitsIn cfg i rs → slotIn (st .slots) i .life .waiting ≡ true
@@ -177,7 +178,7 @@ waiter-waits cfg before after s st c e w p =
 pub back-is-answered : OfSteps BackIsAnswered
 back-is-answered cfg before after s st c e q =
     let m = found cfg before after s st c e in
-    back-way cfg (m .mid) s (historyOf cfg before) (tied-at cfg before (m .mid) (m .before)) (way-there cfg before after s st c e q)
+    back-way cfg (m .mid) s (historyOf cfg before) (tied-at cfg before (m .mid) (m .before)) (way-there cfg before after s st c e q refl)
 
 pub ends-once : OfRuns EndsOnce
 ends-once cfg rs st c e k = tied-at cfg rs st e .calls .once k
@@ -188,7 +189,7 @@ ends-properly cfg rs st c e x m = ended-at cfg rs x _ (ended-along cfg rs st e) 
 pub timeout-at-zero : OfSteps TimeoutAtZero
 timeout-at-zero cfg before after s st c e q =
     let m = found cfg before after s st c e in
-    let z = timeout-told cfg (m .mid) s (way-there cfg before after s st c e q) in
+    let z = timeout-told cfg (m .mid) s (way-there cfg before after s st c e q refl) in
     let t = tied-at cfg before (m .mid) (m .before) in
     let b = t .calls .begun (s .what) (z .calling) in
     (m .mid, m .before, z .calling, z .zero, named-at cfg before (m .mid) (m .before) .latest (s .what) b, omega (arith, rw (z .calling) at (t .calls .state (s .what) b)))
@@ -196,13 +197,13 @@ timeout-at-zero cfg before after s st c e q =
 pub timeout-in-time : OfSteps TimeoutInTime
 timeout-in-time cfg before after s st c e q =
     let m = found cfg before after s st c e in
-    let z = timeout-told cfg (m .mid) s (way-there cfg before after s st c e q) in
+    let z = timeout-told cfg (m .mid) s (way-there cfg before after s st c e q refl) in
     omega (arith, timed-at cfg before (m .mid) (m .before) .rest (s .what) (z .calling), z .zero)
 
 pub back-in-time : OfSteps BackInTime
 back-in-time cfg before after s st c e q v =
     let m = found cfg before after s st c e in
-    let z = answer-told cfg (m .mid) s v (way-there cfg before after s st c e q) in
+    let z = answer-told cfg (m .mid) s v (way-there cfg before after s st c e q refl) in
     let w = answer-latest (m .mid) (historyOf cfg before) (s .who) (z .0 .serving) (z .1) (tied-at cfg before (m .mid) (m .before)) in
     rw (w .latest) (omega (arith, timed-at cfg before (m .mid) (m .before) .rest (takenBy (historyOf cfg before) (s .who) .on) (w .calling)))
 
@@ -220,7 +221,7 @@ open-in-time cfg rs st c e k o x z =
 pub ticks-in-time : OfSteps TicksInTime
 ticks-in-time cfg before after s st c e q =
     let m = found cfg before after s st c e in
-    let z = tick-told cfg (m .mid) s (way-there cfg before after s st c e q) in
+    let z = tick-told cfg (m .mid) s (way-there cfg before after s st c e q refl) in
     omega (arith, ticked-at cfg before (m .mid) (m .before) .rest (s .what) (z .inside), z .zero)
 
 pub timers-in-time : OfRuns TimersInTime
@@ -230,7 +231,7 @@ pub result-is-delivered : OfSteps ResultIsDelivered
 result-is-delivered cfg before after s st c e q =
     let m = found cfg before after s st c e in
     let t = tied-at cfg before (m .mid) (m .before) in (
-      result-delivered cfg (m .mid) s (historyOf cfg before) t (way-there cfg before after s st c e q),
+      result-delivered cfg (m .mid) s (historyOf cfg before) t (way-there cfg before after s st c e q refl),
       λ f. sym (open-unended (m .mid) (historyOf cfg before) (s .what) t) ∙ collected-shut cfg (m .mid) s (taken-there cfg before after s st c e) q f,
     )
 
@@ -240,7 +241,7 @@ result-is-own cfg before after s st c e q f =
     let m = found cfg before after s st c e in
     let h = historyOf cfg before in
     let t = tied-at cfg before (m .mid) (m .before) in
-    let z = collect-told cfg (m .mid) s f (way-there cfg before after s st c e q) in
+    let z = collect-told cfg (m .mid) s f (way-there cfg before after s st c e q refl) in
     let w : Waiter before h (s .who) (s .what) (awaitsIn cfg (s .who) before) = rw (z .0 .on) at (awaits-at cfg before (m .mid) (m .before) .each (s .who) (z .0 .waiting)) in
     own-ending cfg before s h (lastOn (s .what) (h .endings)) refl w (t .calls .ended (s .what) (z .0 .shut)) (z .1 ∙ t .calls .last (s .what) (z .0 .shut))
 
@@ -250,7 +251,7 @@ done-is-delivered cfg rs st c e o b q = let t = tied-at cfg rs st e in (t .calls
 pub number-is-final : OfSteps NumberIsFinal
 number-is-final cfg before after s st c e n q k =
     let m = found cfg before after s st c e in
-    let r = result-told cfg (m .mid) s (numberV n) k (λ x. omega (arith, ap (λ (v : Value). v .kind) x)) (way-there cfg before after s st c e q) in
+    let r = result-told cfg (m .mid) s (numberV n) k (λ x. omega (arith, ap (λ (v : Value). v .kind) x)) (way-there cfg before after s st c e q refl) in
     let f = done-final (m .mid) (historyOf cfg before) (s .what) n (tied-at cfg before (m .mid) (m .before)) (r .0) (r .1) in
     (f .0, f .1, f .2, omega (arith, f .3, ends-grow cfg before (s ∷ after) (f .0 .call), ends-once cfg (before ++ (s ∷ after)) st c e (f .0 .call)))
 
@@ -260,7 +261,7 @@ done-is-final cfg rs st c e o n b x y = done-final st (historyOf cfg rs) o n (ti
 pub failure-is-final : OfSteps FailureIsFinal
 failure-is-final cfg before after s st c e q k =
     let m = found cfg before after s st c e in
-    let r = result-told cfg (m .mid) s serverErrV k (λ x. omega (arith, ap (λ (v : Value). v .kind) x)) (way-there cfg before after s st c e q) in
+    let r = result-told cfg (m .mid) s serverErrV k (λ x. omega (arith, ap (λ (v : Value). v .kind) x)) (way-there cfg before after s st c e q refl) in
     let f = failed-final (m .mid) (historyOf cfg before) (s .what) (tied-at cfg before (m .mid) (m .before)) (r .0) (r .1) in
     (f .0, f .1, f .2, omega (arith, f .3, ends-grow cfg before (s ∷ after) (f .0 .call), ends-once cfg (before ++ (s ∷ after)) st c e (f .0 .call)))
 
@@ -324,7 +325,7 @@ spawn-takes-next cfg before after s st c e q b =
     let y : isServer cfg (s .what) ≡ true = lt-ltb 0 _ b in
     let t = tied-at cfg before (m .mid) (m .before) in
     let f = fifo-at cfg before (m .mid) (s .what) y (omega (arith, server-there cfg c (s .what) y, runnables-most cfg c)) (m .before) in
-    let z = spawn-told cfg (m .mid) s (way-there cfg before after s st c e q) in (
+    let z = spawn-told cfg (m .mid) s (way-there cfg before after s st c e q refl) in (
       omega (arith, due-server cfg (m .mid) (s .what) y (z .0), t .queues .each (s .what) .size, ap length (f .queue), length-drop (allSpawns (s .what) before) (allQueued cfg (s .what) 0 before)),
       ap (λ (h : History). takenBy h (s .claim .number)) (history-one cfg before s)
           ∙ took-oldest cfg (m .mid) s (historyOf cfg before) q y (z .0) (z .1) t

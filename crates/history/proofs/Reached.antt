@@ -49,7 +49,7 @@ pub tied-at : (cfg : Config) (rs : List Step) (st : State) → Run cfg rs st →
 unfolding historyOf historyFrom
 tied-at cfg rs st e =
     along cfg (λ before m. Tied m (historyOf cfg before))
-    (λ before s m r t a. rw (history-one cfg before s) (tied-deed cfg m s (stepOf cfg m s .state) (historyOf cfg before) (told cfg m (accepted cfg m s (s .claim) a .0)) (deed cfg m s a) t))
+    (λ before s m r t a. rw (history-one cfg before s) (tied-deed cfg m s (stepOf cfg m s .state) (historyOf cfg before) (told cfg m (accepted cfg m s a .0)) (deed cfg m s a) t))
     (tied-start cfg) rs st e
 
 pub named-at : (cfg : Config) (rs : List Step) (st : State) → Run cfg rs st → Named rs (historyOf cfg rs)
@@ -74,7 +74,7 @@ timed-at cfg rs st e =
     along cfg (λ before m. Timed cfg (m .operations) (historyOf cfg before .latest) before)
     (λ before s m r t a.
     rw (history-one cfg before s)
-    (timed-deed cfg m s (stepOf cfg m s .state) before (historyOf cfg before) (told cfg m (accepted cfg m s (s .claim) a .0)) (deed cfg m s a) (tied-at cfg before m r) (named-at cfg before m r) t))
+    (timed-deed cfg m s (stepOf cfg m s .state) before (historyOf cfg before) (told cfg m (accepted cfg m s a .0)) (deed cfg m s a) (tied-at cfg before m r) (named-at cfg before m r) t))
     (timed-start cfg) rs st e
 
 pub ended-along : (cfg : Config) (rs : List Step) (st : State) → Run cfg rs st → AllEnded cfg rs (historyOf cfg rs .endings)
@@ -89,14 +89,14 @@ ended-along cfg rs st e =
 pub ticked-at : (cfg : Config) (rs : List Step) (st : State) → Run cfg rs st → Ticked cfg (st .timers) rs
 ticked-at cfg rs st e =
     along cfg (λ before m. Ticked cfg (m .timers) before)
-    (λ before s m r t a. ticked-deed cfg m s (stepOf cfg m s .state) before (told cfg m (accepted cfg m s (s .claim) a .0)) (clocks cfg m s (stepOf cfg m s .state) (deed cfg m s a)) t)
+    (λ before s m r t a. ticked-deed cfg m s (stepOf cfg m s .state) before (told cfg m (accepted cfg m s a .0)) (clocks cfg m s (stepOf cfg m s .state) (deed cfg m s a)) t)
     (ticked-start cfg) rs st e
 
 pub holds-at : (cfg : Config) (rs : List Step) (st : State) (a : ℕ) → Run cfg rs st → Holds st a (holderOf a rs)
 holds-at cfg rs st a e =
     along cfg (λ before m. Holds m a (holderOf a before))
     (λ before s m r h x.
-    let g = told cfg m (accepted cfg m s (s .claim) x .0) in
+    let g = told cfg m (accepted cfg m s x .0) in
     rw (holder-one a before s) (holds-deed cfg m s g (stepOf cfg m s .state) (moves cfg m s (stepOf cfg m s .state) g (deed cfg m s x)) a (holderOf a before) h))
     (holds-start cfg a) rs st e
 
@@ -106,19 +106,19 @@ unended-at cfg rs st e =
     along cfg (λ before m. Unended before (historyOf cfg before))
     (λ before s m r u a.
     rw (history-one cfg before s)
-    (unended-deed cfg m s (stepOf cfg m s .state) before (historyOf cfg before) (told cfg m (accepted cfg m s (s .claim) a .0)) (deed cfg m s a) (tied-at cfg before m r) (named-at cfg before m r) u))
+    (unended-deed cfg m s (stepOf cfg m s .state) before (historyOf cfg before) (told cfg m (accepted cfg m s a .0)) (deed cfg m s a) (tied-at cfg before m r) (named-at cfg before m r) u))
     unended-start rs st e
 
 pub lives-at : (cfg : Config) (rs : List Step) (st : State) → Run cfg rs st → Lives (st .slots) rs
 lives-at cfg rs st e =
     along cfg (λ before m. Lives (m .slots) before)
-    (λ before s m r l a. lives-deed cfg m s (stepOf cfg m s .state) before (told cfg m (accepted cfg m s (s .claim) a .0)) (deed cfg m s a) l)
+    (λ before s m r l a. lives-deed cfg m s (stepOf cfg m s .state) before (told cfg m (accepted cfg m s a .0)) (deed cfg m s a) l)
     (lives-start cfg) rs st e
 
 pub backs-at : (cfg : Config) (rs : List Step) (st : State) → Run cfg rs st → Backs (st .slots) rs
 backs-at cfg rs st e =
     along cfg (λ before m. Backs (m .slots) before)
-    (λ before s m r l a. backs-deed cfg m s (stepOf cfg m s .state) before (told cfg m (accepted cfg m s (s .claim) a .0)) (deed cfg m s a) l)
+    (λ before s m r l a. backs-deed cfg m s (stepOf cfg m s .state) before (told cfg m (accepted cfg m s a .0)) (deed cfg m s a) l)
     (backs-start cfg) rs st e
 
 pub runs-at : (cfg : Config) (rs : List Step) (st : State) → Run cfg rs st → Runs (st .slots)
@@ -130,13 +130,13 @@ paid-at cfg rs st e =
     along cfg (λ before m. Paid (m .slots) (historyOf cfg before .taken))
     (λ before s m r l a.
     rw (history-one cfg before s)
-    (paid-deed cfg m s (stepOf cfg m s .state) (historyOf cfg before) (told cfg m (accepted cfg m s (s .claim) a .0)) (deed cfg m s a) (tied-at cfg before m r) l))
+    (paid-deed cfg m s (stepOf cfg m s .state) (historyOf cfg before) (told cfg m (accepted cfg m s a .0)) (deed cfg m s a) (tied-at cfg before m r) l))
     (paid-start cfg) rs st e
 
 pub bounds-at : (cfg : Config) (rs : List Step) (st : State) → Run cfg rs st → Bounds cfg (st .slots) rs
 bounds-at cfg rs st e =
     along cfg (λ before m. Bounds cfg (m .slots) before)
-    (λ before s m r l a. bounds-step cfg m s (stepOf cfg m s .state) before (told cfg m (accepted cfg m s (s .claim) a .0)) (waits-by cfg m s a) l)
+    (λ before s m r l a. bounds-step cfg m s (stepOf cfg m s .state) before (told cfg m (accepted cfg m s a .0)) (waits-by cfg m s a) l)
     (bounds-start cfg) rs st e
 
 pub awaits-at : (cfg : Config) (rs : List Step) (st : State) → Run cfg rs st → Awaits cfg (st .slots) rs (historyOf cfg rs)

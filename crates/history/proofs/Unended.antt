@@ -18,12 +18,13 @@ use Rattle.types.specs.Types.{Step, Config, State}
 use Rattle.values.specs.Values.{okV, sameValue}
 use Rattle.entries.specs.Faults.{isServer}
 use Rattle.effects.specs.Steps.{isOpen}
+use Rattle.effects.proofs.Agreeing.{same-value}
 use Rattle.stays_sound.specs.Facts.{Sound}
 use Rattle.rules.proofs.Configured.{operations-most}
 use Rattle.history.specs.History.{History, nothing, begins, latestOn, observe, endsOf, Started}
 use Rattle.history.proofs.Tied.{Tied}
 use Rattle.history.proofs.Named.{Named}
-use Rattle.history.proofs.Deeds.{Deed, pass, call, answer, late, end, server, plain, timeout, fail, same-value, call-adds, other-code}
+use Rattle.history.proofs.Deeds.{Deed, pass, call, answer, late, end, server, plain, timeout, fail, call-adds, other-code}
 
 -- ---- the last step, and those before it
 

@@ -14,7 +14,7 @@ use lib.Dec.{ltb, eqb}
 use lib.ListN.{length, getD}
 use lib.Seq.{getD-set-same, getD-set-other}
 use borrow.Author.Tests.{lt-ltb, le-ltb, ltb-true, eqb-true, eq-eqb, ne-eqb}
-use Rattle.numbers.specs.Codes.{callCode, resultCode, endCode, spawnCode}
+use Rattle.numbers.specs.Codes.{sendCode, callCode, resultCode, endCode, spawnCode}
 use Rattle.laws.specs.Choice.{both, bit}
 use Rattle.laws.proofs.Choosing.{clash, both-left, both-right, both-no, pick-alike}
 use Rattle.laws.proofs.Looping.{sum-same, sum-zero, sum-term}
@@ -36,7 +36,7 @@ use Rattle.stays_sound.proofs.Kept.{lowest-empty, slot-kept, slot-inside}
 use Rattle.stays_sound.proofs.Waiters.{waits-none, empty-runs, new-runs, call-waiters, collect-waiters}
 use Rattle.stays_sound.proofs.Ways.{Way}
 use Rattle.stays_sound.proofs.Ways as go
-use Rattle.stays_sound.proofs.Accepted.{accepted, way, call-told, end-told, spawn-told}
+use Rattle.stays_sound.proofs.Accepted.{accepted, claim-told, gone, way, call-told, end-told, spawn-told}
 use Rattle.history.specs.History.{Ending, History, nothing, latestOn, observe, lastOn, given, delivered, endedCall, Started, livesIn, binds, frees, boundAfter, boundFrom, boundIn, awaitsAfter, awaitsFrom, awaitsIn}
 use Rattle.history.specs.Promises.{Own}
 use Rattle.history.proofs.Beside.{all-alike}
@@ -82,7 +82,7 @@ module _ (cfg : Config) (st : State) (s : Step) where
           (λ o j. slot-kept (waitsOn o) (st .slots) (s .who) (callerAfter cfg (s .what) (slotIn (st .slots) (s .who))) (rw e) j)
       by false e = calls c k e z refl
 
-  pub waits-way : {n : ℕ} {w : Value} {t : State} → Sound cfg st → s .code ≡ n → s .claim ≡ w → Way cfg st s n w t → Waits cfg st s t
+  pub waits-way : {n : ℕ} {w : Value} {t : State} → Sound cfg st → s .code ≡ n → (eqb n sendCode ≡ false → s .claim ≡ w) → Way cfg st s n w t → Waits cfg st s t
   unfolding binds asksSynchronous sameValue waitsOn fed closed waited spawned noSlot
   waits-way g c k go.readVariable = same c refl refl refl
   waits-way g c k (go.writeVariable z) = same c refl refl refl
@@ -95,8 +95,8 @@ module _ (cfg : Config) (st : State) (s : Step) where
   waits-way g c k (go.receiveNone e) = same c refl refl refl
   waits-way g c k (go.receive z) = same c refl refl refl
   waits-way g c k (go.send z) = same c refl refl refl
-  waits-way g c k (go.callBusy e) = rests (rw (c, k)) (no-result c refl) (λ o j. refl)
-  waits-way g c k (go.call z) = call-waits c k z
+  waits-way g c k (go.callBusy e) = rests (rw (c, k refl)) (no-result c refl) (λ o j. refl)
+  waits-way g c k (go.call z) = call-waits c (k refl) z
   waits-way g c k (go.pollOpen a e) = rests (no-call c refl) (rw (c, a)) (λ o j. refl)
   waits-way g c k (go.poll a e) = rests (no-call c refl) (rw (c, a)) (λ o j. refl)
   waits-way g c k (go.collect z) = collects c z refl
@@ -293,29 +293,29 @@ module _ (x y : Slot) (e : (o : ℕ) → waitsOn o y ≡ waitsOn o x) where
 
 -- ---- every accepted step
 
-module _ (cfg : Config) (st : State) (s : Step) (a : stepOf cfg st s .answer ≡ Taken (s .claim)) where
+module _ (cfg : Config) (st : State) (s : Step) {u : Value} (a : stepOf cfg st s .answer ≡ Taken u) where
   abbrev fine : Sound cfg st
-  fine = told cfg st (accepted cfg st s (s .claim) a .0)
+  fine = told cfg st (accepted cfg st s a .0)
 
   pub waits-by : Waits cfg st s (stepOf cfg st s .state)
-  waits-by = waits-way cfg st s fine refl refl (way cfg st s refl a)
+  waits-by = waits-way cfg st s fine refl (claim-told cfg st s a) (gone cfg st s refl a)
 
   -- who waits neither ends nor finds another in its slot
   still : (rs : List Step) (i : ℕ) → slotIn (st .slots) i .life .waiting ≡ true → livesIn i (rs ++ (s ∷ [])) ≡ livesIn i rs
   still rs i w =
       lives-one i rs s
       ∙ lives-on i (length rs + 1) (livesIn i rs) s
-      (λ c e. let z = spawn-told cfg st s (way cfg st s c a) in
+      (λ c e. let z = spawn-told cfg st s (way cfg st s c refl a) in
       let k = lowestEmpty (st .slots) in
       let q : k ≡ i = sym (ap (λ (v : Value). v .number) (z .1)) ∙ e in
       clash _ w (ap (λ (j : ℕ). slotIn (st .slots) j .life .waiting) (sym q) ∙ empty-runs cfg st k fine (z .0 .slot) (lowest-empty (st .slots) (z .0 .slot))))
-      (λ c e. clash _ w (ap (λ (j : ℕ). slotIn (st .slots) j .life .waiting) (sym e) ∙ end-told cfg st s (way cfg st s c a) .running))
+      (λ c e. clash _ w (ap (λ (j : ℕ). slotIn (st .slots) j .life .waiting) (sym e) ∙ end-told cfg st s (way cfg st s c refl a) .running))
 
   -- no call starts where one waits
   kept-out : (i : ℕ) → slotIn (st .slots) i .life .waiting ≡ true → s .code ≡ callCode → s .claim ≡ okV → s .what ≡ slotIn (st .slots) i .life .on → ⊥
   unfolding waitersOf waitsOn slotIn noSlot
   kept-out i w c k e =
-      let z = call-told cfg st s k (way cfg st s c a) in
+      let z = call-told cfg st s k (way cfg st s c refl a) in
       let b = inside-of (λ (y : Slot). y .life .waiting ≡ true) (st .slots .at) i noSlot (λ q. clash false q refl) w in
       let t : waitsOn (s .what) (slotIn (st .slots) i) ≡ true = rw (w, eq-eqb (slotIn (st .slots) i .life .on) (s .what) (sym e)) in
       omega (arith, z .free, sum-term (λ (j : ℕ). bit (waitsOn (s .what) (slotIn (st .slots) j))) i 32 (omega (arith, b, slots-length cfg st fine)), ap bit t)

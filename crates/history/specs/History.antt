@@ -1,5 +1,5 @@
 -- The calls of a recording, the time that passes in it, who lives in its slots, who has failed, who waits and who holds its areas, as its steps and their answers show them under its configuration. No state of the machine is used here, and no number of an operation.
--- The name of a call is where its step stands in the recording, from 1 on, and 0 names none; an accepted step has the answer that it claims.
+-- The name of a call is where its step stands in the recording, from 1 on, and 0 names none; an accepted step has the answer that it claims, but for a send, whose claim is not read here (W-201).
 -- Assumes nothing.
 use Prim.Native.Nat.{ℕ, zero, suc, _+_, _≤_}
 use mathlib.Core.Bool.{Bool, true, false, not}

@@ -1,6 +1,6 @@
 -- The promises, as types, in the order of demand 3: of accepted steps and the state that they reach (`OfRuns`), or of a step with the steps before and after it
 -- (`OfSteps`); and at the end all of them in one record (`Demand3`). They are proved in proofs/, by citing; nothing else stands here.
--- `Run cfg rs st` says that every step of rs, in turn from the start state, is accepted with the answer it claims, and that st is the state reached.
+-- `Run cfg rs st` says that every step of rs, in turn from the start state, is accepted, with an answer that agrees with what it claims, and that st is the state reached.
 -- Assumes nothing.
 use Prim.Native.Nat.{ℕ, _+_, _%_, _≤_, _<_}
 use mathlib.Core.Bool.{true, false}
@@ -11,7 +11,7 @@ use lib.Dec.{ltb, eqb}
 use lib.ListN.{length, getD, drop}
 use Rattle.numbers.specs.Codes.{enterCode, exitCode, callCode, resultCode, handBackCode, endCode, spawnCode, timeoutCode, tickCode}
 use Rattle.laws.specs.Choice.{pick, both, either, bit}
-use Rattle.types.specs.Types.{Value, Step, Answer, Config, Client, State}
+use Rattle.types.specs.Types.{Step, Answer, Config, Client, State}
 use Rattle.values.specs.Values.{voidV, numberV, okV, limitV, noDataV, serverErrV, answerRefusal, answerValue}
 use Rattle.config.specs.Tables.{maxRunnableConfs, maxAreaConfs, maxRequiredConfs, maxOperationConfs, runnableConfIn, requiredConfIn, operationConfIn, timerConfIn}
 use Rattle.entries.specs.Faults.{configSound}
@@ -21,17 +21,17 @@ use Rattle.state.specs.Tables.{maxSlots, runnableIn, areaIn, elementIn, operati
 use Rattle.state.specs.Start.{startOf}
 use Rattle.rules.specs.Rows.{aSlot, rowOf}
 use Rattle.rules.specs.Sound.{timesIn, isBound, soundOf}
-use Rattle.effects.specs.Step.{possibleOf, stepOf}
+use Rattle.effects.specs.Step.{agrees, possibleOf, stepOf}
 use Rattle.history.specs.History.{Request, noRequest, byInstance, byFailure, Ending, historyOf, queuedAt, takenBy, failedBy, latestOn, endsOf, endedOn, lastOn, isUnended, given, delivered, endedCall, Started, EndedBy, timeSince, lastTick, InTime, livesIn, backIn, boundIn, awaitsIn, holderOf, allQueued, allSpawns}
 
--- an answer says that the step was taken, with this value: by the number and the value that stand for it; no refusal has the number 0 (`never-zero` in crate stays_sound) ("Numbers of refusal")
-abbrev pub Answers : Answer → Value → Type 0
-Answers a v = (answerRefusal a ≡ 0) × (answerValue a ≡ v)
+-- an answer says that the step was taken, with a value that agrees with what it claims: by the number and the value that stand for it; no refusal has the number 0 (`never-zero` in crate stays_sound) ("Numbers of refusal"; W-201)
+abbrev pub Answers : Answer → Step → Type 0
+Answers a s = (answerRefusal a ≡ 0) × (agrees (s .code) (answerValue a) (s .claim) ≡ true)
 
 -- every step of rs is accepted, from st to st′ ("Judging")
 unfoldable pub Accepted : Config → State → List Step → State → Type 0
 Accepted cfg st [] st′ = st ≡ st′
-Accepted cfg st (s ∷ rs) st′ = Answers (stepOf cfg st s .answer) (s .claim) × Accepted cfg (stepOf cfg st s .state) rs st′
+Accepted cfg st (s ∷ rs) st′ = Answers (stepOf cfg st s .answer) s × Accepted cfg (stepOf cfg st s .state) rs st′
 
 -- the steps are accepted one after another, from the start state to st ("Judging")
 abbrev pub Run : Config → List Step → State → Type 0

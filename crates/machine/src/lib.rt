@@ -1,13 +1,14 @@
 // One step: refusals 2 to 5, what it does by its code, its claim, and before all the test of soundness.
 ghost use mathlib.Core.Path.{_≡_};
 ghost use Rattle.rules.specs.Refusals.{refusalOf};
-ghost use Rattle.effects.specs.Step.{possibleOf, innerOf, stepOf};
+ghost use Rattle.effects.specs.Step.{possibleOf, isOlder, agrees, innerOf, stepOf};
 use config::Config;
 use state::Slots;
 use state::State;
 use state::Stepped;
 use values::Answer;
 use values::Step;
+use values::Value;
 
 // The first of refusals 2 to 5 that holds, or 0. A code is of a slot's step or of the scheduler's; any other is 2.
 fn refusal(cfg: Config, slots: Slots, s: Step) -> u8
@@ -62,17 +63,41 @@ pub fn possible(cfg: Config, st: State, s: Step) -> Stepped
     shared_steps::refuse(n, st)
 }
 
-// The step without the test of soundness, for a state that is known to be sound. 17: it could be taken, and would answer something else than it claims.
+// A send that answers Full, and claims Limit as units do that name no queue.
+fn is_older(code: u8, v: Value, claim: Value) -> bool
+    ensures { λ r. ⌜ r ≡ isOlder code v claim ⌝ }
+{
+    if code == numbers::CODE_SEND {
+        if v.says_full() {
+            return claim.same(Value::LIMIT);
+        }
+        return false;
+    }
+    false
+}
+
+// What a step of this code answers agrees with what it claims: it is the same, or a Full that a send claims as Limit.
+pub fn agrees(code: u8, v: Value, claim: Value) -> bool
+    ensures { λ r. ⌜ r ≡ agrees code v claim ⌝ }
+{
+    if is_older(code, v, claim) {
+        return true;
+    }
+    v.same(claim)
+}
+
+// The step without the test of soundness, for a state that is known to be sound. 17: it could be taken, and its answer does not agree with what it claims.
 pub fn inner(cfg: Config, st: State, s: Step) -> Stepped
     ensures { λ r. ⌜ r ≡ innerOf cfg st s ⌝ }
 {
+    let code = s.code;
     let claim = s.claim;
     let r = possible(cfg, st, s);
     let a = r.answer;
     let Answer::Taken(v) = a else {
         return r;
     };
-    if v.same(claim) {
+    if agrees(code, v, claim) {
         return r;
     }
     shared_steps::refuse(numbers::OTHER_ANSWER, st)

@@ -4,13 +4,16 @@ use Prim.Native.Nat.{ℕ, _≤_}
 use mathlib.Core.Bool.{true}
 use mathlib.Core.List.{List, [], _∷_, List·Memᴰ, List·Memᴰ·head, List·Memᴰ·tail, List·Memᴰ·not-nil, List·Memᴰ·cases-cons}
 use mathlib.Core.Logic.{inl, inr, ⊎-elim}
-use mathlib.Core.Path.{_≡_, refl, sym, subst}
+use mathlib.Core.Path.{_≡_, refl, sym, ap, _∙_, subst}
 use native.Mathlib.Omega.{arith}
 use lib.ListN.{length}
-use Rattle.types.specs.Types.{Step, Config, State, Stepped}
+use borrow.Author.Tests.{ne-eqb}
+use Rattle.numbers.specs.Codes.{sendCode}
+use Rattle.types.specs.Types.{Step, Taken, Config, State, Stepped}
 use Rattle.effects.specs.Step.{stepOf}
+use Rattle.stays_sound.proofs.Accepted.{claim-told}
 use Rattle.history.specs.Promises.{Accepted}
-use Rattle.history.proofs.Runs.{halves, first}
+use Rattle.history.proofs.Runs.{of-taken, halves, first}
 use Rattle.gaps.specs.Gaps.{choice, answered, canFill, fillOf, answeredAll, Turn, turnOf, turnsOf, stateAfter, mendedSteps}
 use Rattle.gaps.proofs.Turns.{answered-length}
 use Rattle.mended.specs.Claims.{ChoiceOf}
@@ -74,4 +77,5 @@ each-answers cfg st rs before after x e =
     let a = turns-accepted cfg st rs in
     let end = stateAfter (stepOf cfg) st (mendedSteps (turnsOf (stepOf cfg) cfg st rs)) in
     let h = halves cfg st end before (x ∷ after) (subst (λ (l : List Step). Accepted cfg st l end) e a) in
-    (h .mid, h .before, first cfg (h .mid) end x after (h .after))
+    let t = first cfg (h .mid) end x after (h .after) in
+    (h .mid, h .before, of-taken cfg (h .mid) x t, λ n. t ∙ ap Taken (sym (claim-told cfg (h .mid) x t (ne-eqb (x .code) sendCode n))))

@@ -9,7 +9,6 @@ use Rattle.types.specs.Types.{Value, Step, Answer, Taken, Refused as Barred, Co
 use Rattle.effects.specs.Step.{stepOf}
 use Rattle.history.specs.Promises.{Answers, Accepted}
 use Rattle.history.proofs.Runs.{of-taken, taken-of, joined}
-use Rattle.claims.proofs.Counted.{taken-claims}
 use Rattle.gaps.specs.Gaps.{sequencesOf, isTaken, answered, fills, rankOf, canFill, fillOf, answeredAll, stateAfter, turnOf, turnSteps, turnsOf, mendedSteps}
 use Rattle.gaps.proofs.Ordered.{passed-is}
 use Rattle.gaps.proofs.Turns.{rank-taken}
@@ -21,8 +20,8 @@ pub taken-is : (a : Answer) → isTaken a ≡ true → (v : Value) × (a ≡ Tak
 taken-is (Taken v) h = (v, refl)
 taken-is (Barred n) h = absurd (clash false h refl)
 
-pub is-taken : (cfg : Config) (st : State) (s : Step) → isTaken (stepOf cfg st s .answer) ≡ true → stepOf cfg st s .answer ≡ Taken (s .claim)
-is-taken cfg st s h = let t = taken-is (stepOf cfg st s .answer) h in taken-claims cfg st s (t .0) (t .1)
+pub is-taken : (cfg : Config) (st : State) (s : Step) → isTaken (stepOf cfg st s .answer) ≡ true → Answers (stepOf cfg st s .answer) s
+is-taken cfg st s h = of-taken cfg st s (taken-is (stepOf cfg st s .answer) h .1)
 
 -- ---- states
 
@@ -36,17 +35,17 @@ accepted-after cfg st st′ (s ∷ rs) h = accepted-after cfg (stepOf cfg st s .
 pub fill-accepted : (cfg : Config) (st : State) (s : Step) (q : List Step) → fills (stepOf cfg) cfg st s q ≡ true
     → Accepted cfg st (answeredAll (stepOf cfg) cfg st q ++ (s ∷ [])) (stateAfter (stepOf cfg) st (answeredAll (stepOf cfg) cfg st q ++ (s ∷ [])))
 unfolding Accepted fills answeredAll stateAfter
-fill-accepted cfg st s [] h = (of-taken _ _ (is-taken cfg st s h), refl)
+fill-accepted cfg st s [] h = (is-taken cfg st s h, refl)
 fill-accepted cfg st s (x ∷ xs) h =
     let y = answered cfg st x in
-    (of-taken _ _ (is-taken cfg st y (both-left (isTaken (stepOf cfg st y .answer)) _ h)), fill-accepted cfg (stepOf cfg st y .state) s xs (both-right (isTaken (stepOf cfg st y .answer)) _ h))
+    (is-taken cfg st y (both-left (isTaken (stepOf cfg st y .answer)) _ h), fill-accepted cfg (stepOf cfg st y .state) s xs (both-right (isTaken (stepOf cfg st y .answer)) _ h))
 
 pub accepted-fill : (cfg : Config) (st st′ : State) (s : Step) (q : List Step) → Accepted cfg st (answeredAll (stepOf cfg) cfg st q ++ (s ∷ [])) st′ → fills (stepOf cfg) cfg st s q ≡ true
 unfolding Accepted fills answeredAll
-accepted-fill cfg st st′ s [] h = ap isTaken (taken-of cfg st s (s .claim) (h .0))
+accepted-fill cfg st st′ s [] h = ap isTaken (taken-of cfg st s (h .0))
 accepted-fill cfg st st′ s (x ∷ xs) h =
     let y = answered cfg st x in
-    both-make (isTaken (stepOf cfg st y .answer)) _ (ap isTaken (taken-of cfg st y (y .claim) (h .0))) (accepted-fill cfg (stepOf cfg st y .state) st′ s xs (h .1))
+    both-make (isTaken (stepOf cfg st y .answer)) _ (ap isTaken (taken-of cfg st y (h .0))) (accepted-fill cfg (stepOf cfg st y .state) st′ s xs (h .1))
 
 -- ---- the first that fills
 
@@ -55,8 +54,8 @@ pub can-fills : (cfg : Config) (st : State) (s : Step) → canFill (stepOf cfg) 
 unfolding rankOf
 can-fills cfg st s h = passed-is (fills (stepOf cfg) cfg st s) (sequencesOf cfg) [] (ltb-true _ _ h)
 
-pub rank-none : (cfg : Config) (st : State) (s : Step) → Answers (stepOf cfg st s .answer) (s .claim) → rankOf (stepOf cfg) cfg st s ≡ 0
-rank-none cfg st s a = rank-taken (stepOf cfg) cfg st s (ap isTaken (taken-of cfg st s (s .claim) a))
+pub rank-none : (cfg : Config) (st : State) (s : Step) → Answers (stepOf cfg st s .answer) s → rankOf (stepOf cfg) cfg st s ≡ 0
+rank-none cfg st s a = rank-taken (stepOf cfg) cfg st s (ap isTaken (taken-of cfg st s a))
 
 pub turn-accepted : (cfg : Config) (st : State) (s : Step) → canFill (stepOf cfg) cfg st s ≡ true
     → Accepted cfg st (turnSteps (turnOf (stepOf cfg) cfg st s)) (stateAfter (stepOf cfg) st (turnSteps (turnOf (stepOf cfg) cfg st s)))

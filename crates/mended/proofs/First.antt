@@ -15,7 +15,7 @@ use Rattle.entries.proofs.Kind.{config-told}
 use Rattle.effects.specs.Step.{stepOf}
 use Rattle.rules.proofs.Configured.{runnables-most, operations-most}
 use Rattle.history.specs.Promises.{Answers, Accepted}
-use Rattle.history.proofs.Runs.{of-taken, halves}
+use Rattle.history.proofs.Runs.{halves}
 use Rattle.gaps.specs.Orders.{sequences, upToThree}
 use Rattle.gaps.specs.Gaps.{countsOf, choicesIn, sequencesOf, fills, rankOf, answeredAll, Turn, turnsOf, stateAfter, mendedSteps}
 use Rattle.gaps.proofs.Ordered.{length-all, passed-before}
@@ -69,11 +69,11 @@ module _ (cfg : Config) (m : State) (t : Turn) (h : TurnAt (stepOf cfg) cfg m t)
   fits-there : fills (stepOf cfg) cfg m (t .kept) (getD (sequencesOf cfg) (t .passed) []) ≡ true
   fits-there = subst (λ (k : ℕ). fills (stepOf cfg) cfg m (t .kept) (getD (sequencesOf cfg) k []) ≡ true) (sym passed-is-rank) (can-fills cfg m (t .kept) (h .can))
 
-  none-answers : t .passed ≡ 0 → Answers (stepOf cfg m (t .kept) .answer) (t .kept .claim)
+  none-answers : t .passed ≡ 0 → Answers (stepOf cfg m (t .kept) .answer) (t .kept)
   unfolding fills sequencesOf upToThree sequences
   none-answers e =
       let f : fills (stepOf cfg) cfg m (t .kept) (getD (sequencesOf cfg) 0 []) ≡ true = subst (λ (k : ℕ). fills (stepOf cfg) cfg m (t .kept) (getD (sequencesOf cfg) k []) ≡ true) e fits-there in
-      of-taken _ _ (is-taken cfg m (t .kept) f)
+      is-taken cfg m (t .kept) f
 
   inserted-is : t .inserted ≡ answeredAll (stepOf cfg) cfg m (getD (sequencesOf cfg) (t .passed) [])
   inserted-is = ap (λ (x : Turn). x .inserted) (h .turn) ∙ ap (λ (k : ℕ). answeredAll (stepOf cfg) cfg m (getD (sequencesOf cfg) k [])) (sym passed-is-rank)

@@ -78,7 +78,7 @@ text-accepted cfg st st′ [] n more h a = ended (stepOf cfg) endBytes n st (0 +
 text-accepted cfg st st′ (s ∷ ss) n more h a =
     let less : suc (length ss) + more - 1 ≡ length ss + more = omega arith in
     let next : n + 1 + length ss ≡ n + suc (length ss) = omega arith in
-    went (stepOf cfg) (bytesOf s ++ textOf ss) n st (suc (length ss) + more) (λ c. omega (arith, c)) (step-reads s (textOf ss) (h .0)) refl (taken-of cfg st s (s .claim) (a .0))
+    went (stepOf cfg) (bytesOf s ++ textOf ss) n st (suc (length ss) + more) (λ c. omega (arith, c)) (step-reads s (textOf ss) (h .0)) refl (taken-of cfg st s (a .0))
     ∙ ap (λ (k : ℕ). judgeFrom (stepOf cfg) k (textOf ss) (n + 1) (stepOf cfg st s .state)) less
     ∙ text-accepted cfg (stepOf cfg st s .state) st′ ss (n + 1) more (h .1) (a .1)
     ∙ ap (λ (k : ℕ). judged Verdict·Accepted k st′) next

@@ -10,8 +10,8 @@ use native.Mathlib.Decide.{ℕ-discrete, decLt}
 use native.Mathlib.Omega.{arith}
 use lib.Dec.{eqb}
 use lib.ListN.{length, getD, length-map}
-use borrow.Author.Tests.{ltb-true, eqb-true}
-use Rattle.numbers.specs.Codes.{spawnCode, timeoutCode, tickCode}
+use borrow.Author.Tests.{ltb-true, eqb-true, ne-eqb}
+use Rattle.numbers.specs.Codes.{sendCode, spawnCode, timeoutCode, tickCode}
 use Rattle.laws.proofs.Choosing.{clash, both-left, both-right}
 use Rattle.types.specs.Types.{Value, Step, Taken, Config, State, Stepped}
 use Rattle.values.specs.Values.{voidV, answerValue, isVoid}
@@ -21,7 +21,7 @@ use Rattle.rules.specs.Refusals.{argues, formed, partThere}
 use Rattle.effects.specs.Step.{possibleOf, stepOf}
 use Rattle.effects.proofs.Codes.{possible-let}
 use Rattle.stays_sound.proofs.Says.{LetRun, run-told}
-use Rattle.stays_sound.proofs.Accepted.{accepted}
+use Rattle.stays_sound.proofs.Accepted.{accepted, claim-told}
 use Rattle.history.specs.Promises.{Accepted}
 use Rattle.history.proofs.Runs.{taken-of}
 use Rattle.gaps.specs.Gaps.{choice, sequencesOf, answered, fills, answeredAll, Turn, turnsOf, stateAfter}
@@ -80,7 +80,7 @@ void-is v h =
 
 module _ (cfg : Config) (st : State) (x : Step) (low : spawnCode ≤ x .code) (high : x .code ≤ tickCode) (taken : stepOf cfg st x .answer ≡ Taken (x .claim)) where
   possible : possibleOf cfg st x .answer ≡ Taken (x .claim)
-  possible = sym (ap (λ (r : Stepped). r .answer) (accepted cfg st x (x .claim) taken .1)) ∙ taken
+  possible = sym (ap (λ (r : Stepped). r .answer) (accepted cfg st x taken .1)) ∙ taken
 
   let-through : LetRun cfg (x .code) (x .who) (x .what) (x .argument)
   let-through = run-told cfg st x refl (possible-let cfg st x possible) (chosen-runs (chosen (x .code) low high))
@@ -107,7 +107,8 @@ unfolding Accepted answeredAll bareOf
 lost-all cfg st st′ [] s c h = (refl, λ y m. absurd (List·Memᴰ·not-nil m))
 lost-all cfg st st′ (x ∷ xs) s c h =
     let l = c x (List·Memᴰ·head refl) in
-    let k = taken-of cfg st x (x .claim) (h .0) in
+    let t = taken-of cfg st x (h .0) in
+    let k = t ∙ ap Taken (sym (claim-told cfg st x t (ne-eqb (x .code) sendCode (λ e. omega (arith, e, l .0))))) in
     let e = lost-answered cfg st x (l .0) (l .1) k in
     let r = lost-all cfg (stepOf cfg st x .state) st′ xs s (λ z m. c z (List·Memᴰ·tail m)) (h .1) in (
       ap (λ (q : List Step). x ∷ q) (r .0) ∙ ap (λ (z : Step). z ∷ answeredAll (stepOf cfg) cfg (stepOf cfg st z .state) (map bareOf xs)) e,

@@ -1,5 +1,5 @@
--- What mending promises (W-209), as types; proved in proofs/. `Accepted cfg st rs st′` is the history page's: every step of rs, in turn from st, is accepted with the answer
--- that it claims, and st′ is the state reached. Plain.antt says the two promises on the search again in these words alone; Faithful.antt has those on steps and report.
+-- What mending promises (W-209), as types; proved in proofs/. `Accepted cfg st rs st′` is the history page's: every step of rs, in turn from st, is accepted, with an answer
+-- that agrees with what it claims, and st′ is the state reached. Plain.antt says the two promises on the search again in these words alone; Faithful.antt has those on steps and report.
 -- Assumes nothing.
 use Prim.Native.Nat.{ℕ, _+_, _*_, _≤_, _<_}
 use mathlib.Core.Bool.{true, false}
@@ -80,7 +80,7 @@ pub record FirstFill (cfg : Config) (m : State) (t : Turn) : Type 0 where
   pub fits : fills (stepOf cfg) cfg m (t .kept) (getD (sequencesOf cfg) (t .passed) []) ≡ true
   pub first : (j : ℕ) → j < t .passed → fills (stepOf cfg) cfg m (t .kept) (getD (sequencesOf cfg) j []) ≡ false
   -- nothing is passed over exactly if the recorded step is accepted as it stands, and then nothing is inserted
-  pub none : (t .passed ≡ 0) ↔ Answers (stepOf cfg m (t .kept) .answer) (t .kept .claim)
+  pub none : (t .passed ≡ 0) ↔ Answers (stepOf cfg m (t .kept) .answer) (t .kept)
   pub bare : t .passed ≡ 0 → t .inserted ≡ []
 
 -- every turn is so, from the state that the mended steps before it reach (W-209, the fill)

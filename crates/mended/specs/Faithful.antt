@@ -6,6 +6,7 @@ use mathlib.Core.List.{List, [], _∷_, _++_, map, List·Memᴰ}
 use mathlib.Core.Path.{_≡_}
 use lib.Dec.{eqb}
 use lib.ListN.{length, getD, drop}
+use Rattle.numbers.specs.Codes.{sendCode}
 use Rattle.laws.specs.Choice.{pick, either}
 use Rattle.types.specs.Types.{Step, Taken, Config, State}
 use Rattle.values.specs.Values.{voidV}
@@ -13,7 +14,7 @@ use Rattle.effects.specs.Step.{stepOf}
 use Rattle.wire.specs.Bytes.{numberOf}
 use Rattle.wire.proofs.Laws.{Bytes}
 use Rattle.recording.specs.Whole.{stepsIn}
-use Rattle.history.specs.Promises.{Accepted}
+use Rattle.history.specs.Promises.{Answers, Accepted}
 use Rattle.gaps.specs.declared.Mended.the-variants.{Whole}
 use Rattle.gaps.specs.Gaps.{Turn, turnsOf, mendedSteps}
 use Rattle.gaps.specs.Report.{stepNote, gapNote, reportFrom, noteCount, mendTo, mendReported}
@@ -38,11 +39,11 @@ InsertedAreFew =
     (cfg : Config) (st : State) (rs : List Step) (t : Turn) → List·Memᴰ t (turnsOf (stepOf cfg) cfg st rs)
     → (length (t .inserted) ≤ 3) × ((x : Step) → List·Memᴰ x (t .inserted) → Insertable x)
 
--- each mended step, inserted or not, claims what the machine answers there (W-209, computed answer)
+-- each mended step, inserted or not, claims what agrees with the machine's answer there, and what is inserted claims that answer (W-209, computed answer; W-201)
 abbrev pub EachAnswers : Type 0
 EachAnswers =
     (cfg : Config) (st : State) (rs before after : List Step) (x : Step) → mendedSteps (turnsOf (stepOf cfg) cfg st rs) ≡ before ++ (x ∷ after)
-    → (m : State) × Accepted cfg st before m × (stepOf cfg m x .answer ≡ Taken (x .claim))
+    → (m : State) × Accepted cfg st before m × Answers (stepOf cfg m x .answer) x × ((x .code ≡ sendCode → ⊥) → stepOf cfg m x .answer ≡ Taken (x .claim))
 
 -- ---- the report
 

@@ -15,6 +15,7 @@ use Rattle.laws.proofs.Choosing.{both-left, both-right, both-make}
 use Rattle.laws.proofs.Looping.{all-at, all-of}
 use Rattle.laws.proofs.Places.{each-at, each-length}
 use Rattle.numbers.specs.Refusals.{notSound, tooFar}
+use Rattle.numbers.specs.Codes.{waitCode}
 use Rattle.types.specs.Types.{Step, Config, Operation, Runnable, Slots, State, Stepped}
 use Rattle.values.specs.Values.{voidV, sameValue, answerRefusal}
 use Rattle.state.specs.Parts.{noRunnable}
@@ -23,7 +24,7 @@ use Rattle.rules.specs.Rows.{rows, rowOf}
 use Rattle.rules.specs.Refusals.{argues, formed, partThere, schedulerRefusal, refusalBy, refusalOf}
 use Rattle.rules.specs.Sound.{soundOf}
 use Rattle.effects.specs.Steps.{refused, took, isOpen, operationLets, timerLets, operationsLet, timersLet, runnableAfter, runnablesAfter, allLet, waited, waitOf}
-use Rattle.effects.specs.Step.{possibleOf, claimedOf, innerOf, stepOf}
+use Rattle.effects.specs.Step.{possibleOf, agrees, claimedOf, innerOf, stepOf}
 use Rattle.effects.proofs.Codes.{wait, possible-by}
 use Rattle.stays_sound.proofs.Keeps.{kept-step}
 use Rattle.history.specs.Promises.{Answers, Accepted}
@@ -48,10 +49,10 @@ abbrev pub waiting : Config → State → ℕ → Bool → Bool → Stepped
 waiting cfg st t sound lets = pick sound (pick lets (took voidV (waited cfg st t)) (refused tooFar st)) (refused notSound st)
 
 pub wait-step : (cfg : Config) (st : State) (t : ℕ) → stepOf cfg st (waitFor t) ≡ waiting cfg st t (soundOf cfg st) (allLet cfg st t)
-unfolding stepOf innerOf waitOf claimedOf sameValue
+unfolding stepOf innerOf waitOf claimedOf agrees sameValue
 wait-step cfg st t = rw (wait-possible cfg st t) (go (soundOf cfg st) (allLet cfg st t))
   where
-    go : (s b : Bool) → pick s (claimedOf voidV st (pick b (took voidV (waited cfg st t)) (refused tooFar st))) (refused notSound st) ≡ waiting cfg st t s b
+    go : (s b : Bool) → pick s (claimedOf (waitFor t) st (pick b (took voidV (waited cfg st t)) (refused tooFar st))) (refused notSound st) ≡ waiting cfg st t s b
     go true true = refl
     go true false = refl
     go false b = refl
@@ -63,16 +64,16 @@ waited-sound cfg st t s e =
     subst (λ (x : Stepped). soundOf cfg (x .state) ≡ true) w (kept-step cfg st (waitFor t) s)
 
 -- a wait that is accepted is let, and reaches the state after it
-told-wait : (cfg : Config) (st : State) (t : ℕ) → Answers (stepOf cfg st (waitFor t) .answer) voidV → (allLet cfg st t ≡ true) × (stepOf cfg st (waitFor t) .state ≡ waited cfg st t)
+told-wait : (cfg : Config) (st : State) (t : ℕ) → Answers (stepOf cfg st (waitFor t) .answer) (waitFor t) → (allLet cfg st t ≡ true) × (stepOf cfg st (waitFor t) .state ≡ waited cfg st t)
 told-wait cfg st t h = rw (wait-step cfg st t) (go (soundOf cfg st) (allLet cfg st t) (rw (wait-step cfg st t) at h))
   where
-    go : (s b : Bool) → Answers (waiting cfg st t s b .answer) voidV → (b ≡ true) × (waiting cfg st t s b .state ≡ waited cfg st t)
+    go : (s b : Bool) → Answers (waiting cfg st t s b .answer) (waitFor t) → (b ≡ true) × (waiting cfg st t s b .state ≡ waited cfg st t)
     go true true q = (refl, refl)
     go true false q = absurd (omega (arith, q .0))
     go false b q = absurd (omega (arith, q .0))
 
 pub wait-is-bounded : WaitIsBounded
-unfolding Accepted allLet operationsLet operationLets timersLet timerLets
+unfolding Accepted agrees sameValue allLet operationsLet operationLets timersLet timerLets
 wait-is-bounded cfg st t s = (to, from)
   where
     Bounds : Type 0
@@ -142,7 +143,7 @@ two cfg st a b = go (soundOf cfg st) refl (allLet cfg st a) refl (allLet cfg (wa
 module _ (cfg : Config) (st st′ : State) (a b : ℕ) (after : List Step) where
   -- whatever follows
   pub waits-follow : (Accepted cfg st (waitFor a ∷ waitFor b ∷ after) st′ → Accepted cfg st (waitFor (a + b) ∷ after) st′) × (Accepted cfg st (waitFor (a + b) ∷ after) st′ → Accepted cfg st (waitFor a ∷ waitFor b ∷ after) st′)
-  unfolding Accepted
+  unfolding Accepted agrees sameValue
   waits-follow = go (two cfg st a b)
     where
       go : Two cfg st a b → (Accepted cfg st (waitFor a ∷ waitFor b ∷ after) st′ → Accepted cfg st (waitFor (a + b) ∷ after) st′) × (Accepted cfg st (waitFor (a + b) ∷ after) st′ → Accepted cfg st (waitFor a ∷ waitFor b ∷ after) st′)
@@ -155,34 +156,35 @@ pub waits-add-up : WaitsAddUp
 waits-add-up cfg st st′ a b = waits-follow cfg st st′ a b []
 
 pub waits-stop-alike : WaitsStopAlike
+unfolding agrees sameValue
 waits-stop-alike cfg st a b k l = go (two cfg st a b)
   where
     One : Type 0
     One = answerRefusal (stepOf cfg st (waitFor (a + b)) .answer) ≡ k
 
     Pair : Type 0
-    Pair = (answerRefusal (stepOf cfg st (waitFor a) .answer) ≡ k) ⊎ (Answers (stepOf cfg st (waitFor a) .answer) voidV × (answerRefusal (stepOf cfg (stepOf cfg st (waitFor a) .state) (waitFor b) .answer) ≡ k))
+    Pair = (answerRefusal (stepOf cfg st (waitFor a) .answer) ≡ k) ⊎ (Answers (stepOf cfg st (waitFor a) .answer) (waitFor a) × (answerRefusal (stepOf cfg (stepOf cfg st (waitFor a) .state) (waitFor b) .answer) ≡ k))
 
     -- taken steps have the number 0, which k is not
     go : Two cfg st a b → (One → Pair) × (Pair → One)
     go (both-pass x y z) = rw (z, x, y) (λ h. absurd (omega (arith, h, l)), back)
       where
-        back : (0 ≡ k) ⊎ (((_≡_ {A = ℕ} 0 0) × (voidV ≡ voidV)) × (0 ≡ k)) → 0 ≡ k
+        back : (0 ≡ k) ⊎ (((_≡_ {A = ℕ} 0 0) × (agrees waitCode voidV voidV ≡ true)) × (0 ≡ k)) → 0 ≡ k
         back (inl h) = h
         back (inr h) = h .1
     go (first-passes x y z) = rw (z, x, y) (λ h. inr ((refl, refl), h), back)
       where
-        back : (0 ≡ k) ⊎ (((_≡_ {A = ℕ} 0 0) × (voidV ≡ voidV)) × (tooFar ≡ k)) → tooFar ≡ k
+        back : (0 ≡ k) ⊎ (((_≡_ {A = ℕ} 0 0) × (agrees waitCode voidV voidV ≡ true)) × (tooFar ≡ k)) → tooFar ≡ k
         back (inl h) = absurd (omega (arith, h, l))
         back (inr h) = h .1
     go (none-passes x z) = rw (z, x) (λ h. inl h, back)
       where
-        back : (tooFar ≡ k) ⊎ (((tooFar ≡ 0) × (voidV ≡ voidV)) × (answerRefusal (stepOf cfg st (waitFor b) .answer) ≡ k)) → tooFar ≡ k
+        back : (tooFar ≡ k) ⊎ (((tooFar ≡ 0) × (agrees waitCode voidV voidV ≡ true)) × (answerRefusal (stepOf cfg st (waitFor b) .answer) ≡ k)) → tooFar ≡ k
         back (inl h) = h
         back (inr h) = absurd (omega (arith, h .0 .0))
     go (unsound s x z) = rw (z, x) (λ h. inl h, back)
       where
-        back : (notSound ≡ k) ⊎ (((notSound ≡ 0) × (voidV ≡ voidV)) × (answerRefusal (stepOf cfg st (waitFor b) .answer) ≡ k)) → notSound ≡ k
+        back : (notSound ≡ k) ⊎ (((notSound ≡ 0) × (agrees waitCode voidV voidV ≡ true)) × (answerRefusal (stepOf cfg st (waitFor b) .answer) ≡ k)) → notSound ≡ k
         back (inl h) = h
         back (inr h) = absurd (omega (arith, h .0 .0))
 

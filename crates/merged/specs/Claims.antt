@@ -12,7 +12,7 @@ use lib.ListN.{length, take}
 use Rattle.numbers.specs.Refusals.{tooFar}
 use Rattle.laws.specs.Choice.{pick}
 use Rattle.types.specs.Types.{Step, Config, State}
-use Rattle.values.specs.Values.{voidV, answerRefusal}
+use Rattle.values.specs.Values.{answerRefusal}
 use Rattle.entries.specs.Faults.{configSound}
 use Rattle.state.specs.Tables.{runnableIn, operationIn, timerIn}
 use Rattle.rules.specs.Sound.{soundOf}
@@ -42,7 +42,7 @@ WaitsStopAlike =
     (cfg : Config) (st : State) (a b k : ℕ) → 0 < k
     → (answerRefusal (stepOf cfg st (waitFor (a + b)) .answer) ≡ k)
     ↔ ((answerRefusal (stepOf cfg st (waitFor a) .answer) ≡ k)
-    ⊎ (Answers (stepOf cfg st (waitFor a) .answer) voidV × (answerRefusal (stepOf cfg (stepOf cfg st (waitFor a) .state) (waitFor b) .answer) ≡ k)))
+    ⊎ (Answers (stepOf cfg st (waitFor a) .answer) (waitFor a) × (answerRefusal (stepOf cfg (stepOf cfg st (waitFor a) .state) (waitFor b) .answer) ≡ k)))
 
 -- in a sound state that number is 13 (W-203)
 abbrev pub WaitsStopFar : Type 0

@@ -31,8 +31,14 @@ Lent {n} ps r P left = (κs : Lfts n) (a : Dens κs ps) (x y : resT r κs .Denot
 pub values-Value-of : One Rattle.values.proofs.Value.of.Kinds.ps Rattle.values.proofs.Value.of.Kinds.r Rattle.values.proofs.Value.of.Reads.Post
 values-Value-of κs a x y s t = same
 
+pub values-Value-full : One Rattle.values.proofs.Value.full.Kinds.ps Rattle.values.proofs.Value.full.Kinds.r Rattle.values.proofs.Value.full.Reads.Post
+values-Value-full κs a x y s t = same
+
 pub values-Value-is-void : One Rattle.values.proofs.Value.is_void.Kinds.ps Rattle.values.proofs.Value.is_void.Kinds.r Rattle.values.proofs.Value.is_void.Reads.Post
 values-Value-is-void κs a x y s t = same
+
+pub values-Value-says-full : One Rattle.values.proofs.Value.says_full.Kinds.ps Rattle.values.proofs.Value.says_full.Kinds.r Rattle.values.proofs.Value.says_full.Reads.Post
+values-Value-says-full κs a x y s t = same
 
 pub values-Value-is-payload : One Rattle.values.proofs.Value.is_payload.Kinds.ps Rattle.values.proofs.Value.is_payload.Kinds.r Rattle.values.proofs.Value.is_payload.Reads.Post
 values-Value-is-payload κs a x y s t = same
@@ -431,6 +437,9 @@ time-steps-wait κs a x y s t = same
 
 pub machine-possible : One Rattle.machine.proofs.possible.Kinds.ps Rattle.machine.proofs.possible.Kinds.r Rattle.machine.proofs.possible.Reads.Post
 machine-possible κs a x y s t = same
+
+pub machine-agrees : One Rattle.machine.proofs.agrees.Kinds.ps Rattle.machine.proofs.agrees.Kinds.r Rattle.machine.proofs.agrees.Reads.Post
+machine-agrees κs a x y s t = same
 
 pub machine-inner : One Rattle.machine.proofs.inner.Kinds.ps Rattle.machine.proofs.inner.Kinds.r Rattle.machine.proofs.inner.Reads.Post
 machine-inner κs a x y s t = same

@@ -55,7 +55,7 @@ last-in o (y ∷ l) x e = go (eqb (y .on) o) refl e (λ f. last-in o l x f)
     go false p q r = let s = r q in (List·Memᴰ·tail (s .0), s .1)
 
 -- what is handed back is a payload
-back-payload : (cfg : Config) (st : State) (s : Step) → stepOf cfg st s .answer ≡ Taken (s .claim) → s .code ≡ handBackCode → isPayload (s .argument) ≡ true
+back-payload : (cfg : Config) (st : State) (s : Step) {v : Value} → stepOf cfg st s .answer ≡ Taken v → s .code ≡ handBackCode → isPayload (s .argument) ≡ true
 back-payload cfg st s a q = go (deed cfg st s a)
   where
     go : {st′ : State} → Deed cfg st s st′ → isPayload (s .argument) ≡ true

@@ -1,61 +1,77 @@
--- An accepted step: the state is sound, and the step is what it is before its claim is looked at (`accepted`). So it went one of the ways of its code (`way`), and relied on what that way asks (`enter-told` .. `tick-told`).
+-- An accepted step: the state is sound, the step is what it is before its claim is looked at, and its answer agrees with that (`accepted`); for every code but send the claim is the answer (`claim-told`). So it went one of
+-- the ways of its code (`gone`, `way`), and relied on what that way asks (`enter-told` .. `tick-told`).
 -- Assumes nothing.
 use Prim.Native.Nat.{ℕ}
 use mathlib.Core.Bool.{Bool, true, false}
-use mathlib.Core.Path.{_≡_, refl, sym, ap, subst}
+use mathlib.Core.Path.{_≡_, refl, sym, ap, _∙_, subst}
 use native.Mathlib.Omega.{arith}
+use lib.Dec.{eqb}
 use Rattle.numbers.specs.Refusals.{notSound, otherAnswer}
-use Rattle.numbers.specs.Codes.{enterCode, exitCode, callCode, resultCode, handBackCode, endCode, spawnCode, timeoutCode, tickCode}
+use Rattle.numbers.specs.Codes.{enterCode, exitCode, sendCode, callCode, resultCode, handBackCode, endCode, spawnCode, timeoutCode, tickCode}
 use Rattle.laws.specs.Choice.{pick}
 use Rattle.laws.proofs.Choosing.{clash}
 use Rattle.types.specs.Types.{Value, Step, Answer, Taken, Refused, Config, State, Stepped}
-use Rattle.values.specs.Values.{numberV, okV, noDataV, sameValue}
+use Rattle.values.specs.Values.{numberV, okV, noDataV, answerValue}
 use Rattle.config.specs.Tables.{operationConfIn}
 use Rattle.state.specs.Tables.{operationIn}
 use Rattle.rules.specs.Sound.{soundOf}
-use Rattle.effects.specs.Steps.{refused, isOpen, answers, clientOf, lowestEmpty}
-use Rattle.effects.specs.Step.{possibleOf, onAnswer, claimedOf, innerOf, stepOf}
+use Rattle.effects.specs.Steps.{refused, fed, fullMask, sentOf, isOpen, answers, clientOf, lowestEmpty}
+use Rattle.effects.specs.Step.{possibleOf, onAnswer, agrees, claimedOf, innerOf, stepOf}
+use Rattle.effects.proofs.Agreeing.{agrees-same}
 use Rattle.effects.proofs.Codes.{never}
 use Rattle.stays_sound.specs.Facts.{CanEnter, CanExit, CanCall, CanCollect, CanHandBack, CanEnd, CanSpawn, CanTimeout, CanTick}
-use Rattle.stays_sound.proofs.Ways.{Way, enter, exit, callBusy, call, pollOpen, poll, collect, answer, late, end, spawn, timeout, tick, Went, bars, goes, went}
+use Rattle.stays_sound.proofs.Ways.{Way, enter, exit, send, callBusy, call, pollOpen, poll, collect, answer, late, end, spawn, timeout, tick, Went, bars, goes, went}
+
+-- what a step answers, and Void if it is refused
+abbrev pub answerIn : Config → State → Step → Value
+answerIn cfg st s = answerValue (stepOf cfg st s .answer)
 
 -- ---- the step before its claim
-
-claimed : (claim v : Value) (st : State) (r : Stepped) → claimedOf claim st r .answer ≡ Taken v → claimedOf claim st r ≡ r
-unfolding claimedOf
-claimed claim v st r h = go (r .answer) h
-  where
-    same : (w : Value) (b : Bool) → pick b r (refused otherAnswer st) .answer ≡ Taken v → pick b r (refused otherAnswer st) ≡ r
-    same w true k = refl
-    same w false k = absurd (never k)
-
-    go : (a : Answer) → onAnswer a (λ w. pick (sameValue w claim) r (refused otherAnswer st)) (λ n. r) .answer ≡ Taken v → onAnswer a (λ w. pick (sameValue w claim) r (refused otherAnswer st)) (λ n. r) ≡ r
-    go (Taken w) k = same w (sameValue w claim) k
-    go (Refused n) k = refl
-
-pub accepted : (cfg : Config) (st : State) (s : Step) (v : Value) → stepOf cfg st s .answer ≡ Taken v → (soundOf cfg st ≡ true) × (stepOf cfg st s ≡ possibleOf cfg st s)
-unfolding stepOf innerOf
-accepted cfg st s v h = go (soundOf cfg st) h
-  where
-    go : (b : Bool) → pick b (innerOf cfg st s) (refused notSound st) .answer ≡ Taken v → (b ≡ true) × (pick b (innerOf cfg st s) (refused notSound st) ≡ possibleOf cfg st s)
-    go true k = (refl, claimed (s .claim) v st (possibleOf cfg st s) k)
-    go false k = absurd (never k)
-
--- ---- its way
 
 given : {v w : Value} → Taken v ≡ Taken w → v ≡ w
 given h = cc
 
+claimed : (s : Step) (v : Value) (st : State) (r : Stepped) → claimedOf s st r .answer ≡ Taken v → (claimedOf s st r ≡ r) × (agrees (s .code) v (s .claim) ≡ true)
+unfolding claimedOf
+claimed s v st r h = go (r .answer) refl h
+  where
+    same : (w : Value) (b : Bool) → r .answer ≡ Taken w → agrees (s .code) w (s .claim) ≡ b → pick b r (refused otherAnswer st) .answer ≡ Taken v → (pick b r (refused otherAnswer st) ≡ r) × (agrees (s .code) v (s .claim) ≡ true)
+    same w true e f k = (refl, subst (λ (u : Value). agrees (s .code) u (s .claim) ≡ true) (given (sym e ∙ k)) f)
+    same w false e f k = absurd (never k)
+
+    go : (a : Answer) → r .answer ≡ a → onAnswer a (λ w. pick (agrees (s .code) w (s .claim)) r (refused otherAnswer st)) (λ n. r) .answer ≡ Taken v → (onAnswer a (λ w. pick (agrees (s .code) w (s .claim)) r (refused otherAnswer st)) (λ n. r) ≡ r) × (agrees (s .code) v (s .claim) ≡ true)
+    go (Taken w) e k = same w (agrees (s .code) w (s .claim)) e refl k
+    go (Refused n) e k = absurd (never (sym e ∙ k))
+
+-- the state is sound, the step is what it is before its claim is looked at, and its answer agrees with its claim
+pub accepted : (cfg : Config) (st : State) (s : Step) {v : Value} → stepOf cfg st s .answer ≡ Taken v → (soundOf cfg st ≡ true) × (stepOf cfg st s ≡ possibleOf cfg st s) × (agrees (s .code) v (s .claim) ≡ true)
+unfolding stepOf innerOf
+accepted cfg st s {v} h = go (soundOf cfg st) h
+  where
+    go : (b : Bool) → pick b (innerOf cfg st s) (refused notSound st) .answer ≡ Taken v → (b ≡ true) × (pick b (innerOf cfg st s) (refused notSound st) ≡ possibleOf cfg st s) × (agrees (s .code) v (s .claim) ≡ true)
+    go true k = let c = claimed s v st (possibleOf cfg st s) k in (refl, c .0, c .1)
+    go false k = absurd (never k)
+
+-- ---- its way
+
 module _ (cfg : Config) (st : State) (s : Step) where
+  -- for every code but send the claim is the answer
+  pub claim-told : {v : Value} → stepOf cfg st s .answer ≡ Taken v → eqb (s .code) sendCode ≡ false → s .claim ≡ v
+  claim-told {v} h f = sym (agrees-same (s .code) v (s .claim) f (accepted cfg st s h .2))
+
   went-taken : {n : ℕ} {r : Stepped} {v : Value} → Went cfg st s n r → r .answer ≡ Taken v → Way cfg st s n v (r .state)
   went-taken (bars b) h = absurd (never h)
   went-taken {n} {r} {v} (goes w) h = subst (λ (u : Value). Way cfg st s n u (r .state)) (given h) w
 
-  -- an accepted step of the code n went a way of it
-  pub way : {n : ℕ} → s .code ≡ n → stepOf cfg st s .answer ≡ Taken (s .claim) → Way cfg st s n (s .claim) (stepOf cfg st s .state)
-  way c h =
-      let e = accepted cfg st s (s .claim) h .1 in
-      rw e (subst (λ (n : ℕ). Way cfg st s n (s .claim) (possibleOf cfg st s .state)) c (went-taken (went cfg st s) (rw e at h)))
+  -- an accepted step of the code n went a way of it, with its answer
+  pub gone : {n : ℕ} {v : Value} → s .code ≡ n → stepOf cfg st s .answer ≡ Taken v → Way cfg st s n v (stepOf cfg st s .state)
+  gone {n} {v} c h =
+      let e = accepted cfg st s h .1 in
+      rw e (subst (λ (n : ℕ). Way cfg st s n v (possibleOf cfg st s .state)) c (went-taken (went cfg st s) (rw e at h)))
+
+  -- and of every code but send with its claim
+  pub way : {n : ℕ} {v : Value} → s .code ≡ n → eqb n sendCode ≡ false → stepOf cfg st s .answer ≡ Taken v → Way cfg st s n (s .claim) (stepOf cfg st s .state)
+  way {n} {v} c f h = subst (λ (u : Value). Way cfg st s n u (stepOf cfg st s .state)) (sym (claim-told h (ap (λ (m : ℕ). eqb m sendCode) c ∙ f))) (gone c h)
 
   -- ---- what a step relied on, by its code
 
@@ -64,6 +80,9 @@ module _ (cfg : Config) (st : State) (s : Step) where
 
   pub exit-told : {w : Value} {t : State} → Way cfg st s exitCode w t → CanExit cfg st (s .who) (s .what)
   exit-told (exit z) = z
+
+  pub send-told : {w : Value} {t : State} → Way cfg st s sendCode w t → (w ≡ sentOf (fullMask cfg (st .elements) (s .what))) × (t ≡ fed cfg st (s .what) (s .argument))
+  send-told (send z) = (refl, refl)
 
   -- a call that starts
   pub call-told : {w : Value} {t : State} → w ≡ okV → Way cfg st s callCode w t → CanCall cfg st (s .who) (s .what) (s .argument)

@@ -126,7 +126,7 @@ unfolding elementsSound elementIn withElement
 elements-put cfg t q x h g = all-put (λ k y. elementSound cfg k y) (t .at) q maxRequiredConfs x noElement h g
 
 -- a linked element is queued as the provided one is
-linked-alike : (cfg : Config) → configSound cfg ≡ true → (p q : ℕ) → linked cfg p q ≡ true → providedConfIn (cfg .provided) p .queued ≡ isQueued cfg q
+pub linked-alike : (cfg : Config) → configSound cfg ≡ true → (p q : ℕ) → linked cfg p q ≡ true → providedConfIn (cfg .provided) p .queued ≡ isQueued cfg q
 unfolding linked
 linked-alike cfg k p q h =
     let f = any-find (λ (l : ℕ). joins (linkIn (cfg .links) l) p q) (cfg .links .n) h in

@@ -6,11 +6,11 @@ use mathlib.Core.Path.{_≡_}
 use Rattle.numbers.specs.Refusals.{otherAnswer}
 use Rattle.laws.specs.Choice.{pick}
 use Rattle.laws.proofs.Choosing.{pick-has}
-use Rattle.values.specs.Values.{timeoutV, sameValue}
+use Rattle.values.specs.Values.{timeoutV}
 use Rattle.types.specs.Types.{Value, Step, Answer, Taken, Refused, Config, State, Stepped}
 use Rattle.rules.specs.Sound.{soundOf}
 use Rattle.effects.specs.Steps.{refused, stored, entered, exited, looked, fed, invalidated, received, called, collected, closed, answers, clientOf, finished, handedBack, answered, failed, emptied, lowestEmpty, spawned, ticked, waited}
-use Rattle.effects.specs.Step.{possibleOf, onAnswer, claimedOf, innerOf, stepOf}
+use Rattle.effects.specs.Step.{possibleOf, onAnswer, agrees, claimedOf, innerOf, stepOf}
 use Rattle.stays_sound.specs.Facts.{Sound, CanWriteVariable, CanEnter, CanExit, CanRead, CanFeed, CanInvalidate, CanReceive, CanCall, CanCollect, CanHandBack, CanEnd, CanSpawn, CanTimeout, CanTick, CanWait, CanFail}
 use Rattle.stays_sound.proofs.Told.{told, made}
 use Rattle.stays_sound.proofs.Shapes.{write-variable-keeps-shape, enter-keeps-shape, exit-keeps-shape, read-keeps-shape, feed-keeps-shape, invalidate-keeps-shape, receive-keeps-shape, call-keeps-shape, collect-keeps-shape, fail-keeps-shape, answer-keeps-shape, late-keeps-shape, end-keeps-shape, spawn-keeps-shape, timeout-keeps-shape, tick-keeps-shape, wait-keeps-shape}
@@ -131,8 +131,8 @@ module _ (cfg : Config) (st : State) (s : Sound cfg st) where
   unfolding innerOf claimedOf
   inner-keeps x = go (possibleOf cfg st x .answer)
     where
-      go : (a : Answer) → Keeps (onAnswer a (λ (v : Value). pick (sameValue v (x .claim)) (possibleOf cfg st x) (refused otherAnswer st)) (λ (n : ℕ). possibleOf cfg st x))
-      go (Taken v) = pick-has Keeps (sameValue v (x .claim)) (possibleOf cfg st x) (refused otherAnswer st) (λ e. possible-keeps x) (λ e. s)
+      go : (a : Answer) → Keeps (onAnswer a (λ (v : Value). pick (agrees (x .code) v (x .claim)) (possibleOf cfg st x) (refused otherAnswer st)) (λ (n : ℕ). possibleOf cfg st x))
+      go (Taken v) = pick-has Keeps (agrees (x .code) v (x .claim)) (possibleOf cfg st x) (refused otherAnswer st) (λ e. possible-keeps x) (λ e. s)
       go (Refused n) = possible-keeps x
 
 -- ---- sound stays sound

@@ -6,11 +6,10 @@ use native.Mathlib.Omega.{arith}
 use Rattle.numbers.specs.Refusals.{notSound, otherAnswer}
 use Rattle.laws.specs.Choice.{pick}
 use Rattle.laws.proofs.Choosing.{pick-has}
-use Rattle.values.specs.Values.{sameValue}
 use Rattle.types.specs.Types.{Value, Step, Answer, Taken, Refused, Config, State, Stepped}
 use Rattle.rules.specs.Sound.{soundOf}
 use Rattle.effects.specs.Steps.{refused, took}
-use Rattle.effects.specs.Step.{possibleOf, onAnswer, claimedOf, innerOf, stepOf}
+use Rattle.effects.specs.Step.{possibleOf, onAnswer, agrees, claimedOf, innerOf, stepOf}
 use Rattle.effects.proofs.Codes.{never}
 use Rattle.stays_sound.proofs.Ways.{Barred, shared, enterTaken, exitOther, callBorne, callFull, collectOpen, answerNumber, answerNone, endServing, endHolding, spawnNeed, spawnFull, timeoutEarly, tickEarly, waitFar, Went, bars, goes, went}
 
@@ -56,17 +55,17 @@ module _ (cfg : Config) (st : State) where
 
   -- ---- with the claim, and the test of soundness
 
-  pub claimed-fair : (claim : Value) (r : Stepped) → Fair r → Fair (claimedOf claim st r)
+  pub claimed-fair : (s : Step) (r : Stepped) → Fair r → Fair (claimedOf s st r)
   unfolding claimedOf
-  claimed-fair claim r p = go (r .answer)
+  claimed-fair s r p = go (r .answer)
     where
-      go : (a : Answer) → Fair (onAnswer a (λ (v : Value). pick (sameValue v claim) r (refused otherAnswer st)) (λ (n : ℕ). r))
-      go (Taken v) = pick-has Fair (sameValue v claim) r (refused otherAnswer st) (λ e. p) (λ e. refused-fair otherAnswer (omega arith))
+      go : (a : Answer) → Fair (onAnswer a (λ (v : Value). pick (agrees (s .code) v (s .claim)) r (refused otherAnswer st)) (λ (n : ℕ). r))
+      go (Taken v) = pick-has Fair (agrees (s .code) v (s .claim)) r (refused otherAnswer st) (λ e. p) (λ e. refused-fair otherAnswer (omega arith))
       go (Refused n) = p
 
   pub step-fair : (s : Step) → Fair (stepOf cfg st s)
   unfolding stepOf innerOf
-  step-fair s = pick-has Fair (soundOf cfg st) _ _ (λ e. claimed-fair (s .claim) (possibleOf cfg st s) (possible-fair s)) (λ e. refused-fair notSound (omega arith))
+  step-fair s = pick-has Fair (soundOf cfg st) _ _ (λ e. claimed-fair s (possibleOf cfg st s) (possible-fair s)) (λ e. refused-fair notSound (omega arith))
 
 -- ---- told apart
 

@@ -8,7 +8,7 @@ use native.Mathlib.Decide.{ℕ-discrete}
 use lib.Dec.{ltb}
 use Rattle.numbers.specs.Refusals.{malformed, areaTaken, notOnTop, queueFull, numberBorne, stillOpen, notDue, noSlotFree, tooFar, notOver, areasHeld, wrongClient}
 use Rattle.numbers.specs.Codes.{readVariableCode, writeVariableCode, enterCode, exitCode, readCode, writeCode, updatedCode, invalidateCode, receiveCode, sendCode, callCode, resultCode, handBackCode, endCode, spawnCode, timeoutCode, tickCode, waitCode, failCode}
-use Rattle.laws.specs.Choice.{pick, bit}
+use Rattle.laws.specs.Choice.{bit}
 use Rattle.laws.proofs.Choosing.{pick-has}
 use Rattle.values.specs.Values.{voidV, numberV, okV, limitV, noDataV, timeoutV}
 use Rattle.types.specs.Types.{Value, Step, Config, State, Stepped}
@@ -17,7 +17,7 @@ use Rattle.state.specs.Queues.{firstValue}
 use Rattle.state.specs.Tables.{maxSlots, runnableIn, variableIn, elementIn, operationIn, slotIn}
 use Rattle.rules.specs.Rows.{rows, rowOf}
 use Rattle.rules.specs.Refusals.{refusalOf}
-use Rattle.effects.specs.Steps.{refused, took, stored, isTaken, entered, onTop, exited, looked, fed, invalidated, anyFull, isBare, received, isOpen, isBorne, isBusy, requestsFull, called, collected, closed, answers, serves, clientOf, finished, answered, handsNumber, handedBack, failed, isOver, holds, emptied, maySpawn, lowestEmpty, spawned, isUp, ticked, allLet, waited, readVariableOf, writeVariableOf, enterOf, exitOf, readOf, writeOf, updatedOf, invalidateOf, receiveOf, sendOf, callOf, pollOf, collectOf, resultOf, handBackOf, endOf, spawnOf, timeoutOf, tickOf, waitOf, failOf}
+use Rattle.effects.specs.Steps.{refused, took, stored, isTaken, entered, onTop, exited, looked, fed, invalidated, fullMask, sentOf, isBare, received, isOpen, isBorne, isBusy, requestsFull, called, collected, closed, answers, serves, clientOf, finished, answered, handsNumber, handedBack, failed, isOver, holds, emptied, maySpawn, lowestEmpty, spawned, isUp, ticked, allLet, waited, readVariableOf, writeVariableOf, enterOf, exitOf, readOf, writeOf, updatedOf, invalidateOf, receiveOf, sendOf, callOf, pollOf, collectOf, resultOf, handBackOf, endOf, spawnOf, timeoutOf, tickOf, waitOf, failOf}
 use Rattle.effects.specs.Step.{possibleOf}
 use Rattle.effects.proofs.Codes.{Code, coded, actBy, possible-by, possible-barred}
 use Rattle.effects.proofs.Codes as code
@@ -37,7 +37,7 @@ pub data Way (cfg : Config) (st : State) (s : Step) : ℕ → Value → State �
   invalidate : CanInvalidate cfg st (s .who) (s .what) → Way cfg st s invalidateCode voidV (invalidated cfg st (s .what))
   receiveNone : isBare st (s .what) ≡ true → Way cfg st s receiveCode noDataV st
   receive : CanReceive cfg st (s .who) (s .what) → Way cfg st s receiveCode (firstValue (elementIn (st .elements) (s .what) .queue)) (received st (s .what))
-  send : CanFeed cfg st (s .who) (s .what) (s .argument) → Way cfg st s sendCode (pick (anyFull cfg (st .elements) (s .what)) limitV okV) (fed cfg st (s .what) (s .argument))
+  send : CanFeed cfg st (s .who) (s .what) (s .argument) → Way cfg st s sendCode (sentOf (fullMask cfg (st .elements) (s .what))) (fed cfg st (s .what) (s .argument))
   callBusy : isBusy st (s .what) ≡ true → Way cfg st s callCode limitV st
   call : CanCall cfg st (s .who) (s .what) (s .argument) → Way cfg st s callCode okV (called cfg st (s .who) (s .what) (s .argument))
   pollOpen : operationConfIn (cfg .operations) (s .what) .asynchronous ≡ true → isOpen st (s .what) ≡ true → Way cfg st s resultCode noDataV st

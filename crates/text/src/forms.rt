@@ -8,7 +8,7 @@
 ghost use Prim.Native.Nat.{_≤_, _<_};
 ghost use lib.ListN.{length};
 
-pub(crate) const FORMS: [u8; 1913] = *b"vaVoid
+pub(crate) const FORMS: [u8; 1920] = *b"vaVoid
 vbNumber
 vcOk
 vdLimit
@@ -16,6 +16,7 @@ veNoData
 vfTimeout
 vgNeverReceived
 vhInvalid
+viFull
 vjServerErr
 v-Value
 e-edition %b0

@@ -65,7 +65,23 @@ fn number_at(field: &[u8], o: usize) -> u32 {
     )
 }
 
-// A row of words says a value: that of its kind, where a number stands beside a Number alone; or the last, for a bad value.
+// A value of this kind has a number beside it: a Number, and a Full its mask.
+pub(crate) fn has_number(kind: u8) -> bool {
+    kind == 1 || kind == 8
+}
+
+// A number that a value of this kind may have: any of a Number, a mask of a Full, and else none.
+fn fits(kind: u8, number: u32) -> bool {
+    if kind == 1 {
+        return true;
+    }
+    if kind == 8 {
+        return 0 < number && number < 65536;
+    }
+    number == 0
+}
+
+// A row of words says a value: that of its kind, with a number that it may have; or the last, for a bad value.
 fn says_value(choice: u8, kind: u8, number: u32) -> bool {
     if choice < b'a' {
         return true;
@@ -73,10 +89,7 @@ fn says_value(choice: u8, kind: u8, number: u32) -> bool {
     if kind != choice - b'a' {
         return false;
     }
-    if kind == 1 {
-        return true;
-    }
-    number == 0
+    fits(kind, number)
 }
 
 // Where the row starts that says a value.
@@ -119,7 +132,7 @@ fn put_value(out: &mut [u8], at: usize, forms: &[u8], field: &[u8], o: usize) ->
         let behind = put_spaced(out, next, kind as u32);
         return put_spaced(out, behind, number);
     }
-    if kind == 1 {
+    if has_number(kind) {
         return put_spaced(out, next, number);
     }
     next

@@ -11,6 +11,7 @@ use crate::names::LONGEST;
 use crate::names::is_name;
 use crate::names::keep_name;
 use crate::names::place_of;
+use crate::putting::has_number;
 use crate::putting::put_byte;
 
 // Where a line goes on; or where it is not as it should be, what should stand there, and a place that says more of that.
@@ -267,8 +268,9 @@ fn take_value(forms: &[u8], line: &[u8], at: usize, field: &mut [u8], o: usize) 
     if 255 < kind {
         return take_bad(line, next, field, o);
     }
-    put_byte(field, o, kind as u8);
-    if kind == 1 {
+    let k = kind as u8;
+    put_byte(field, o, k);
+    if has_number(k) {
         return take_long_behind(line, next, field, o + 1);
     }
     Took::To(next)

@@ -1,6 +1,6 @@
 // Values, payloads, the recorded step and the answer to one. A value is its kind and its number, so that a bad value can be held, tested and refused.
 ghost use mathlib.Core.Path.{_≡_};
-ghost use Rattle.values.specs.Values.{numberV, isVoid, isPayload, isKind, isGood, sameValue};
+ghost use Rattle.values.specs.Values.{numberV, fullV, isVoid, saysFull, isPayload, isKind, isMask, isGood, sameValue};
 
 pub struct Value {
     pub kind: u8,
@@ -31,6 +31,13 @@ impl Value {
         Value { kind: 1, number: n }
     }
 
+    // The Full with the mask m.
+    pub fn full(m: u32) -> Value
+        ensures { λ r. ⌜ r ≡ fullV m ⌝ }
+    {
+        Value { kind: 8, number: m }
+    }
+
     pub fn is_void(self) -> bool
         ensures { λ r. ⌜ r ≡ isVoid self ⌝ }
     {
@@ -38,6 +45,13 @@ impl Value {
             return self.number == 0;
         }
         false
+    }
+
+    // A Full, whatever its mask is.
+    pub fn says_full(self) -> bool
+        ensures { λ r. ⌜ r ≡ saysFull self ⌝ }
+    {
+        self.kind == 8
     }
 
     // Void or a Number.
@@ -50,12 +64,15 @@ impl Value {
         self.is_void()
     }
 
-    // One of the kinds, with a number only where the kind is Number.
+    // One of the kinds, with a number only where the kind is Number or Full.
     pub fn is_good(self) -> bool
         ensures { λ r. ⌜ r ≡ isGood self ⌝ }
     {
         if self.kind == 1 {
             return true;
+        }
+        if self.says_full() {
+            return is_mask(self.number);
         }
         if is_kind(self.kind) {
             return self.number == 0;
@@ -73,11 +90,21 @@ impl Value {
     }
 }
 
-// A kind of value: the first eight, and ServerErr.
+// A kind of value.
 fn is_kind(k: u8) -> bool
     ensures { λ r. ⌜ r ≡ isKind k ⌝ }
 {
-    k < 8 || k == Value::SERVER_ERR.kind
+    k <= Value::SERVER_ERR.kind
+}
+
+// The largest mask: the bits of sixteen required elements.
+const LAST_MASK: u32 = 65535;
+
+// A mask that a Full may have.
+fn is_mask(m: u32) -> bool
+    ensures { λ r. ⌜ r ≡ isMask m ⌝ }
+{
+    0 < m && m <= LAST_MASK
 }
 
 // A recorded step: its code, who takes it, what it is about, its argument and the answer that it claims.

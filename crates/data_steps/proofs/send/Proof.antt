@@ -4,7 +4,7 @@ use lib.ListN.{length}
 use mathlib.Core.Path.{_≡_}
 use Rattle.laws.proofs.Places.{length-mapped}
 use Rattle.effects.specs.Steps.{fed, sendOf}
-use Rattle.data_steps.proofs.Noted.{any-full-by, fed-runnables-by}
+use Rattle.data_steps.proofs.Noted.{full-mask-by, fed-runnables-by}
 use Rattle.data_steps.proofs.send.Statement.{statement}
 use Rattle.data_steps.proofs.send.Tie as tie
 
@@ -13,15 +13,8 @@ unfolding sendOf fed
 returns c =
     let a = c .before .before .before .before .before .before .before .before .args in
     let e : length (a .cfg .required .at) ≡ 16 = search (length-mapped, c .before .before .before .before .before .before .before .before .good .0 .1 .1 .1 .1 .1 .0 .1 .1 .1 .0 .1 .0 .1) in
-    rw (c .take .ensures, ← any-full-by (a .cfg) (a .st .elements) e, ← fed-runnables-by (a .cfg) (a .st .elements) e, ← c .before .before .before .before .before .of .ensures, ← c .before .before .any-full .ensures, c .before .if1 .taken, ← c .before .before .before .fed-runnables .ensures, ← c .before .before .before .before .fed-elements .ensures)
-
-returns-2 : tie.Need-returns-2
-unfolding sendOf fed
-returns-2 c =
-    let a = c .before .before .before .before .before .before .before .before .args in
-    let e : length (a .cfg .required .at) ≡ 16 = search (length-mapped, c .before .before .before .before .before .before .before .before .good .0 .1 .1 .1 .1 .1 .0 .1 .1 .1 .0 .1 .0 .1) in
-    rw (c .take2 .ensures, ← any-full-by (a .cfg) (a .st .elements) e, ← fed-runnables-by (a .cfg) (a .st .elements) e, ← c .before .before .before .before .before .of .ensures, ← c .before .before .any-full .ensures, c .before .if1 .left, ← c .before .before .before .fed-runnables .ensures, ← c .before .before .before .before .fed-elements .ensures)
+    rw (c .take .ensures, ← full-mask-by (a .cfg) (a .st .elements) e, ← fed-runnables-by (a .cfg) (a .st .elements) e, ← c .before .before .before .before .before .of .ensures, ← c .before .before .full-mask .ensures, ← c .before .sent .ensures, ← c .before .before .before .fed-runnables .ensures, ← c .before .before .before .before .fed-elements .ensures)
 
 pub send-spec : {M : Type 1} → statement M
 send-spec =
-    tie.close (tie.spec (λ c κs. tt) (λ c κs. tt) (λ c κs. tt) (λ c κs. tt) (λ c κs. tt) returns (λ c κs. tt) returns-2)
+    tie.close (tie.spec (λ c κs. tt) (λ c κs. tt) (λ c κs. tt) (λ c κs. tt) (λ c κs. tt) (λ c κs. tt) returns)

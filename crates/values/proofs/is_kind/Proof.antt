@@ -9,9 +9,5 @@ returns : tie.Need-returns
 unfolding isKind
 returns c = search tests
 
-returns-2 : tie.Need-returns-2
-unfolding isKind
-returns-2 c = search tests
-
 pub is-kind-spec : {M : Type 1} → statement M
-is-kind-spec = tie.close (tie.spec returns returns-2)
+is-kind-spec = tie.close (tie.spec returns)
