@@ -11,7 +11,7 @@ use Rattle.numbers.specs.Refusals.{malformed}
 use Rattle.numbers.specs.Codes.{handBackCode, waitCode}
 use Rattle.laws.specs.Choice.{pick, both, either}
 use Rattle.values.specs.Values.{voidV, numberV, isVoid, isPayload}
-use Rattle.types.specs.Types.{Value, Step, Refused, Config, State, Stepped}
+use Rattle.faces.specs.Types.{Value, Step, Refused, Config, State, Stepped}
 use Rattle.config.specs.Tables.{operationConfIn}
 use Rattle.rules.specs.declared.Row.{Row}
 use Rattle.rules.specs.Rows.{noPart, rowOf, rows}

@@ -10,7 +10,7 @@ use Rattle.laws.proofs.Choosing.{pick-has}
 use Rattle.numbers.specs.Refusals.{malformed, notThere, notOwn, barred, areaTaken, notOnTop, queueFull, numberBorne, stillOpen, notDue, noSlotFree, tooFar, notOver, areasHeld, wrongClient, otherAnswer}
 use Rattle.numbers.specs.Codes.{timeoutCode}
 use Rattle.values.specs.Values.{answerRefusal}
-use Rattle.types.specs.Types.{Value, Step, Answer, Taken, Refused, Config, RunnableConf, Life, Runnable, Slots, State, Stepped}
+use Rattle.faces.specs.Types.{Value, Step, Answer, Taken, Refused, Config, RunnableConf, Life, Runnable, Slots, State, Stepped}
 use Rattle.config.specs.Tables.{runnableConfIn}
 use Rattle.entries.specs.Entries.{entryOf}
 use Rattle.state.specs.Tables.{maxSlots, runnableIn, operationIn, slotIn}

@@ -4,7 +4,7 @@ use Prim.Native.Nat.{ℕ}
 use lib.Dec.{eqb}
 use Rattle.laws.specs.Choice.{pick}
 use Rattle.values.specs.Values.{voidV, numberV}
-use Rattle.types.specs.Types.{Value, Step, Answer, Config, State}
+use Rattle.faces.specs.Types.{Value, Step, Answer, Config, State}
 use Rattle.rules.specs.Rows.{nothing, aPayload, rowOf}
 use Rattle.effects.specs.Step.{possibleOf}
 

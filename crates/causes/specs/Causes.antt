@@ -2,7 +2,7 @@
 -- Assumes nothing.
 use Prim.Native.Nat.{ℕ}
 use Rattle.laws.specs.Choice.{pick}
-use Rattle.types.specs.Types.{Value, Step, Config, State}
+use Rattle.faces.specs.Types.{Value, Step, Config, State}
 use Rattle.effects.specs.Step.{agrees, possibleOf, onAnswer}
 use Rattle.whys.specs.declared.Cause.{Cause}
 use Rattle.whys.specs.declared.Cause.the-variants.{NoCause, Differs}

@@ -7,7 +7,7 @@ use mathlib.Core.List.{List, [], _∷_}
 use mathlib.Core.Path.{_≡_, refl, sym, ap, _∙_}
 use native.Mathlib.Omega.{arith}
 use lib.ListN.{length, take, drop}
-use Rattle.types.specs.Types.{Value, Step, Taken, Config, State}
+use Rattle.faces.specs.Types.{Value, Step, Taken, Config, State}
 use Rattle.effects.specs.Step.{stepOf}
 use Rattle.recording.specs.declared.Field.the-variants.{Step as IsStep, End}
 use Rattle.recording.specs.Recording.{fieldOf}

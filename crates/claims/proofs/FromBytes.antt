@@ -11,7 +11,7 @@ use lib.Dec.{ltb}
 use lib.ListN.{length}
 use borrow.Author.Tests.{lt-ltb, le-ltb}
 use Rattle.laws.specs.Choice.{pick, either}
-use Rattle.types.specs.Types.{Config, State}
+use Rattle.faces.specs.Types.{Config, State}
 use Rattle.entries.specs.Faults.{configSound}
 use Rattle.reading.specs.declared.Outcome.{Outcome}
 use Rattle.reading.specs.declared.Outcome.the-variants.{Whole, Refused as NotRead}

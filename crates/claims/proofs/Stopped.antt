@@ -5,7 +5,7 @@ use mathlib.Core.List.{List}
 use mathlib.Core.Path.{_≡_, ap, _∙_}
 use native.Mathlib.Omega.{arith}
 use lib.ListN.{length, drop}
-use Rattle.types.specs.Types.{Step, Refused as Barred, Config, State}
+use Rattle.faces.specs.Types.{Step, Refused as Barred, Config, State}
 use Rattle.values.specs.Values.{answerRefusal}
 use Rattle.effects.specs.Step.{stepOf}
 use Rattle.stays_sound.proofs.Refusals.{never-zero}

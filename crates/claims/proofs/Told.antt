@@ -8,7 +8,7 @@ use mathlib.Core.Path.{_≡_, refl, sym, ap, _∙_, subst}
 use native.Mathlib.Omega.{arith}
 use lib.ListN.{length, take, drop, length-drop}
 use Rattle.laws.proofs.Choosing.{clash}
-use Rattle.types.specs.Types.{Step, Value, Taken, Refused as Barred, Config, State}
+use Rattle.faces.specs.Types.{Step, Value, Taken, Refused as Barred, Config, State}
 use Rattle.values.specs.Values.{answerRefusal}
 use Rattle.effects.specs.Step.{stepOf}
 use Rattle.stays_sound.proofs.Refusals.{never-zero}

@@ -8,7 +8,7 @@ use mathlib.Core.List.{List, _∷_}
 use mathlib.Core.Logic.{_↔_}
 use mathlib.Core.Path.{_≡_}
 use lib.ListN.{length, take, drop}
-use Rattle.types.specs.Types.{Step, Config, State}
+use Rattle.faces.specs.Types.{Step, Config, State}
 use Rattle.values.specs.Values.{answerRefusal}
 use Rattle.state.specs.Start.{startOf}
 use Rattle.entries.specs.Faults.{configSound}

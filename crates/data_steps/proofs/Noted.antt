@@ -13,7 +13,7 @@ use Rattle.laws.proofs.Choosing.{both-no}
 use Rattle.laws.proofs.Looping.{any-same}
 use Rattle.laws.proofs.Masks.{mask-same}
 use Rattle.laws.proofs.Places.{past, each-at, each-length}
-use Rattle.types.specs.Types.{Config, Elements, Runnable, Runnables}
+use Rattle.faces.specs.Types.{Config, Elements, Runnable, Runnables}
 use Rattle.config.specs.Tables.{requiredConfIn, dataEventIn, noRequiredConf}
 use Rattle.entries.specs.Faults.{isQueued}
 use Rattle.state.specs.Parts.{noRunnable}

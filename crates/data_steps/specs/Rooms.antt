@@ -8,7 +8,7 @@ use Rattle.laws.specs.Choice.{pick, both}
 use Rattle.laws.specs.Loop.{anyBelow}
 use Rattle.laws.specs.Mask.{maskBelow}
 use Rattle.laws.specs.Row.{eachBelow}
-use Rattle.types.specs.Types.{Config, Runnable, Runnables, Elements}
+use Rattle.faces.specs.Types.{Config, Runnable, Runnables, Elements}
 use Rattle.config.specs.Tables.{maxRequiredConfs, dataEventIn}
 use Rattle.state.specs.Parts.{noRunnable}
 use Rattle.state.specs.Tables.{elementIn}

@@ -10,7 +10,7 @@ use borrow.Author.Tests.{eqb-true, eq-eqb}
 use Rattle.numbers.specs.Codes.{sendCode}
 use Rattle.laws.specs.Choice.{both, either}
 use Rattle.laws.proofs.Choosing.{both-left, both-right, either-more}
-use Rattle.types.specs.Types.{Value}
+use Rattle.faces.specs.Types.{Value}
 use Rattle.values.specs.Values.{okV, limitV, fullV, saysFull, sameValue}
 use Rattle.effects.specs.Step.{isOlder, agrees}
 

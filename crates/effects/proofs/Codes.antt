@@ -9,7 +9,7 @@ use native.Mathlib.Omega.{arith}
 use lib.ListN.{getD}
 use borrow.Author.Tests.{ne-eqb}
 use Rattle.numbers.specs.Codes.{readVariableCode, writeVariableCode, enterCode, exitCode, readCode, writeCode, updatedCode, invalidateCode, receiveCode, sendCode, callCode, resultCode, handBackCode, endCode, spawnCode, timeoutCode, tickCode, waitCode, failCode}
-use Rattle.types.specs.Types.{Value, Step, Taken, Refused, Config, Slots, State, Stepped}
+use Rattle.faces.specs.Types.{Value, Step, Taken, Refused, Config, Slots, State, Stepped}
 use Rattle.rules.specs.declared.Row.{Row}
 use Rattle.rules.specs.Rows.{nobody, noRow, rows, rowOf}
 use Rattle.rules.specs.Refusals.{refusalBy, refusalOf}

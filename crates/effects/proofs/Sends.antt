@@ -16,7 +16,7 @@ use Rattle.laws.specs.Mask.{isSet}
 use Rattle.laws.proofs.Choosing.{clash, both-left, both-right}
 use Rattle.laws.proofs.Masks.{mask-small, mask-set}
 use Rattle.laws.proofs.Places.{each-at}
-use Rattle.types.specs.Types.{Value, Config, Element, Elements}
+use Rattle.faces.specs.Types.{Value, Config, Element, Elements}
 use Rattle.values.specs.Values.{okV, limitV, fullV, isKind, isMask, isGood}
 use Rattle.config.specs.Tables.{requiredConfIn}
 use Rattle.entries.specs.Faults.{isQueued}

@@ -3,7 +3,7 @@
 use Prim.Native.Nat.{ℕ, _≤_, _<_}
 use mathlib.Core.Bool.{true}
 use mathlib.Core.Path.{_≡_}
-use Rattle.types.specs.Types.{Config, Elements}
+use Rattle.faces.specs.Types.{Config, Elements}
 use Rattle.config.specs.Tables.{requiredConfIn}
 use Rattle.entries.specs.Faults.{isQueued}
 use Rattle.state.specs.Tables.{elementIn}

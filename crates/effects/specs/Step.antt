@@ -7,7 +7,7 @@ use Rattle.numbers.specs.Refusals.{notSound, otherAnswer}
 use Rattle.numbers.specs.Codes.{readVariableCode, writeVariableCode, enterCode, exitCode, readCode, writeCode, updatedCode, invalidateCode, receiveCode, sendCode, callCode, resultCode, handBackCode, endCode, spawnCode, timeoutCode, tickCode, waitCode}
 use Rattle.laws.specs.Choice.{pick, both, either}
 use Rattle.values.specs.Values.{limitV, saysFull, sameValue}
-use Rattle.types.specs.Types.{Value, Step, Answer, Taken, Refused, Config, State, Stepped}
+use Rattle.faces.specs.Types.{Value, Step, Answer, Taken, Refused, Config, State, Stepped}
 use Rattle.rules.specs.Sound.{soundOf}
 use Rattle.rules.specs.Refusals.{refusalOf}
 use Rattle.effects.specs.Steps.{refused, readVariableOf, writeVariableOf, enterOf, exitOf, readOf, writeOf, updatedOf, invalidateOf, receiveOf, sendOf, callOf, resultOf, handBackOf, endOf, spawnOf, timeoutOf, tickOf, waitOf, failOf}

@@ -9,7 +9,7 @@ use Rattle.laws.specs.Loop.{allBelow, anyBelow, firstBelow}
 use Rattle.laws.specs.Mask.{maskBelow}
 use Rattle.laws.specs.Row.{eachBelow}
 use Rattle.values.specs.Values.{voidV, numberV, okV, limitV, noDataV, timeoutV, invalidV, fullV, serverErrV, isNumber}
-use Rattle.types.specs.Types.{Value, Taken, Refused, Config, RunnableConf, Link, Client, Runnable, Runnables, Element, Elements, Operation, Operations, Timer, Timers, Owed, Slot, Slots, State, Stepped}
+use Rattle.faces.specs.Types.{Value, Taken, Refused, Config, RunnableConf, Link, Client, Runnable, Runnables, Element, Elements, Operation, Operations, Timer, Timers, Owed, Slot, Slots, State, Stepped}
 use Rattle.config.specs.Tables.{runnableConfIn, requiredConfIn, linkIn, operationConfIn, timerConfIn, dataEventIn, returnEventIn}
 use Rattle.entries.specs.Faults.{isQueued}
 use Rattle.state.specs.Parts.{lastNumber, noOwed, noStack, noSlot, noRunnable, noElement, noOperation, noTimer}

@@ -18,7 +18,7 @@ use Rattle.entries.specs.Entries.{maxOf, countOf, placesOf, entryOf, placed}
 use Rattle.entries.specs.Faults.{inRange, namesThere, isServer, isQueued, rises, risesAt, pairsWell, entryFault, isNoEntry, placeSound, kindSound, configSound}
 use Rattle.rules.specs.Sound.{isNoClient, clientFits, requestsSound, valuesSound, runnableSound, variableSound, isStored, elementSound, isOutcome, callingSound, doneSound, operationSound, timerSound, waitsWell, lifeSound, owedSound, areaFits, stackSound, isNoSlot, slotSound, ofRunnable, slotsOf, countSound, timesIn, holders, areaSound, isClient, queuedAs, servedAs, clientsAs, clientSound, queuedSound, servedSound, calledSound, waitsOn, waitersOf, waiterSound, runnablesSound, variablesSound, elementsSound, operationsSound, timersSound, slotsSound, countsSound, areasSound, clientsSound, waitersSound, shaped, soundOf}
 use Rattle.effects.specs.Steps.{failing}
-use Rattle.types.specs.Types.{Value, Config, Client, Requests, Runnables, Elements, Operations, Life, Stack, Slot, Slots, State}
+use Rattle.faces.specs.Types.{Value, Config, Client, Requests, Runnables, Elements, Operations, Life, Stack, Slot, Slots, State}
 
 -- ---- the configuration: a client and a server component with two runnables each, a synchronous and two asynchronous operations of the one on the other, two areas, a queued element
 

@@ -5,7 +5,7 @@ use mathlib.Core.Bool.{true}
 use mathlib.Core.Path.{_≡_, refl}
 use native.Mathlib.Omega.{arith}
 use Rattle.numbers.specs.Codes.{spawnCode, timeoutCode, tickCode}
-use Rattle.types.specs.Types.{Value, Step, Config, State, Stepped}
+use Rattle.faces.specs.Types.{Value, Step, Config, State, Stepped}
 use Rattle.values.specs.Values.{answerValue, isKind, isGood}
 use Rattle.state.specs.Tables.{maxSlots}
 use Rattle.effects.specs.Steps.{lowestEmpty}

@@ -8,7 +8,7 @@ use native.Mathlib.Omega.{arith}
 use lib.Dec.{eqb}
 use lib.ListN.{length, length-append}
 use Rattle.laws.specs.Choice.{pick}
-use Rattle.types.specs.Types.{Step}
+use Rattle.faces.specs.Types.{Step}
 use Rattle.recording.specs.Recording.{bytesOf}
 use Rattle.recording.specs.Whole.{textOf}
 use Rattle.gaps.specs.Gaps.{Turn, turnSteps, mendedSteps}

@@ -8,7 +8,7 @@ use lib.Dec.{ltb, eqb}
 use lib.ListN.{length, getD}
 use Rattle.numbers.specs.Refusals.{otherAnswer}
 use Rattle.laws.specs.Choice.{pick, both}
-use Rattle.types.specs.Types.{Value, Step, Answer, Taken, Refused as Barred, Config, State, Stepped}
+use Rattle.faces.specs.Types.{Value, Step, Answer, Taken, Refused as Barred, Config, State, Stepped}
 use Rattle.values.specs.Values.{answerValue}
 use Rattle.rules.specs.Sound.{soundOf}
 use Rattle.rules.specs.Refusals.{instanceRefusal, schedulerRefusal, refusalBy, refusalOf}

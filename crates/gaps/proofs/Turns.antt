@@ -7,7 +7,7 @@ use mathlib.Core.Path.{_≡_, refl, ap}
 use native.Mathlib.Omega.{arith}
 use lib.ListN.{length, getD}
 use borrow.Author.Tests.{lt-ltb}
-use Rattle.types.specs.Types.{Step, Config, State, Stepped}
+use Rattle.faces.specs.Types.{Step, Config, State, Stepped}
 use Rattle.gaps.specs.Orders.{sequences, upToThree}
 use Rattle.gaps.specs.Gaps.{sequencesOf, isTaken, answered, fills, rankOf, canFill, answeredAll, stateAfter, Turn, turnOf, turnSteps, turnsOf, mendedSteps}
 use Rattle.gaps.specs.Report.{turnNotes, reportFrom, noteCount}

@@ -8,7 +8,7 @@ use lib.Dec.{ltb}
 use lib.ListN.{length, getD}
 use Rattle.numbers.specs.Codes.{spawnCode, timeoutCode, tickCode}
 use Rattle.laws.specs.Choice.{pick, both}
-use Rattle.types.specs.Types.{Step, Answer, Taken, Refused as Barred, Config, State, Stepped}
+use Rattle.faces.specs.Types.{Step, Answer, Taken, Refused as Barred, Config, State, Stepped}
 use Rattle.values.specs.Values.{voidV, answerValue}
 use Rattle.effects.specs.Step.{possibleOf}
 use Rattle.gaps.specs.declared.Choices.{Choices}

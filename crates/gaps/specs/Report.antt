@@ -7,7 +7,7 @@ use lib.ListN.{length}
 use Rattle.numbers.specs.Refusals.{badField, noRoom, notSound, noFill}
 use Rattle.numbers.specs.Tags.{stepSize, endSize}
 use Rattle.laws.specs.Choice.{pick, both}
-use Rattle.types.specs.Types.{Step, Config, State, Stepped}
+use Rattle.faces.specs.Types.{Step, Config, State, Stepped}
 use Rattle.rules.specs.Sound.{soundOf}
 use Rattle.effects.specs.Step.{stepOf}
 use Rattle.wire.specs.Bytes.{bytes32, putAt}

@@ -26,7 +26,7 @@ use Rattle.recording.specs.Recording.{valuesGood, tested, stepIn, endIn, fieldO
 use Rattle.recording.specs.Whole.{wholeFrom, wholeOf, textOf}
 use Rattle.gaps.specs.Orders.{each, passedOver, behind, sequences, upToThree}
 use Rattle.gaps.specs.Gaps.{choicesIn, sequencesOf, fills, rankOf, answeredAll, stateAfter, turnsOf, Turn, mendedSteps}
-use Rattle.types.specs.Types.{Value, Step, Answer, Taken, Refused, Config, Client, Requests, Operation, Owed, Slot, State}
+use Rattle.faces.specs.Types.{Value, Step, Answer, Taken, Refused, Config, Client, Requests, Operation, Owed, Slot, State}
 use Rattle.judging.specs.Judging.{judgeFrom, judgeOf}
 use Rattle.gaps.specs.declared.Mended.the-variants.{Whole, Refused as NotMended}
 use Rattle.gaps.specs.Report.{fitted, stepNotes, turnNotes, noteCount, surveyOf, mendTo}

@@ -5,7 +5,7 @@ use mathlib.Core.Bool.{true}
 use mathlib.Core.List.{List, []}
 use mathlib.Core.Path.{_≡_}
 use lib.ListN.{length}
-use Rattle.types.specs.Types.{Config}
+use Rattle.faces.specs.Types.{Config}
 use Rattle.state.specs.Start.{startOf}
 use Rattle.entries.specs.Faults.{configSound}
 use Rattle.recording.specs.Whole.{stepsIn, isSound}

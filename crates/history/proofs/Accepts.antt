@@ -8,7 +8,7 @@ use lib.Dec.{eqb}
 use Rattle.numbers.specs.Codes.{enterCode, exitCode, sendCode, callCode, handBackCode, endCode, spawnCode, timeoutCode, tickCode, waitCode, failCode}
 use Rattle.laws.specs.Choice.{either}
 use Rattle.laws.proofs.Choosing.{clash}
-use Rattle.types.specs.Types.{Value, Step, Taken, Config, State}
+use Rattle.faces.specs.Types.{Value, Step, Taken, Config, State}
 use Rattle.values.specs.Values.{numberV, limitV}
 use Rattle.entries.specs.Faults.{isServer}
 use Rattle.effects.specs.Steps.{lowestEmpty, spawned}

@@ -14,7 +14,7 @@ use borrow.Author.Tests.{eqb-true, eq-eqb}
 use Rattle.numbers.specs.Codes.{handBackCode, endCode, spawnCode}
 use Rattle.laws.specs.Choice.{pick, both, either}
 use Rattle.laws.proofs.Choosing.{clash, both-left, both-right, pick-has}
-use Rattle.types.specs.Types.{Value, Step, Config, Slot, Slots, State}
+use Rattle.faces.specs.Types.{Value, Step, Config, Slot, Slots, State}
 use Rattle.values.specs.Values.{numberV}
 use Rattle.config.specs.Tables.{runnableConfIn, operationConfIn}
 use Rattle.state.specs.Parts.{noSlot}

@@ -15,7 +15,7 @@ use lib.ListN.{length, getD, set, length-set}
 use borrow.Author.Tests.{eq-eqb, ne-eqb}
 use Rattle.laws.specs.Choice.{bit}
 use Rattle.laws.proofs.Choosing.{clash, bit-most}
-use Rattle.types.specs.Types.{Operation, Operations}
+use Rattle.faces.specs.Types.{Operation, Operations}
 use Rattle.state.specs.Parts.{lastNumber, noOperation}
 use Rattle.state.specs.Tables.{operationIn, withOperation}
 use Rattle.stays_sound.proofs.Clients.{calling-inside}

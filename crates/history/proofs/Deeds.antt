@@ -10,7 +10,7 @@ use lib.Dec.{eqb}
 use borrow.Author.Tests.{ltb-true, ltb-false, eqb-true, eq-eqb, ne-eqb}
 use Rattle.numbers.specs.Codes.{enterCode, exitCode, callCode, handBackCode, endCode, spawnCode, timeoutCode, tickCode, waitCode, failCode}
 use Rattle.laws.proofs.Choosing.{clash, pick-has}
-use Rattle.types.specs.Types.{Step, Config, State}
+use Rattle.faces.specs.Types.{Step, Config, State}
 use Rattle.values.specs.Values.{numberV, okV, timeoutV, sameValue}
 use Rattle.config.specs.Tables.{runnableConfIn}
 use Rattle.entries.specs.Faults.{isServer}
@@ -18,7 +18,7 @@ use Rattle.state.specs.Tables.{runnableIn}
 use Rattle.effects.specs.Steps.{entered, exited, called, closed, answers, clientOf, finished, answered, handedBack, emptied, isDue, lowestEmpty, spawned, ticked, waited, failed}
 use Rattle.effects.proofs.Agreeing.{same-value}
 use Rattle.stays_sound.specs.Facts.{Sound, CanEnter, CanExit, CanCall, CanHandBack, CanEnd, CanSpawn, CanTimeout, CanTick, CanWait, CanFail}
-use Rattle.history.specs.History.{noRequest, byTimeout, History, passed, begins, closes, backBy, fails, takes, takesOldest, takenBy, observe, timeOf}
+use Rattle.history.specs.History.{noRequest, byTimeout, History, passed, callAdds, closingAdds, backBy, failAdds, slotAdds, serverAdds, takenBy, observe, timeOf}
 use Rattle.history.proofs.Tied.{Alike, Tied, tied-alike}
 use Rattle.history.proofs.Passes.{Unmoved}
 use Rattle.history.proofs.Ties.{tied-call, tied-timeout, tied-answer, tied-late, tied-server, tied-plain, tied-end, tied-fail}
@@ -74,11 +74,11 @@ module _ (cfg : Config) (h : History) (s : Step) where
       (λ c. pick-has (λ x. x ≡ passed h) (sameValue (s .claim) okV) _ (passed h) (λ k. absurd (q .call (eqb-true _ _ c) (same-value _ _ k))) (λ k. refl))
       (λ c. refl))
 
-  pub call-adds : s .code ≡ callCode → s .claim ≡ okV → observe cfg h s ≡ begins cfg h (s .what) (s .argument)
+  pub call-adds : s .code ≡ callCode → s .claim ≡ okV → observe cfg h s ≡ callAdds cfg h (s .what) (s .argument)
   unfolding observe sameValue
   call-adds c k = rw (c, k)
 
-  pub answer-adds : s .code ≡ handBackCode → s .claim ≡ numberV 1 → observe cfg h s ≡ closes h (takenBy h (s .who) .on) (backBy h (s .who) (s .argument))
+  pub answer-adds : s .code ≡ handBackCode → s .claim ≡ numberV 1 → observe cfg h s ≡ closingAdds h (takenBy h (s .who) .on) (backBy h (s .who) (s .argument))
   unfolding observe
   answer-adds c k = rw (c, k)
 
@@ -86,23 +86,23 @@ module _ (cfg : Config) (h : History) (s : Step) where
   unfolding observe
   late-adds c k = rw (c, k)
 
-  pub end-adds : s .code ≡ endCode → observe cfg h s ≡ takes h (s .who) noRequest
+  pub end-adds : s .code ≡ endCode → observe cfg h s ≡ slotAdds h (s .who) noRequest
   unfolding observe
   end-adds c = rw c
 
-  pub server-adds : s .code ≡ spawnCode → isServer cfg (s .what) ≡ true → observe cfg h s ≡ takesOldest h (s .claim .number) (s .what)
+  pub server-adds : s .code ≡ spawnCode → isServer cfg (s .what) ≡ true → observe cfg h s ≡ serverAdds h (s .claim .number) (s .what)
   unfolding observe
   server-adds c e = rw (c, e)
 
-  pub plain-adds : s .code ≡ spawnCode → isServer cfg (s .what) ≡ false → observe cfg h s ≡ takes h (s .claim .number) noRequest
+  pub plain-adds : s .code ≡ spawnCode → isServer cfg (s .what) ≡ false → observe cfg h s ≡ slotAdds h (s .claim .number) noRequest
   unfolding observe
   plain-adds c e = rw (c, e)
 
-  pub timeout-adds : s .code ≡ timeoutCode → observe cfg h s ≡ closes h (s .what) byTimeout
+  pub timeout-adds : s .code ≡ timeoutCode → observe cfg h s ≡ closingAdds h (s .what) byTimeout
   unfolding observe
   timeout-adds c = rw c
 
-  pub fail-adds : s .code ≡ failCode → observe cfg h s ≡ fails h (s .who)
+  pub fail-adds : s .code ≡ failCode → observe cfg h s ≡ failAdds h (s .who)
   unfolding observe
   fail-adds c = rw c
 

@@ -11,7 +11,7 @@ use native.Mathlib.Omega.{arith}
 use borrow.Author.Tests.{eqb-true}
 use Rattle.laws.specs.Choice.{pick}
 use Rattle.laws.proofs.Choosing.{both-left, both-right}
-use Rattle.types.specs.Types.{Value, Step, Config, Client, State}
+use Rattle.faces.specs.Types.{Value, Step, Config, Client, State}
 use Rattle.values.specs.Values.{voidV, isNumber, isVoid, isPayload, sameValue}
 use Rattle.state.specs.Tables.{operationIn}
 use Rattle.effects.specs.Steps.{answers, serves, clientOf, hasFailed}

@@ -16,12 +16,12 @@ use borrow.Author.Tests.{eq-eqb, ne-eqb, eqb-true}
 use Rattle.numbers.specs.Codes.{callCode, spawnCode}
 use Rattle.laws.specs.Choice.{pick, both, bit}
 use Rattle.laws.proofs.Choosing.{clash, both-left, both-right, pick-has}
-use Rattle.types.specs.Types.{Step, Config, State}
+use Rattle.faces.specs.Types.{Step, Config, State}
 use Rattle.values.specs.Values.{okV, sameValue}
 use Rattle.config.specs.Tables.{operationConfIn}
 use Rattle.entries.specs.Faults.{isServer}
 use Rattle.effects.proofs.Agreeing.{same-value}
-use Rattle.history.specs.History.{Request, noRequest, History, nothing, passed, begins, takes, takesOldest, queuedAt, observe, allQueued, allSpawns}
+use Rattle.history.specs.History.{Request, noRequest, History, nothing, passed, callAdds, slotAdds, serverAdds, queuedAt, observe, allQueued, allSpawns}
 use Rattle.history.proofs.Beside.{all-alike}
 use Rattle.history.proofs.Tied.{Tied}
 use Rattle.history.proofs.Deeds.{Deed, pass, call, answer, late, end, server, plain, timeout, fail, pass-adds, call-adds, answer-adds, late-adds, end-adds, server-adds, plain-adds, timeout-adds, fail-adds, due-server}
@@ -108,8 +108,8 @@ module _ (cfg : Config) (r : ℕ) (rs : List Step) (h : History) (s : Step) (f :
   fifo-quiet h′ e n m = fifo-step h′ (rw (queues-none cfg r (length rs) s n, spawns-none r s m, append-nil (queuedAt h r)) e) (rw (spawns-none r s m) (omega arith))
 
   -- a call that starts: its request joins its server's queue
-  fifo-call : s .code ≡ callCode → s .claim ≡ okV → h .place ≡ length rs → r < length (h .queued) → Fifo cfg r (rs ++ (s ∷ [])) (begins cfg h (s .what) (s .argument))
-  fifo-call c k p b = fifo-step (begins cfg h (s .what) (s .argument)) (rw (none, queues-one cfg r (length rs) s c k) (go (ℕ-discrete r t))) (rw none (omega arith))
+  fifo-call : s .code ≡ callCode → s .claim ≡ okV → h .place ≡ length rs → r < length (h .queued) → Fifo cfg r (rs ++ (s ∷ [])) (callAdds cfg h (s .what) (s .argument))
+  fifo-call c k p b = fifo-step (callAdds cfg h (s .what) (s .argument)) (rw (none, queues-one cfg r (length rs) s c k) (go (ℕ-discrete r t))) (rw none (omega arith))
     where
       none : allSpawns r (s ∷ []) ≡ 0
       none = spawns-none r s (λ z. omega (arith, c, z))
@@ -117,21 +117,21 @@ module _ (cfg : Config) (r : ℕ) (rs : List Step) (h : History) (s : Step) (f :
       t : ℕ
       t = operationConfIn (cfg .operations) (s .what) .server
 
-      go : Dec (r ≡ t) → queuedAt (begins cfg h (s .what) (s .argument)) r ≡ queuedAt h r ++ pick (eqb t r) (record { at = length rs + 1; on = s .what; argument = s .argument } ∷ []) []
+      go : Dec (r ≡ t) → queuedAt (callAdds cfg h (s .what) (s .argument)) r ≡ queuedAt h r ++ pick (eqb t r) (record { at = length rs + 1; on = s .what; argument = s .argument } ∷ []) []
       go (yes e) = rw (eq-eqb t r (sym e), ← e, ← p) (getD-set-same (h .queued) r _ [] b)
       go (no n) = rw (ne-eqb t r (λ e. n (sym e)), append-nil (queuedAt h r)) (getD-set-other (h .queued) t r _ [] n)
 
   -- a spawn of a server takes the oldest
-  fifo-oldest : s .code ≡ spawnCode → r < length (h .queued) → (s .what ≡ r → 0 < length (queuedAt h r)) → (i : ℕ) → Fifo cfg r (rs ++ (s ∷ [])) (takesOldest h i (s .what))
+  fifo-oldest : s .code ≡ spawnCode → r < length (h .queued) → (s .what ≡ r → 0 < length (queuedAt h r)) → (i : ℕ) → Fifo cfg r (rs ++ (s ∷ [])) (serverAdds h i (s .what))
   fifo-oldest c b q i =
-      fifo-step (takesOldest h i (s .what))
+      fifo-step (serverAdds h i (s .what))
       (rw (none, spawns-one r s c, append-nil (queuedAt h r)) (go (ℕ-discrete r (s .what))))
       (rw (none, spawns-one r s c, append-nil (queuedAt h r)) (some (ℕ-discrete r (s .what))))
     where
       none : allQueued cfg r (length rs) (s ∷ []) ≡ []
       none = queues-none cfg r (length rs) s (λ z w. omega (arith, c, z))
 
-      go : Dec (r ≡ s .what) → queuedAt (takesOldest h i (s .what)) r ≡ drop (bit (eqb (s .what) r)) (queuedAt h r)
+      go : Dec (r ≡ s .what) → queuedAt (serverAdds h i (s .what)) r ≡ drop (bit (eqb (s .what) r)) (queuedAt h r)
       go (yes e) = rw (eq-eqb (s .what) r (sym e), ← e) (getD-set-same (h .queued) r _ [] b)
       go (no n) = rw (ne-eqb (s .what) r (λ e. n (sym e))) (getD-set-other (h .queued) (s .what) r _ [] n)
 
@@ -140,11 +140,11 @@ module _ (cfg : Config) (r : ℕ) (rs : List Step) (h : History) (s : Step) (f :
       some (no n) = rw (ne-eqb (s .what) r (λ e. n (sym e))) (omega arith)
 
   -- a spawn of a plain runnable is none of a server
-  fifo-plain : s .code ≡ spawnCode → (s .what ≡ r → ⊥) → (i : ℕ) → Fifo cfg r (rs ++ (s ∷ [])) (takes h i noRequest)
+  fifo-plain : s .code ≡ spawnCode → (s .what ≡ r → ⊥) → (i : ℕ) → Fifo cfg r (rs ++ (s ∷ [])) (slotAdds h i noRequest)
   fifo-plain c n i =
       let none : allQueued cfg r (length rs) (s ∷ []) ≡ [] = queues-none cfg r (length rs) s (λ z w. omega (arith, c, z)) in
       let zero : allSpawns r (s ∷ []) ≡ 0 = spawns-one r s c ∙ ap bit (ne-eqb (s .what) r n) in
-      fifo-step (takes h i noRequest) (rw (none, zero, append-nil (queuedAt h r))) (rw zero (omega arith))
+      fifo-step (slotAdds h i noRequest) (rw (none, zero, append-nil (queuedAt h r))) (rw zero (omega arith))
 
 pub fifo-deed : (cfg : Config) (st : State) (s : Step) (st′ : State) (r : ℕ) (rs : List Step) (h : History) → Deed cfg st s st′ → Tied st h → h .place ≡ length rs → isServer cfg r ≡ true
     → r < 16 → Fifo cfg r rs h → Fifo cfg r (rs ++ (s ∷ [])) (observe cfg h s)

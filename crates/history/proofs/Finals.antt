@@ -19,7 +19,7 @@ use Rattle.laws.specs.Choice.{pick, both, either, bit}
 use Rattle.laws.specs.Loop.{sumBelow}
 use Rattle.laws.proofs.Choosing.{clash, both-left, both-right, all-told}
 use Rattle.laws.proofs.Looping.{all-at, sum-term, sum-two, sum-find, count-most}
-use Rattle.types.specs.Types.{Value, Step, Config, Client, State}
+use Rattle.faces.specs.Types.{Value, Step, Config, Client, State}
 use Rattle.values.specs.Values.{voidV, numberV, okV, limitV, noDataV, serverErrV, isVoid, isPayload}
 use Rattle.config.specs.Tables.{requiredConfIn}
 use Rattle.entries.specs.Faults.{isServer}

@@ -12,7 +12,7 @@ use Rattle.numbers.specs.Codes.{exitCode, handBackCode, endCode}
 use Rattle.laws.specs.Choice.{pick, both, allOf}
 use Rattle.laws.proofs.Choosing.{clash, both-left, both-right, either-more, pick-has, all-told}
 use Rattle.laws.proofs.Places.{filled-good}
-use Rattle.types.specs.Types.{Config, Stack, State, Stepped}
+use Rattle.faces.specs.Types.{Config, Stack, State, Stepped}
 use Rattle.values.specs.Values.{voidV, isVoid, isPayload, answerRefusal}
 use Rattle.config.specs.Tables.{maxAreaConfs, areaConfIn}
 use Rattle.entries.specs.Entries.{countOf, entryOf}

@@ -15,7 +15,7 @@ use lib.Seq.{getD-set-same, getD-set-other}
 use borrow.Author.Tests.{eq-eqb, ne-eqb}
 use Rattle.numbers.specs.Codes.{enterCode, exitCode}
 use Rattle.laws.specs.Choice.{pick, bit}
-use Rattle.types.specs.Types.{Step, Config, State, Slot, Slots, Area, Areas}
+use Rattle.faces.specs.Types.{Step, Config, State, Slot, Slots, Area, Areas}
 use Rattle.state.specs.Parts.{noArea, noSlot}
 use Rattle.state.specs.Start.{startOf}
 use Rattle.state.specs.Tables.{noAreas, areaIn, slotIn, withArea, withSlot, withAreas, withSlots}

@@ -7,7 +7,7 @@ use borrow.Author.Tests.{eqb-true}
 use Rattle.numbers.specs.Codes.{exitCode, sendCode, resultCode, handBackCode, endCode}
 use Rattle.laws.specs.Choice.{both, either, bit}
 use Rattle.laws.proofs.Choosing.{both-left, both-right, all-told, alike-is}
-use Rattle.types.specs.Types.{Value, Step, Taken, Config, State}
+use Rattle.faces.specs.Types.{Value, Step, Taken, Config, State}
 use Rattle.config.specs.Tables.{providedConfIn, operationConfIn}
 use Rattle.entries.specs.Entries.{entryOf}
 use Rattle.state.specs.Tables.{slotIn}

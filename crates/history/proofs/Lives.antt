@@ -13,7 +13,7 @@ use borrow.Author.Tests.{lt-ltb, eqb-true, eq-eqb}
 use Rattle.numbers.specs.Codes.{endCode, spawnCode}
 use Rattle.laws.specs.Choice.{both}
 use Rattle.laws.proofs.Choosing.{both-left, both-right, pick-has}
-use Rattle.types.specs.Types.{Value, Step, Config, Slot, Slots, State}
+use Rattle.faces.specs.Types.{Value, Step, Config, Slot, Slots, State}
 use Rattle.values.specs.Values.{numberV}
 use Rattle.config.specs.Tables.{runnableConfIn}
 use Rattle.state.specs.Parts.{noSlot}

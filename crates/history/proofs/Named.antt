@@ -9,9 +9,9 @@ use native.Mathlib.Omega.{arith}
 use lib.ListN.{length, length-append}
 use Rattle.numbers.specs.Codes.{callCode}
 use Rattle.laws.proofs.Places.{put-each}
-use Rattle.types.specs.Types.{Step, Config, State}
+use Rattle.faces.specs.Types.{Step, Config, State}
 use Rattle.values.specs.Values.{okV}
-use Rattle.history.specs.History.{noRequest, How, byTimeout, History, nothing, passed, begins, closes, fails, takes, takesOldest, takenBy, latestOn, observe, Started}
+use Rattle.history.specs.History.{noRequest, How, byTimeout, History, nothing, passed, callAdds, closingAdds, failAdds, slotAdds, serverAdds, takenBy, latestOn, observe, Started}
 use Rattle.history.proofs.Beside.{all-alike}
 use Rattle.history.proofs.Deeds.{Deed, pass, call, answer, late, end, server, plain, timeout, fail, pass-adds, call-adds, answer-adds, late-adds, end-adds, server-adds, plain-adds, timeout-adds, fail-adds}
 
@@ -49,22 +49,22 @@ module _ (rs : List Step) (h : History) (s : Step) (n : Named rs h) where
   named-passed : Named (rs ++ (s ∷ [])) (passed h)
   named-passed = record { place = next; latest = keeps }
 
-  named-call : (cfg : Config) → s .code ≡ callCode → s .claim ≡ okV → Named (rs ++ (s ∷ [])) (begins cfg h (s .what) (s .argument))
+  named-call : (cfg : Config) → s .code ≡ callCode → s .claim ≡ okV → Named (rs ++ (s ∷ [])) (callAdds cfg h (s .what) (s .argument))
   named-call cfg c k = record {
     place = next;
     latest = λ o. put-each (λ j m. 0 < m → Started (rs ++ (s ∷ [])) m j) (h .latest) (s .what) (h .place + 1) 0 (λ q. rw (n .place, add-one) (started-here rs s c k)) o (keeps o);
   }
 
-  named-closed : (o : ℕ) (w : How) → Named (rs ++ (s ∷ [])) (closes h o w)
+  named-closed : (o : ℕ) (w : How) → Named (rs ++ (s ∷ [])) (closingAdds h o w)
   named-closed o w = record { place = next; latest = keeps }
 
-  named-fails : (i : ℕ) → Named (rs ++ (s ∷ [])) (fails h i)
+  named-fails : (i : ℕ) → Named (rs ++ (s ∷ [])) (failAdds h i)
   named-fails i = record { place = next; latest = keeps }
 
-  named-takes : (i : ℕ) → Named (rs ++ (s ∷ [])) (takes h i noRequest)
+  named-takes : (i : ℕ) → Named (rs ++ (s ∷ [])) (slotAdds h i noRequest)
   named-takes i = record { place = next; latest = keeps }
 
-  named-oldest : (i r : ℕ) → Named (rs ++ (s ∷ [])) (takesOldest h i r)
+  named-oldest : (i r : ℕ) → Named (rs ++ (s ∷ [])) (serverAdds h i r)
   named-oldest i r = record { place = next; latest = keeps }
 
 pub named-deed : (cfg : Config) (st : State) (s : Step) (st′ : State) (rs : List Step) (h : History) → Deed cfg st s st′ → Named rs h → Named (rs ++ (s ∷ [])) (observe cfg h s)

@@ -11,7 +11,7 @@ use native.Mathlib.Omega.{arith}
 use borrow.Author.Tests.{leb-true}
 use Rattle.laws.proofs.Looping.{all-at}
 use Rattle.laws.proofs.Places.{each-at}
-use Rattle.types.specs.Types.{Value, Config, Elements, Operation, Operations, Slot, State}
+use Rattle.faces.specs.Types.{Value, Config, Elements, Operation, Operations, Slot, State}
 use Rattle.config.specs.Tables.{timerConfIn}
 use Rattle.state.specs.Parts.{noOperation}
 use Rattle.state.specs.Tables.{runnableIn, areaIn, operationIn, slotIn, withSlot, withAreas, withElements, withSlots}

@@ -15,7 +15,7 @@ use lib.Seq.{getD-drop}
 use borrow.Author.Tests.{ltb-true, ltb-false, lt-ltb, eq-eqb}
 use Rattle.numbers.specs.Codes.{sendCode}
 use Rattle.laws.specs.Choice.{bit}
-use Rattle.types.specs.Types.{Value, Step, Taken, Config, State}
+use Rattle.faces.specs.Types.{Value, Step, Taken, Config, State}
 use Rattle.values.specs.Values.{numberV, serverErrV}
 use Rattle.entries.specs.Faults.{isServer, configSound}
 use Rattle.state.specs.Start.{startOf}

@@ -10,7 +10,7 @@ use mathlib.Core.Bool.{true}
 use mathlib.Core.List.{List, [], _∷_, _++_}
 use mathlib.Core.Path.{_≡_}
 use native.Mathlib.Omega.{arith}
-use Rattle.types.specs.Types.{Step, Config, State}
+use Rattle.faces.specs.Types.{Step, Config, State}
 use Rattle.entries.specs.Faults.{isServer, configSound}
 use Rattle.rules.specs.Sound.{soundOf}
 use Rattle.effects.specs.Step.{stepOf}

@@ -9,7 +9,7 @@ use mathlib.Core.Path.{_≡_, refl, ap}
 use native.Mathlib.Omega.{arith}
 use Rattle.numbers.specs.Codes.{writeVariableCode, enterCode, callCode, resultCode, handBackCode, endCode, spawnCode, timeoutCode, tickCode, waitCode, failCode}
 use Rattle.laws.proofs.Choosing.{clash}
-use Rattle.types.specs.Types.{Value, Step, Config, State}
+use Rattle.faces.specs.Types.{Value, Step, Config, State}
 use Rattle.values.specs.Values.{voidV, numberV, okV, limitV, timeoutV, sameValue}
 use Rattle.config.specs.Tables.{operationConfIn}
 use Rattle.entries.specs.Faults.{isServer}

@@ -7,7 +7,7 @@ use mathlib.Core.Bool.{true}
 use mathlib.Core.List.{List, [], _∷_, _++_, append-nil, append-assoc}
 use mathlib.Core.Path.{_≡_, refl, sym, ap, _∙_, subst}
 use native.Mathlib.Omega.{arith}
-use Rattle.types.specs.Types.{Step, Value, Answer, Taken, Refused, Config, State}
+use Rattle.faces.specs.Types.{Step, Value, Answer, Taken, Refused, Config, State}
 use Rattle.values.specs.Values.{answerRefusal, answerValue}
 use Rattle.state.specs.Start.{startOf}
 use Rattle.effects.specs.Step.{agrees, stepOf}

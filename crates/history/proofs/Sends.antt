@@ -11,7 +11,7 @@ use Rattle.numbers.specs.Codes.{sendCode, callCode, resultCode, handBackCode, s
 use Rattle.laws.specs.Mask.{isSet}
 use Rattle.laws.proofs.Choosing.{clash}
 use Rattle.laws.proofs.Masks.{none-set}
-use Rattle.types.specs.Types.{Value, Step, Taken, Config, State}
+use Rattle.faces.specs.Types.{Value, Step, Taken, Config, State}
 use Rattle.values.specs.Values.{okV, limitV}
 use Rattle.rules.specs.Refusals.{asksSynchronous}
 use Rattle.rules.proofs.Configured.{required-most}

@@ -10,7 +10,7 @@ use Rattle.laws.specs.Choice.{bit}
 use Rattle.laws.proofs.Choosing.{clash}
 use Rattle.laws.proofs.Places.{each-has}
 use Rattle.values.specs.Values.{voidV}
-use Rattle.types.specs.Types.{Config, Runnable}
+use Rattle.faces.specs.Types.{Config, Runnable}
 use Rattle.config.specs.Tables.{runnableConfIn}
 use Rattle.state.specs.Parts.{lastNumber, noClient, noRequests, noRunnable, noOperation, noSlot}
 use Rattle.state.specs.Tables.{noRunnables, noOperations, noSlots, runnableIn, operationIn, slotIn}

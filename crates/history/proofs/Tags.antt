@@ -15,7 +15,7 @@ use borrow.Author.Tests.{eq-eqb}
 use Rattle.laws.specs.Choice.{bit}
 use Rattle.laws.proofs.Choosing.{clash}
 use Rattle.laws.proofs.Places.{inside-of}
-use Rattle.types.specs.Types.{Client, Operation, Operations, Runnable, Runnables, Slot, Slots}
+use Rattle.faces.specs.Types.{Client, Operation, Operations, Runnable, Runnables, Slot, Slots}
 use Rattle.state.specs.Parts.{noClient, noRequests, noRunnable, noSlot}
 use Rattle.state.specs.Queues.{upOne, pushRequest, firstRequest, restRequests}
 use Rattle.state.specs.Tables.{runnableIn, operationIn, slotIn, withRunnable, withOperation, withSlot}

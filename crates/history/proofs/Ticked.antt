@@ -18,7 +18,7 @@ use Rattle.laws.specs.Choice.{pick, both}
 use Rattle.laws.proofs.Choosing.{pick-has}
 use Rattle.laws.proofs.Looping.{all-at}
 use Rattle.laws.proofs.Places.{each-at}
-use Rattle.types.specs.Types.{Step, Config, Timer, Timers, State}
+use Rattle.faces.specs.Types.{Step, Config, Timer, Timers, State}
 use Rattle.config.specs.Tables.{timerConfIn}
 use Rattle.state.specs.Parts.{noTimer}
 use Rattle.state.specs.Start.{startOf}

@@ -13,7 +13,7 @@ use native.Mathlib.Omega.{arith}
 use lib.ListN.{length, getD}
 use Rattle.laws.specs.Choice.{bit}
 use Rattle.values.specs.Values.{isPayload}
-use Rattle.types.specs.Types.{Client, Operations, Runnables, Slots, State}
+use Rattle.faces.specs.Types.{Client, Operations, Runnables, Slots, State}
 use Rattle.state.specs.Parts.{lastNumber, noClient}
 use Rattle.state.specs.Tables.{runnableIn, operationIn, slotIn}
 use Rattle.history.specs.History.{Request, noRequest, How, byTimeout, byInstance, byFailure, Ending, History, passed, endsOf, endedOn, lastOn, delivered, endedCall}

@@ -14,7 +14,7 @@ use lib.ListN.{length, getD, set}
 use borrow.Author.Tests.{eqb-true}
 use Rattle.laws.specs.Choice.{pick}
 use Rattle.laws.proofs.Choosing.{clash, both-left, both-right}
-use Rattle.types.specs.Types.{Value, Config, Client, Operation, Operations, Runnable, Slot, State}
+use Rattle.faces.specs.Types.{Value, Config, Client, Operation, Operations, Runnable, Slot, State}
 use Rattle.values.specs.Values.{timeoutV, serverErrV, isPayload}
 use Rattle.config.specs.Tables.{runnableConfIn, operationConfIn}
 use Rattle.state.specs.Parts.{noOwed, noSlot}
@@ -25,7 +25,7 @@ use Rattle.rules.proofs.Configured.{runnables-most, operations-most, capacity-m
 use Rattle.stays_sound.proofs.Told.{runnables-length, operations-length, slots-length}
 use Rattle.stays_sound.proofs.Kept.{runnable-kept, slot-kept, returned-kept, caller-kept, slot-inside}
 use Rattle.stays_sound.proofs.Clients.{requests-told, calling-inside}
-use Rattle.history.specs.History.{Request, noRequest, How, byTimeout, byInstance, byFailure, History, passed, begins, closes, backBy, fails, takes, takesOldest, takenBy, failedBy, latestOn, queuedAt, given}
+use Rattle.history.specs.History.{Request, noRequest, How, byTimeout, byInstance, byFailure, History, passed, callAdds, closingAdds, backBy, failAdds, slotAdds, serverAdds, takenBy, failedBy, latestOn, queuedAt, given}
 use Rattle.history.proofs.Tied.{Tag, Tied, queues-alike, served-alike, failed-alike, calls-alike, tied-alike, Proper}
 use Rattle.history.proofs.Calls.{calls-close, calls-start}
 use Rattle.history.proofs.Tags.{serving-inside, queued-inside, tag-new, queues-close, served-close, queues-open, served-open, queues-push, queues-pop, oldest-tag, served-put, served-idle, failed-put}
@@ -33,7 +33,7 @@ use Rattle.history.proofs.Passes.{same-calls, alike-same}
 
 -- ---- a call starts
 
-pub tied-call : (cfg : Config) (st : State) (h : History) (i o : ℕ) (v : Value) → Sound cfg st → CanCall cfg st i o v → Tied st h → Tied (called cfg st i o v) (begins cfg h o v)
+pub tied-call : (cfg : Config) (st : State) (h : History) (i o : ℕ) (v : Value) → Sound cfg st → CanCall cfg st i o v → Tied st h → Tied (called cfg st i o v) (callAdds cfg h o v)
 unfolding called
 tied-call cfg st h i o v s z t = record {
   queues =
@@ -83,7 +83,7 @@ tied-call cfg st h i o v s z t = record {
 -- ---- a call ends
 
 tied-closed : (cfg : Config) (st : State) (h : History) (o : ℕ) (w : How) (v : Value) → isOpen st o ≡ true → Proper (latestOn h o) w → given w ≡ v → Tied st h
-    → Tied (closed cfg st o v) (closes h o w)
+    → Tied (closed cfg st o v) (closingAdds h o w)
 unfolding closed closing
 tied-closed cfg st h o w v e p g t = record {
   queues =
@@ -97,7 +97,7 @@ tied-closed cfg st h o w v e p g t = record {
     x : Operation
     x = closing v (operationIn (st .operations) o)
 
-pub tied-timeout : (cfg : Config) (st : State) (h : History) (o : ℕ) → CanTimeout cfg st o → Tied st h → Tied (closed cfg st o timeoutV) (closes h o byTimeout)
+pub tied-timeout : (cfg : Config) (st : State) (h : History) (o : ℕ) → CanTimeout cfg st o → Tied st h → Tied (closed cfg st o timeoutV) (closingAdds h o byTimeout)
 tied-timeout cfg st h o z t = tied-closed cfg st h o byTimeout timeoutV (z .calling) tt refl t
 
 -- the slot owes nobody any longer, and its instance counts as finished
@@ -120,11 +120,11 @@ back-proper true j k v p e = e
 back-proper false j k v p e = (e, p)
 
 pub tied-answer : (cfg : Config) (st : State) (h : History) (i : ℕ) (v : Value) → CanHandBack cfg st i v → answers (st .operations) (clientOf st i) ≡ true → Tied st h
-    → Tied (answered cfg st i (handedBack st i v)) (closes h (takenBy h i .on) (backBy h i v))
+    → Tied (answered cfg st i (handedBack st i v)) (closingAdds h (takenBy h i .on) (backBy h i v))
 unfolding answers closed
 tied-answer cfg st h i v z e t =
     rw (tag .same)
-    (tied-finish (closed cfg st (c .operation) (handedBack st i v)) (closes h (c .operation) (backBy h i v)) i (slotIn (st .slots) i) (serving-inside (st .slots) i (z .serving)) refl
+    (tied-finish (closed cfg st (c .operation) (handedBack st i v)) (closingAdds h (c .operation) (backBy h i v)) i (slotIn (st .slots) i) (serving-inside (st .slots) i (z .serving)) refl
     (tied-closed cfg st h (c .operation) (backBy h i v) (handedBack st i v) open-still (back-proper (failedBy h i) (takenBy h i .at) (latestOn h (c .operation)) v (z .payload) (tag .newest open-still its-number))
     (back-given (failedBy h i) (takenBy h i .at) v ∙ ap (λ (b : Bool). pick b serverErrV v) (sym (t .failed .each i))) t))
   where
@@ -147,7 +147,7 @@ tied-late cfg st h i v z t = tied-finish st (passed h) i (slotIn (st .slots) i) 
 
 pub tied-server : (cfg : Config) (st : State) (h : History) (r k : ℕ) → Sound cfg st → k < 32 → eqb (runnableConfIn (cfg .runnables) r .capacity) 0 ≡ false
     → 0 < runnableIn (st .runnables) r .requests .queued → Tied st h
-    → Tied (spawned cfg st r k) (takesOldest h k r)
+    → Tied (spawned cfg st r k) (serverAdds h k r)
 unfolding spawned starting instanceOf
 tied-server cfg st h r k s b e n t = rw e (record {
   queues = queues-pop (st .operations) (h .latest) (h .endings) (st .runnables) (h .queued) r _ (t .queues) within there (told .1) (omega (arith, told .0, capacity-most cfg (s .config) r)) refl;
@@ -168,7 +168,7 @@ tied-server cfg st h r k s b e n t = rw e (record {
     told = requests-told cfg st r s there
 
 pub tied-plain : (cfg : Config) (st : State) (h : History) (r k : ℕ) → Sound cfg st → k < 32 → eqb (runnableConfIn (cfg .runnables) r .capacity) 0 ≡ true → Tied st h
-    → Tied (spawned cfg st r k) (takes h k noRequest)
+    → Tied (spawned cfg st r k) (slotAdds h k noRequest)
 unfolding spawned starting instanceOf
 tied-plain cfg st h r k s b e t = rw e (record {
   queues = queues-alike (st .operations) (h .latest) (h .endings) (st .runnables) _ (h .queued) (runnable-kept (λ y. y .requests) (st .runnables) r _ refl) (t .queues);
@@ -177,7 +177,7 @@ tied-plain cfg st h r k s b e t = rw e (record {
   failed = failed-put (st .slots) (h .failed) k _ _ (t .failed) (omega (arith, slots-length cfg st s, b)) b refl;
 })
 
-pub tied-end : (cfg : Config) (st : State) (h : History) (i : ℕ) → Sound cfg st → CanEnd st i → Tied st h → Tied (emptied st i) (takes h i noRequest)
+pub tied-end : (cfg : Config) (st : State) (h : History) (i : ℕ) → Sound cfg st → CanEnd st i → Tied st h → Tied (emptied st i) (slotAdds h i noRequest)
 unfolding noSlot
 tied-end cfg st h i s z t = record {
   queues = queues-alike (st .operations) (h .latest) (h .endings) (st .runnables) _ (h .queued) (runnable-kept (λ y. y .requests) (st .runnables) (slotIn (st .slots) i .life .runnable) _ refl) (t .queues);
@@ -191,7 +191,7 @@ tied-end cfg st h i s z t = record {
 
 -- ---- an instance fails
 
-pub tied-fail : (cfg : Config) (st : State) (h : History) (i : ℕ) → Sound cfg st → CanFail st i → Tied st h → Tied (failed st i) (fails h i)
+pub tied-fail : (cfg : Config) (st : State) (h : History) (i : ℕ) → Sound cfg st → CanFail st i → Tied st h → Tied (failed st i) (failAdds h i)
 tied-fail cfg st h i s z t = record {
   queues = t .queues;
   served = served-alike (st .operations) (h .latest) (h .endings) (st .slots) _ (h .taken) (slot-kept (λ w. w .owed) (st .slots) i x refl) (t .served);

@@ -15,7 +15,7 @@ use borrow.Author.Tests.{ne-eqb}
 use Rattle.numbers.specs.Codes.{waitCode}
 use Rattle.laws.specs.Choice.{pick}
 use Rattle.laws.proofs.Choosing.{clash, both-left}
-use Rattle.types.specs.Types.{Step, Config, Operation, Operations, State}
+use Rattle.faces.specs.Types.{Step, Config, Operation, Operations, State}
 use Rattle.config.specs.Tables.{operationConfIn}
 use Rattle.state.specs.Parts.{noOperation}
 use Rattle.state.specs.Start.{startOf}

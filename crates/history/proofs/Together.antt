@@ -2,7 +2,7 @@
 -- Assumes nothing.
 use mathlib.Core.List.{List}
 use mathlib.Core.Path.{subst}
-use Rattle.types.specs.Types.{Step}
+use Rattle.faces.specs.Types.{Step}
 use Rattle.state.specs.Start.{startOf}
 use Rattle.history.specs.Promises.{Run, OfRuns, OfSteps, Followed, AtMoment, AtStep, Demand3}
 use Rattle.history.proofs.Runs.{halves}

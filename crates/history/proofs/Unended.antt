@@ -14,14 +14,14 @@ use lib.Seq.{getD-set-same, getD-set-other}
 use borrow.Author.Tests.{eqb-true}
 use Rattle.numbers.specs.Codes.{callCode, handBackCode, endCode, spawnCode, timeoutCode, failCode}
 use Rattle.laws.proofs.Choosing.{pick-has}
-use Rattle.types.specs.Types.{Step, Config, State}
+use Rattle.faces.specs.Types.{Step, Config, State}
 use Rattle.values.specs.Values.{okV, sameValue}
 use Rattle.entries.specs.Faults.{isServer}
 use Rattle.effects.specs.Steps.{isOpen}
 use Rattle.effects.proofs.Agreeing.{same-value}
 use Rattle.stays_sound.specs.Facts.{Sound}
 use Rattle.rules.proofs.Configured.{operations-most}
-use Rattle.history.specs.History.{History, nothing, begins, latestOn, observe, endsOf, Started}
+use Rattle.history.specs.History.{History, nothing, callAdds, latestOn, observe, endsOf, Started}
 use Rattle.history.proofs.Tied.{Tied}
 use Rattle.history.proofs.Named.{Named}
 use Rattle.history.proofs.Deeds.{Deed, pass, call, answer, late, end, server, plain, timeout, fail, call-adds, other-code}
@@ -91,7 +91,7 @@ module _ (cfg : Config) (st : State) (s : Step) (rs : List Step) (h : History) (
   unended-still : (s .code ≡ callCode → s .claim ≡ okV → ⊥) → Unended (rs ++ (s ∷ [])) (observe cfg h s)
   unended-still q = record { latest = λ k o x z. u .latest k o (started-older rs s k o (λ c e w. q c e) x) (omega (arith, z, grows cfg h s k)) ∙ sym (latest-still cfg h s o (λ c e w. q c e)) }
 
-  unended-call : s .what < length (h .latest) → isOpen st (s .what) ≡ false → Tied st h → Named rs h → Unended (rs ++ (s ∷ [])) (begins cfg h (s .what) (s .argument))
+  unended-call : s .what < length (h .latest) → isOpen st (s .what) ≡ false → Tied st h → Named rs h → Unended (rs ++ (s ∷ [])) (callAdds cfg h (s .what) (s .argument))
   unended-call b shut t n = record { latest = λ k o x z. go k o x z (ℕ-discrete k (suc (length rs))) }
     where
       new : List ℕ

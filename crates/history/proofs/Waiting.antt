@@ -19,7 +19,7 @@ use Rattle.laws.specs.Choice.{both, bit}
 use Rattle.laws.proofs.Choosing.{clash, both-left, both-right, both-no, pick-alike}
 use Rattle.laws.proofs.Looping.{sum-same, sum-zero, sum-term}
 use Rattle.laws.proofs.Places.{inside-of}
-use Rattle.types.specs.Types.{Value, Step, Taken, Config, Slot, Slots, State}
+use Rattle.faces.specs.Types.{Value, Step, Taken, Config, Slot, Slots, State}
 use Rattle.values.specs.Values.{okV, sameValue}
 use Rattle.config.specs.Tables.{runnableConfIn, operationConfIn}
 use Rattle.state.specs.Parts.{noSlot}

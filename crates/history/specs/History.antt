@@ -10,7 +10,7 @@ use lib.Dec.{ltb, eqb}
 use lib.ListN.{getD, set, drop, replicate}
 use Rattle.numbers.specs.Codes.{enterCode, exitCode, callCode, handBackCode, endCode, spawnCode, timeoutCode, tickCode, waitCode, failCode}
 use Rattle.laws.specs.Choice.{pick, both, bit}
-use Rattle.types.specs.Types.{Value, Step, Config}
+use Rattle.faces.specs.Types.{Value, Step, Config}
 use Rattle.values.specs.Values.{voidV, numberV, okV, timeoutV, serverErrV, sameValue}
 use Rattle.config.specs.Tables.{maxRunnableConfs, maxOperationConfs, operationConfIn}
 use Rattle.entries.specs.Faults.{isServer}
@@ -82,8 +82,8 @@ abbrev pub passed : History → History
 passed h = record { place = h .place + 1; queued = h .queued; taken = h .taken; failed = h .failed; latest = h .latest; endings = h .endings }
 
 -- a call of o starts, with the argument v: this step's request is now the last that waits at the server of o ("How tight the contracts are", demand 3)
-abbrev pub begins : Config → History → ℕ → Value → History
-begins cfg h o v = record {
+abbrev pub callAdds : Config → History → ℕ → Value → History
+callAdds cfg h o v = record {
   place = h .place + 1;
   queued = set (h .queued) (operationConfIn (cfg .operations) o .server) (queuedAt h (operationConfIn (cfg .operations) o .server) ++ (record { at = h .place + 1; on = o; argument = v } ∷ []));
   taken = h .taken;
@@ -93,8 +93,8 @@ begins cfg h o v = record {
 }
 
 -- the latest call of o ends ("How tight the contracts are", demand 3)
-abbrev pub closes : History → ℕ → How → History
-closes h o w = record {
+abbrev pub closingAdds : History → ℕ → How → History
+closingAdds h o w = record {
   place = h .place + 1;
   queued = h .queued;
   taken = h .taken;
@@ -108,16 +108,16 @@ abbrev pub backBy : History → ℕ → Value → How
 backBy h i v = pick (failedBy h i) (byFailure (takenBy h i .at)) (byInstance (takenBy h i .at) v)
 
 -- the instance in the slot i fails (W-205)
-abbrev pub fails : History → ℕ → History
-fails h i = record { place = h .place + 1; queued = h .queued; taken = h .taken; failed = set (h .failed) i true; latest = h .latest; endings = h .endings }
+abbrev pub failAdds : History → ℕ → History
+failAdds h i = record { place = h .place + 1; queued = h .queued; taken = h .taken; failed = set (h .failed) i true; latest = h .latest; endings = h .endings }
 
 -- the slot i has an instance that took q, and has not failed ("How tight the contracts are", demand 3; W-205)
-abbrev pub takes : History → ℕ → Request → History
-takes h i q = record { place = h .place + 1; queued = h .queued; taken = set (h .taken) i q; failed = set (h .failed) i false; latest = h .latest; endings = h .endings }
+abbrev pub slotAdds : History → ℕ → Request → History
+slotAdds h i q = record { place = h .place + 1; queued = h .queued; taken = set (h .taken) i q; failed = set (h .failed) i false; latest = h .latest; endings = h .endings }
 
 -- the slot i has an instance that took the oldest request of r, and has not failed ("How tight the contracts are", demand 3; W-205)
-abbrev pub takesOldest : History → ℕ → ℕ → History
-takesOldest h i r = record {
+abbrev pub serverAdds : History → ℕ → ℕ → History
+serverAdds h i r = record {
   place = h .place + 1;
   queued = set (h .queued) r (drop 1 (queuedAt h r));
   taken = set (h .taken) i (getD (queuedAt h r) 0 noRequest);
@@ -129,12 +129,12 @@ takesOldest h i r = record {
 -- an accepted step: a call answered Ok starts one, a hand back answered 1 and a timeout end one, a spawn of a server takes a request, an end and any other spawn leave a slot with none, a fail marks its slot, which an end and a spawn clear; all others pass ("How tight the contracts are", demand 3; W-205)
 unfoldable pub observe : Config → History → Step → History
 observe cfg h s =
-    pick (eqb (s .code) callCode) (pick (sameValue (s .claim) okV) (begins cfg h (s .what) (s .argument)) (passed h))
-    (pick (eqb (s .code) handBackCode) (pick (eqb (s .claim .number) 1) (closes h (takenBy h (s .who) .on) (backBy h (s .who) (s .argument))) (passed h))
-    (pick (eqb (s .code) endCode) (takes h (s .who) noRequest)
-    (pick (eqb (s .code) spawnCode) (pick (isServer cfg (s .what)) (takesOldest h (s .claim .number) (s .what)) (takes h (s .claim .number) noRequest))
-    (pick (eqb (s .code) timeoutCode) (closes h (s .what) byTimeout)
-    (pick (eqb (s .code) failCode) (fails h (s .who))
+    pick (eqb (s .code) callCode) (pick (sameValue (s .claim) okV) (callAdds cfg h (s .what) (s .argument)) (passed h))
+    (pick (eqb (s .code) handBackCode) (pick (eqb (s .claim .number) 1) (closingAdds h (takenBy h (s .who) .on) (backBy h (s .who) (s .argument))) (passed h))
+    (pick (eqb (s .code) endCode) (slotAdds h (s .who) noRequest)
+    (pick (eqb (s .code) spawnCode) (pick (isServer cfg (s .what)) (serverAdds h (s .claim .number) (s .what)) (slotAdds h (s .claim .number) noRequest))
+    (pick (eqb (s .code) timeoutCode) (closingAdds h (s .what) byTimeout)
+    (pick (eqb (s .code) failCode) (failAdds h (s .who))
     (passed h))))))
 
 -- the history after more steps, from one on ("How tight the contracts are", demand 3)

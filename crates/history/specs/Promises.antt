@@ -11,7 +11,7 @@ use lib.Dec.{ltb, eqb}
 use lib.ListN.{length, getD, drop}
 use Rattle.numbers.specs.Codes.{enterCode, exitCode, callCode, resultCode, handBackCode, endCode, spawnCode, timeoutCode, tickCode}
 use Rattle.laws.specs.Choice.{pick, both, either, bit}
-use Rattle.types.specs.Types.{Step, Answer, Config, Client, State}
+use Rattle.faces.specs.Types.{Step, Answer, Config, Client, State}
 use Rattle.values.specs.Values.{voidV, numberV, okV, limitV, noDataV, serverErrV, answerRefusal, answerValue}
 use Rattle.config.specs.Tables.{maxRunnableConfs, maxAreaConfs, maxRequiredConfs, maxOperationConfs, runnableConfIn, requiredConfIn, operationConfIn, timerConfIn}
 use Rattle.entries.specs.Faults.{configSound}

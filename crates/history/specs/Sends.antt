@@ -9,7 +9,7 @@ use mathlib.Core.Option.{Option}
 use mathlib.Core.Path.{_≡_}
 use Rattle.numbers.specs.Codes.{sendCode}
 use Rattle.laws.specs.Mask.{isSet}
-use Rattle.types.specs.Types.{Value, Step, Taken, Config, State}
+use Rattle.faces.specs.Types.{Value, Step, Taken, Config, State}
 use Rattle.values.specs.Values.{okV, limitV, isGood}
 use Rattle.state.specs.Tables.{elementIn}
 use Rattle.effects.specs.Steps.{linked, queueing, fullMask, sentOf}

@@ -12,7 +12,7 @@ use contract.Lifetimes.{Lfts}
 use contract.Monad.{Fun, fact}
 use denote.Triple.Clauses.{AtExit}
 use denote.Triple.Entry.{Args}
-use Rattle.types.specs.Types.{Step, Answer, Refused, Config, State}
+use Rattle.faces.specs.Types.{Step, Answer, Refused, Config, State}
 use Rattle.effects.specs.Step.{stepOf}
 use Rattle.stays_sound.proofs.Refusals.{refusal-keeps, never-zero}
 use Rattle.lending.proofs.step_lent as lent

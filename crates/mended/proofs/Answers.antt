@@ -10,7 +10,7 @@ use lib.Dec.{leb}
 use lib.ListN.{length, drop, length-append, length-map}
 use borrow.Author.Tests.{eq-eqb, ne-eqb, le-leb, leb-true, leb-false, ltb-false}
 use Rattle.laws.proofs.Choosing.{clash}
-use Rattle.types.specs.Types.{Step, Config, State, Stepped}
+use Rattle.faces.specs.Types.{Step, Config, State, Stepped}
 use Rattle.rules.specs.Sound.{soundOf}
 use Rattle.effects.specs.Step.{stepOf}
 use Rattle.recording.specs.declared.Field.{Field}

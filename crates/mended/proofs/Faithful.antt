@@ -9,7 +9,7 @@ use native.Mathlib.Omega.{arith}
 use lib.ListN.{length}
 use borrow.Author.Tests.{ne-eqb}
 use Rattle.numbers.specs.Codes.{sendCode}
-use Rattle.types.specs.Types.{Step, Taken, Config, State, Stepped}
+use Rattle.faces.specs.Types.{Step, Taken, Config, State, Stepped}
 use Rattle.effects.specs.Step.{stepOf}
 use Rattle.stays_sound.proofs.Accepted.{claim-told}
 use Rattle.history.specs.Promises.{Accepted}

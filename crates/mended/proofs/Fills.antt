@@ -5,7 +5,7 @@ use mathlib.Core.List.{List, [], _∷_, _++_}
 use mathlib.Core.Path.{_≡_, refl, sym, ap, subst}
 use borrow.Author.Tests.{ltb-true}
 use Rattle.laws.proofs.Choosing.{clash, both-left, both-right, both-make}
-use Rattle.types.specs.Types.{Value, Step, Answer, Taken, Refused as Barred, Config, State}
+use Rattle.faces.specs.Types.{Value, Step, Answer, Taken, Refused as Barred, Config, State}
 use Rattle.effects.specs.Step.{stepOf}
 use Rattle.history.specs.Promises.{Answers, Accepted}
 use Rattle.history.proofs.Runs.{of-taken, taken-of, joined}

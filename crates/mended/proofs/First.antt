@@ -8,7 +8,7 @@ use native.Mathlib.Nat.{mul-le-mul}
 use native.Mathlib.Omega.{arith}
 use lib.ListN.{length, getD}
 use borrow.Author.Tests.{ltb-true}
-use Rattle.types.specs.Types.{Step, Config, State}
+use Rattle.faces.specs.Types.{Step, Config, State}
 use Rattle.entries.specs.Entries.{maxOf, countOf}
 use Rattle.entries.specs.Faults.{configSound}
 use Rattle.entries.proofs.Kind.{config-told}

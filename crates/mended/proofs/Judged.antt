@@ -9,7 +9,7 @@ use native.Mathlib.Omega.{arith}
 use lib.ListN.{length}
 use borrow.Author.Tests.{ltb-true}
 use Rattle.numbers.specs.Codes.{spawnCode, timeoutCode, tickCode}
-use Rattle.types.specs.Types.{Step, Config, State, Stepped}
+use Rattle.faces.specs.Types.{Step, Config, State, Stepped}
 use Rattle.state.specs.Start.{startOf}
 use Rattle.rules.specs.Sound.{soundOf}
 use Rattle.effects.specs.Step.{stepOf}

@@ -28,7 +28,7 @@ use Rattle.reading.specs.Reading.{sizeOf, entryRead, inOrder, headOf, bodyFault
 use Rattle.wire.specs.Bytes.{putAt}
 use Rattle.recording.specs.Whole.{wholeFrom, wholeOf, stepsIn, textOf}
 use Rattle.reading.specs.declared.Outcome.the-variants.{Whole as Read}
-use Rattle.types.specs.Types.{Config}
+use Rattle.faces.specs.Types.{Config}
 use Rattle.gaps.specs.declared.Mended.{Mended}
 use Rattle.gaps.specs.declared.Mended.the-variants.{Whole, Refused}
 use Rattle.gaps.specs.Orders.{each, passedOver, behind, sequences, upToThree}

@@ -10,7 +10,7 @@ use lib.Dec.{eqb}
 use lib.ListN.{length, length-append}
 use borrow.Author.Tests.{eqb-false}
 use Rattle.laws.specs.Choice.{pick}
-use Rattle.types.specs.Types.{Step}
+use Rattle.faces.specs.Types.{Step}
 use Rattle.gaps.specs.Gaps.{Turn, turnSteps, mendedSteps}
 use Rattle.gaps.specs.Report.{stepNote, gapNote, stepNotes, turnNotes, reportFrom, noteCount}
 use Rattle.gaps.proofs.Reported.{mended-append}

@@ -8,7 +8,7 @@ use native.Mathlib.Nat.{not-suc-le-zero}
 use native.Mathlib.Omega.{arith}
 use lib.ListN.{length, getD, length-append}
 use Rattle.numbers.specs.Codes.{spawnCode, timeoutCode, tickCode}
-use Rattle.types.specs.Types.{Step}
+use Rattle.faces.specs.Types.{Step}
 use Rattle.gaps.specs.declared.Choices.{Choices}
 use Rattle.gaps.specs.Orders.{each, behind, sequences, upToThree}
 use Rattle.gaps.specs.Gaps.{choice, countsOf, choicesIn, sequencesOf}

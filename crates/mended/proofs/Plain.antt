@@ -13,7 +13,7 @@ use lib.ListN.{length, getD, length-map}
 use borrow.Author.Tests.{ltb-true, eqb-true, ne-eqb}
 use Rattle.numbers.specs.Codes.{sendCode, spawnCode, timeoutCode, tickCode}
 use Rattle.laws.proofs.Choosing.{clash, both-left, both-right}
-use Rattle.types.specs.Types.{Value, Step, Taken, Config, State, Stepped}
+use Rattle.faces.specs.Types.{Value, Step, Taken, Config, State, Stepped}
 use Rattle.values.specs.Values.{voidV, answerValue, isVoid}
 use Rattle.entries.specs.Entries.{countOf}
 use Rattle.rules.specs.Rows.{scheduler, rows, rowOf}

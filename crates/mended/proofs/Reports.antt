@@ -12,7 +12,7 @@ use lib.ListN.{length, length-append}
 use borrow.Author.Tests.{eq-eqb, ne-eqb, eqb-true}
 use Rattle.laws.specs.Choice.{pick}
 use Rattle.laws.proofs.Choosing.{either-more}
-use Rattle.types.specs.Types.{Step}
+use Rattle.faces.specs.Types.{Step}
 use Rattle.effects.specs.Step.{stepOf}
 use Rattle.gaps.specs.Gaps.{Turn, turnSteps, turnsOf, mendedSteps}
 use Rattle.mended.specs.Faithful.{Note, inserts, mends, insertPlaces, isOne, without, ReportIsTrue}

@@ -10,7 +10,7 @@ use lib.Dec.{eqb}
 use lib.ListN.{length, length-append}
 use Rattle.laws.specs.Choice.{pick}
 use Rattle.laws.proofs.Choosing.{clash}
-use Rattle.types.specs.Types.{Step, Config, State, Stepped}
+use Rattle.faces.specs.Types.{Step, Config, State, Stepped}
 use Rattle.effects.specs.Step.{stepOf}
 use Rattle.recording.specs.Whole.{Whole as Texted, stepsIn, isEnd, isSound}
 use Rattle.recording.proofs.OneField.{end-bytes}

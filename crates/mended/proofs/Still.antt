@@ -7,7 +7,7 @@ use mathlib.Core.Path.{_≡_, refl, sym, ap, subst, _∙_}
 use native.Mathlib.Omega.{arith}
 use lib.ListN.{length, drop}
 use Rattle.laws.specs.Choice.{pick}
-use Rattle.types.specs.Types.{Step, Config, State}
+use Rattle.faces.specs.Types.{Step, Config, State}
 use Rattle.rules.specs.Sound.{soundOf}
 use Rattle.effects.specs.Step.{stepOf}
 use Rattle.wire.specs.Bytes.{putAt}

@@ -5,7 +5,7 @@ use mathlib.Core.Bool.{Bool, true, false}
 use mathlib.Core.List.{List, [], _∷_, _++_}
 use mathlib.Core.Path.{_≡_, refl, sym, ap, subst, _∙_}
 use native.Mathlib.Omega.{arith}
-use Rattle.types.specs.Types.{Step, Config, State, Stepped}
+use Rattle.faces.specs.Types.{Step, Config, State, Stepped}
 use Rattle.gaps.specs.Gaps.{Turn, canFill, stateAfter, turnOf, turnSteps, turnsOf, mendedSteps}
 use Rattle.gaps.proofs.Turns.{turns-on, turns-off}
 

@@ -10,7 +10,7 @@ use lib.ListN.{length, getD, drop}
 use Rattle.numbers.specs.Refusals.{noFill, notSound, badField, noRoom}
 use Rattle.numbers.specs.Codes.{spawnCode, timeoutCode, tickCode}
 use Rattle.numbers.specs.Tags.{stepSize, endSize}
-use Rattle.types.specs.Types.{Step, Config, State}
+use Rattle.faces.specs.Types.{Step, Config, State}
 use Rattle.state.specs.Start.{startOf}
 use Rattle.entries.specs.Faults.{configSound}
 use Rattle.rules.specs.Sound.{soundOf}

@@ -8,7 +8,7 @@ use lib.Dec.{eqb}
 use lib.ListN.{length, getD, drop}
 use Rattle.numbers.specs.Codes.{sendCode}
 use Rattle.laws.specs.Choice.{pick, either}
-use Rattle.types.specs.Types.{Step, Taken, Config, State}
+use Rattle.faces.specs.Types.{Step, Taken, Config, State}
 use Rattle.values.specs.Values.{voidV}
 use Rattle.effects.specs.Step.{stepOf}
 use Rattle.wire.specs.Bytes.{numberOf}

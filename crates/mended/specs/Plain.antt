@@ -5,7 +5,7 @@ use mathlib.Core.List.{List, [], _∷_, _++_, List·Memᴰ}
 use mathlib.Core.Logic.{_⊎_}
 use mathlib.Core.Path.{_≡_}
 use lib.ListN.{length}
-use Rattle.types.specs.Types.{Step, Config, State}
+use Rattle.faces.specs.Types.{Step, Config, State}
 use Rattle.effects.specs.Step.{stepOf}
 use Rattle.history.specs.Promises.{Accepted}
 use Rattle.gaps.specs.Gaps.{Turn, turnsOf, mendedSteps}

@@ -5,7 +5,7 @@ use mathlib.Core.List.{List}
 use mathlib.Core.Path.{_≡_, ap, _∙_}
 use lib.ListN.{length}
 use borrow.Author.Tests.{lt-ltb, le-ltb}
-use Rattle.types.specs.Types.{State}
+use Rattle.faces.specs.Types.{State}
 use Rattle.state.specs.Start.{startOf}
 use Rattle.reading.specs.declared.Reading.{Reading}
 use Rattle.reading.specs.declared.Outcome.the-variants.{Whole as Read, Refused as NotRead}

@@ -10,7 +10,7 @@ use lib.ListN.{length}
 use borrow.Author.Tests.{eqb-true, leb-true}
 use Rattle.laws.specs.Choice.{pick, both}
 use Rattle.laws.proofs.Choosing.{both-left, both-right}
-use Rattle.types.specs.Types.{Step, Config, State}
+use Rattle.faces.specs.Types.{Step, Config, State}
 use Rattle.rules.specs.Sound.{soundOf}
 use Rattle.effects.specs.Step.{innerOf, stepOf}
 use Rattle.wire.specs.Bytes.{putAt, wroteBytes}

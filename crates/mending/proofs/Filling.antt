@@ -11,7 +11,7 @@ use borrow.Author.Tests.{ltb-true, ne-eqb}
 use Rattle.numbers.specs.Codes.{spawnCode, timeoutCode, tickCode}
 use Rattle.laws.specs.Choice.{pick}
 use Rattle.laws.proofs.Choosing.{pick-has}
-use Rattle.types.specs.Types.{Step, Config, State, Stepped}
+use Rattle.faces.specs.Types.{Step, Config, State, Stepped}
 use Rattle.effects.specs.Step.{possibleOf, innerOf}
 use Rattle.wire.specs.Bytes.{putAt, Written}
 use Rattle.wire.specs.declared.Wrote.{Wrote}

@@ -11,7 +11,7 @@ use lib.Seq.{take-at, drop-at, drop-drop, length-take-le}
 use lib.Dec.{leb}
 use borrow.Author.Tests.{le-leb, lt-leb}
 use Rattle.laws.specs.Choice.{pick}
-use Rattle.types.specs.Types.{Step}
+use Rattle.faces.specs.Types.{Step}
 use Rattle.wire.specs.Bytes.{endBytes, putAt, wroteBytes}
 use Rattle.recording.specs.Recording.{valuesGood, bytesOf, stepWritten}
 use Rattle.recording.specs.Whole.{textOf}

@@ -13,7 +13,7 @@ use lib.ListN.{length, getD, drop, length-append}
 use lib.Seq.{drop-drop}
 use borrow.Author.Tests.{lt-ltb, le-ltb, eq-eqb, ne-eqb}
 use Rattle.laws.specs.Choice.{pick}
-use Rattle.types.specs.Types.{Value, Step, Taken, Refused as Barred, Config, State, Stepped}
+use Rattle.faces.specs.Types.{Value, Step, Taken, Refused as Barred, Config, State, Stepped}
 use Rattle.effects.specs.Step.{innerOf}
 use Rattle.recording.proofs.Field.{the-type}
 use Rattle.recording.specs.declared.Field.{Field}

@@ -9,7 +9,7 @@ use lib.Dec.{eqb}
 use lib.ListN.{length, drop, length-append}
 use borrow.Author.Tests.{ne-eqb}
 use Rattle.laws.specs.Choice.{pick}
-use Rattle.types.specs.Types.{Value, Step, Taken, Refused as Barred, Config, State, Stepped}
+use Rattle.faces.specs.Types.{Value, Step, Taken, Refused as Barred, Config, State, Stepped}
 use Rattle.effects.specs.Step.{innerOf}
 use Rattle.wire.specs.Bytes.{endBytes, putAt, Written}
 use Rattle.wire.specs.declared.Wrote.{Wrote}

@@ -8,7 +8,7 @@ use mathlib.Core.Path.{_≡_}
 use lib.Dec.{ltb, eqb}
 use lib.ListN.{length}
 use Rattle.laws.specs.Choice.{pick}
-use Rattle.types.specs.Types.{Value, Step, Config, State}
+use Rattle.faces.specs.Types.{Value, Step, Config, State}
 use Rattle.effects.specs.Step.{possibleOf, innerOf}
 use Rattle.wire.specs.Bytes.{bytes32}
 use Rattle.recording.specs.Recording.{valuesGood, bytesOf}

@@ -12,7 +12,7 @@ use borrow.Author.Tests.{le-leb, lt-leb}
 use Rattle.laws.specs.Choice.{both, either}
 use Rattle.laws.proofs.Choosing.{both-make, both-swap}
 use Rattle.laws.proofs.Twice.{each-twice, all-twice}
-use Rattle.types.specs.Types.{Config, Operation, Operations, Timer, Timers, Runnable, Runnables, State}
+use Rattle.faces.specs.Types.{Config, Operation, Operations, Timer, Timers, Runnable, Runnables, State}
 use Rattle.state.specs.Parts.{noRunnable, noOperation, noTimer}
 use Rattle.state.specs.Tables.{operationIn, timerIn}
 use Rattle.effects.specs.Steps.{operationLets, timerLets, operationsLet, timersLet, operationAfter, timerAfter, runnableAfter, operationsAfter, timersAfter, runnablesAfter, allLet, waited}

@@ -12,7 +12,7 @@ use lib.ListN.{length, take}
 use borrow.Author.Tests.{lt-ltb, le-ltb}
 use Rattle.laws.specs.Choice.{pick}
 use Rattle.numbers.specs.Refusals.{notSound}
-use Rattle.types.specs.Types.{Step, Answer, Taken, Refused as Barred, Config, State}
+use Rattle.faces.specs.Types.{Step, Answer, Taken, Refused as Barred, Config, State}
 use Rattle.rules.specs.Sound.{soundOf}
 use Rattle.effects.specs.Step.{onAnswer, stepOf}
 use Rattle.stays_sound.proofs.Keeps.{kept-step}

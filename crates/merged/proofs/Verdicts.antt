@@ -11,7 +11,7 @@ use borrow.Author.Tests.{lt-ltb, le-ltb}
 use Rattle.laws.specs.Choice.{pick}
 use Rattle.laws.proofs.Choosing.{clash}
 use Rattle.numbers.specs.Refusals.{notSound, tooFar}
-use Rattle.types.specs.Types.{Value, Step, Answer, Taken, Refused as Barred, Config, State, Stepped}
+use Rattle.faces.specs.Types.{Value, Step, Answer, Taken, Refused as Barred, Config, State, Stepped}
 use Rattle.rules.specs.Sound.{soundOf}
 use Rattle.effects.specs.Step.{onAnswer, stepOf}
 use Rattle.stays_sound.proofs.Keeps.{kept-step}

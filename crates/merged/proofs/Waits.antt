@@ -16,7 +16,7 @@ use Rattle.laws.proofs.Looping.{all-at, all-of}
 use Rattle.laws.proofs.Places.{each-at, each-length}
 use Rattle.numbers.specs.Refusals.{notSound, tooFar}
 use Rattle.numbers.specs.Codes.{waitCode}
-use Rattle.types.specs.Types.{Step, Config, Operation, Runnable, Slots, State, Stepped}
+use Rattle.faces.specs.Types.{Step, Config, Operation, Runnable, Slots, State, Stepped}
 use Rattle.values.specs.Values.{voidV, sameValue, answerRefusal}
 use Rattle.state.specs.Parts.{noRunnable}
 use Rattle.state.specs.Tables.{runnableIn, operationIn, timerIn}

@@ -11,7 +11,7 @@ use lib.Dec.{ltb}
 use lib.ListN.{length, take}
 use Rattle.numbers.specs.Refusals.{tooFar}
 use Rattle.laws.specs.Choice.{pick}
-use Rattle.types.specs.Types.{Step, Config, State}
+use Rattle.faces.specs.Types.{Step, Config, State}
 use Rattle.values.specs.Values.{answerRefusal}
 use Rattle.entries.specs.Faults.{configSound}
 use Rattle.state.specs.Tables.{runnableIn, operationIn, timerIn}

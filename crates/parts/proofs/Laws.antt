@@ -8,7 +8,7 @@ use native.Mathlib.Omega.{arith}
 use lib.ListN.{length, drop, getD, length-append, List·getD-append}
 use lib.Seq.{drop-drop, drop-append-le}
 use borrow.Author.Tests.{le-ltb, ne-eqb}
-use Rattle.types.specs.Types.{Step, State, Stepped}
+use Rattle.faces.specs.Types.{Step, State, Stepped}
 use Rattle.recording.specs.Recording.{fieldOf, stepIn, endIn}
 use Rattle.recording.proofs.OneField.{step-told, refused-18}
 use Rattle.recording.proofs.Texts.{step-shorter}

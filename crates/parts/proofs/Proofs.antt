@@ -9,7 +9,7 @@ use lib.Dec.{ltb}
 use lib.ListN.{length, drop, length-append, length-drop}
 use lib.Seq.{drop-append-le}
 use Rattle.laws.specs.Choice.{pick, either}
-use Rattle.types.specs.Types.{Config, State}
+use Rattle.faces.specs.Types.{Config, State}
 use Rattle.state.specs.Start.{startOf}
 use Rattle.rules.specs.Sound.{soundOf}
 use Rattle.effects.specs.Step.{stepOf}

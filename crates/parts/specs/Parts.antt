@@ -7,7 +7,7 @@ use mathlib.Core.Path.{_≡_}
 use lib.Dec.{ltb}
 use lib.ListN.{length, drop}
 use Rattle.laws.specs.Choice.{pick}
-use Rattle.types.specs.Types.{Config, State}
+use Rattle.faces.specs.Types.{Config, State}
 use Rattle.state.specs.Start.{startOf}
 use Rattle.rules.specs.Sound.{soundOf}
 use Rattle.reading.specs.Reading.{configOf}

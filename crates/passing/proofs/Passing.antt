@@ -13,7 +13,7 @@ use Rattle.laws.specs.Loop.{allBelow}
 use Rattle.laws.proofs.Choosing.{both-no}
 use Rattle.numbers.specs.Refusals.{tooFar}
 use Rattle.values.specs.Values.{answerRefusal, voidV}
-use Rattle.types.specs.Types.{Config, Operation, Timer, State}
+use Rattle.faces.specs.Types.{Config, Operation, Timer, State}
 use Rattle.state.specs.Tables.{operationIn, timerIn}
 use Rattle.effects.specs.Steps.{refused, took, operationLets, timerLets, operationsLet, timersLet, allLet, waited, waitOf}
 use Rattle.passing.specs.Passing.{least, leastBelow, operationLeft, operationsPass, timersPass, passesOf}

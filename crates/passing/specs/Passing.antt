@@ -5,7 +5,7 @@ use mathlib.Core.Bool.{Bool}
 use lib.Dec.{ltb, leb}
 use Rattle.laws.specs.Choice.{pick, both}
 use Rattle.laws.specs.Loop.{firstBelow}
-use Rattle.types.specs.Types.{Config, Operation, Operations, Timer, Timers, State}
+use Rattle.faces.specs.Types.{Config, Operation, Operations, Timer, Timers, State}
 use Rattle.state.specs.Tables.{operationIn, timerIn}
 
 -- the lesser of two numbers (ours)

@@ -10,7 +10,7 @@ use borrow.Author.Tests.{ltb-true, leb-true, eqb-true, not-true, lt-leb}
 use Rattle.laws.specs.Choice.{alike, bit}
 use Rattle.laws.proofs.Choosing.{clash, both-left, both-right, either-right, alike-is}
 use Rattle.laws.proofs.Places.{past}
-use Rattle.types.specs.Types.{Config, RunnableConf, RequiredConf}
+use Rattle.faces.specs.Types.{Config, RunnableConf, RequiredConf}
 use Rattle.config.specs.Tables.{noRunnableConf, noRequiredConf, runnableConfIn, requiredConfIn, providedConfIn, linkIn, operationConfIn, timerConfIn, dataEventIn, returnEventIn}
 use Rattle.entries.specs.Entries.{maxOf, countOf, placesOf, entryOf}
 use Rattle.entries.specs.Faults.{inRange, namesThere, isServer, isQueued, pairsWell, configSound}

@@ -8,7 +8,7 @@ use Rattle.numbers.specs.Refusals.{malformed, notThere, notOwn, barred}
 use Rattle.numbers.specs.Codes.{exitCode, resultCode, handBackCode, endCode}
 use Rattle.laws.specs.Choice.{pick, both, either, alike, allOf}
 use Rattle.values.specs.Values.{isVoid, isNumber, isPayload}
-use Rattle.types.specs.Types.{Value, Step, Config, Life, Slots}
+use Rattle.faces.specs.Types.{Value, Step, Config, Life, Slots}
 use Rattle.config.specs.Tables.{operationConfIn}
 use Rattle.entries.specs.Entries.{countOf, entryOf}
 use Rattle.state.specs.Tables.{slotIn}

@@ -10,7 +10,7 @@ use Rattle.laws.specs.Choice.{pick, both, either, alike, bit, allOf}
 use Rattle.laws.specs.Loop.{allBelow, sumBelow, countBelow}
 use Rattle.laws.specs.Row.{filled}
 use Rattle.values.specs.Values.{voidV, timeoutV, serverErrV, neverReceivedV, invalidV, isVoid, isPayload}
-use Rattle.types.specs.Types.{Value, Config, Client, Requests, Runnable, Runnables, Variable, Variables, Areas, Element, Elements, Operation, Operations, Timer, Timers, Life, Owed, Stack, Slot, Slots, State}
+use Rattle.faces.specs.Types.{Value, Config, Client, Requests, Runnable, Runnables, Variable, Variables, Areas, Element, Elements, Operation, Operations, Timer, Timers, Life, Owed, Stack, Slot, Slots, State}
 use Rattle.config.specs.Tables.{maxRunnableConfs, maxVariableConfs, maxAreaConfs, maxRequiredConfs, maxOperationConfs, maxTimerConfs, runnableConfIn, areaConfIn, requiredConfIn, operationConfIn, timerConfIn}
 use Rattle.entries.specs.Faults.{isServer, configSound}
 use Rattle.state.specs.Parts.{lastNumber, noClient, maxRequests, maxValues}

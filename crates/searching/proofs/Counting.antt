@@ -11,7 +11,7 @@ use lib.ListN.{length, getD, List·getD-append}
 use lib.Seq.{getD-append-add, getD-append-seam}
 use borrow.Author.Tests.{lt-ltb, le-ltb}
 use Rattle.numbers.specs.Codes.{spawnCode, timeoutCode, tickCode}
-use Rattle.types.specs.Types.{Step}
+use Rattle.faces.specs.Types.{Step}
 use Rattle.gaps.specs.declared.Choices.{Choices}
 use Rattle.gaps.specs.Orders.{each, sequences}
 use Rattle.gaps.specs.Gaps.{choice, choicesIn}

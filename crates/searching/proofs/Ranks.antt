@@ -6,7 +6,7 @@ use mathlib.Core.List.{List, _++_}
 use mathlib.Core.Path.{_≡_, sym, _∙_}
 use native.Mathlib.Omega.{arith}
 use lib.ListN.{length}
-use Rattle.types.specs.Types.{Step}
+use Rattle.faces.specs.Types.{Step}
 use Rattle.gaps.specs.Orders.{passedOver, sequences, upToThree}
 use Rattle.gaps.proofs.Ordered.{passed-front, passed-behind}
 

@@ -6,7 +6,7 @@ use mathlib.Core.Path.{_≡_, refl, sym, ap, _∙_}
 use native.Mathlib.Omega.{arith}
 use lib.ListN.{length, getD, drop, length-map, drop-of-length-le}
 use Rattle.laws.specs.Choice.{both}
-use Rattle.types.specs.Types.{Value, Step, Answer, Taken, Refused as Barred, Config, State, Stepped}
+use Rattle.faces.specs.Types.{Value, Step, Answer, Taken, Refused as Barred, Config, State, Stepped}
 use Rattle.effects.specs.Step.{possibleOf, innerOf}
 use Rattle.gaps.specs.declared.Choices.{Choices}
 use Rattle.gaps.specs.Orders.{passedOver, behind, sequences}

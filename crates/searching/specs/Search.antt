@@ -6,7 +6,7 @@ use mathlib.Core.Path.{_≡_}
 use lib.Dec.{ltb, eqb}
 use Rattle.numbers.specs.Codes.{spawnCode, timeoutCode, tickCode}
 use Rattle.laws.specs.Choice.{pick}
-use Rattle.types.specs.Types.{Value, Step, Answer}
+use Rattle.faces.specs.Types.{Value, Step, Answer}
 use Rattle.values.specs.Values.{answerValue}
 use Rattle.gaps.specs.declared.Choices.{Choices}
 use Rattle.gaps.specs.Gaps.{choice}

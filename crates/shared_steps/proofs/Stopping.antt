@@ -12,7 +12,7 @@ use borrow.Author.Tests.{lt-ltb, le-ltb}
 use Rattle.laws.specs.Choice.{pick}
 use Rattle.laws.specs.Row.{eachBelow}
 use Rattle.laws.proofs.Places.{inside, each-length, each-more}
-use Rattle.types.specs.Types.{Runnable, Runnables, Element, Elements}
+use Rattle.faces.specs.Types.{Runnable, Runnables, Element, Elements}
 use Rattle.state.specs.Parts.{noElement}
 use Rattle.state.specs.Tables.{elementIn}
 

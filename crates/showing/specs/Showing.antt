@@ -6,7 +6,7 @@ use lib.Dec.{ltb}
 use lib.ListN.{length}
 use Rattle.numbers.specs.Refusals.{notThere}
 use Rattle.laws.specs.Choice.{pick}
-use Rattle.types.specs.Types.{Config}
+use Rattle.faces.specs.Types.{Config}
 use Rattle.state.specs.Tables.{operationIn}
 use Rattle.state.specs.Start.{startOf}
 use Rattle.reading.specs.declared.Outcome.{Outcome}

@@ -13,7 +13,7 @@ use borrow.Author.Tests.{lt-ltb, eq-eqb, ltb-true, eqb-true}
 use Rattle.numbers.specs.Codes.{handBackCode}
 use Rattle.laws.specs.Choice.{pick}
 use Rattle.laws.proofs.Choosing.{clash, both-left, both-right}
-use Rattle.types.specs.Types.{Value, Step, Taken, Config, State}
+use Rattle.faces.specs.Types.{Value, Step, Taken, Config, State}
 use Rattle.values.specs.Values.{voidV, numberV, isVoid, isNumber, isPayload}
 use Rattle.state.specs.Tables.{operationIn}
 use Rattle.state.specs.Start.{startOf}

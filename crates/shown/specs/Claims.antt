@@ -10,7 +10,7 @@ use mathlib.Core.Path.{_≡_}
 use lib.ListN.{length, take}
 use Rattle.numbers.specs.Refusals.{notThere}
 use Rattle.numbers.specs.Codes.{handBackCode}
-use Rattle.types.specs.Types.{Step, State}
+use Rattle.faces.specs.Types.{Step, State}
 use Rattle.values.specs.Values.{voidV, numberV}
 use Rattle.config.specs.Tables.{operationConfIn}
 use Rattle.wire.proofs.Laws.{Bytes}

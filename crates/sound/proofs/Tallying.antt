@@ -15,7 +15,7 @@ use Rattle.laws.specs.Choice.{pick, both, either, bit, allOf}
 use Rattle.laws.specs.Loop.{allBelow, sumBelow, countBelow}
 use Rattle.laws.proofs.Choosing.{both-left, both-true, all-told}
 use Rattle.laws.proofs.Looping.{all-at, sum-more, sum-same, sum-bound, count-most}
-use Rattle.types.specs.Types.{Config, Client, Owed, Stack, Slot, Slots}
+use Rattle.faces.specs.Types.{Config, Client, Owed, Stack, Slot, Slots}
 use Rattle.state.specs.Tables.{slotIn}
 use Rattle.rules.specs.Sound.{slotSound, lifeSound, owedSound, stackSound, isNoSlot, ofRunnable, timesIn, isClient, servedAs, waitsOn}
 use Rattle.sound.specs.declared.Held.{Held}

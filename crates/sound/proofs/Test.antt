@@ -16,7 +16,7 @@ use Rattle.laws.proofs.Choosing.{clash, both-left, both-right, both-make, all-t
 use Rattle.laws.proofs.Looping.{all-at, all-of, sum-zero, sum-term, sum-find}
 use Rattle.laws.proofs.Places.{filled-good}
 use Rattle.values.specs.Values.{voidV}
-use Rattle.types.specs.Types.{Config, Client, Owed, Slot, State}
+use Rattle.faces.specs.Types.{Config, Client, Owed, Slot, State}
 use Rattle.config.specs.Tables.{runnableConfIn, operationConfIn}
 use Rattle.entries.specs.Faults.{isServer, configSound}
 use Rattle.state.specs.Parts.{noClient, noRequests}

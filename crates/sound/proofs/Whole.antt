@@ -1,7 +1,7 @@
 -- A test that reads one table says the same of every configuration with that table.
 -- Assumes nothing.
 use mathlib.Core.Path.{_≡_, refl}
-use Rattle.types.specs.Types.{Config, Runnables, Variables, Elements, Operations, Timers}
+use Rattle.faces.specs.Types.{Config, Runnables, Variables, Elements, Operations, Timers}
 use Rattle.rules.specs.Sound.{variablesSound, variableSound, elementsSound, elementSound, operationSound, callingSound, doneSound, timersSound, timerSound}
 use Rattle.sound.specs.declared.Tally.{Tally}
 use Rattle.sound.specs.Only.{onlyVariables, onlyRequired, onlyOperations, onlyTimers}

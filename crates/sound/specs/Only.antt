@@ -1,6 +1,6 @@
 -- A configuration of which one table is given and the rest is blank: in it a function says what it answers that is handed only the table that its test reads.
 -- Assumes nothing.
-use Rattle.types.specs.Types.{Config, VariableConfs, AreaConfs, RequiredConfs, OperationConfs, TimerConfs}
+use Rattle.faces.specs.Types.{Config, VariableConfs, AreaConfs, RequiredConfs, OperationConfs, TimerConfs}
 use Rattle.config.specs.Tables.{noRunnableConfs, noVariableConfs, noAreaConfs, noRequiredConfs, noProvidedConfs, noLinks, noOperationConfs, noTimerConfs, noDataEvents, noReturnEvents}
 
 -- a configuration with these variables and nothing else

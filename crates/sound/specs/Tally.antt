@@ -9,7 +9,7 @@ use Rattle.laws.specs.Choice.{pick}
 use Rattle.laws.specs.Loop.{sumBelow, countBelow}
 use Rattle.values.specs.Values.{voidV}
 use Rattle.config.specs.Tables.{maxRunnableConfs, maxAreaConfs, maxOperationConfs}
-use Rattle.types.specs.Types.{Client, Owed, Stack, Slot, Slots}
+use Rattle.faces.specs.Types.{Client, Owed, Stack, Slot, Slots}
 use Rattle.state.specs.Queues.{upOne}
 use Rattle.state.specs.Tables.{maxSlots, slotIn}
 use Rattle.rules.specs.Sound.{ofRunnable, timesIn, isClient, servedAs, waitsOn}

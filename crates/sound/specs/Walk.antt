@@ -7,7 +7,7 @@ use lib.Dec.{ltb, leb, eqb}
 use lib.ListN.{getD}
 use Rattle.laws.specs.Choice.{pick, both, either, bit, allOf}
 use Rattle.laws.specs.Loop.{allBelow}
-use Rattle.types.specs.Types.{Config, Client, Requests, Runnable, Runnables, Area, Areas, Operation, Operations, Slots, State}
+use Rattle.faces.specs.Types.{Config, Client, Requests, Runnable, Runnables, Area, Areas, Operation, Operations, Slots, State}
 use Rattle.config.specs.Tables.{maxRunnableConfs, maxAreaConfs, maxOperationConfs, operationConfIn}
 use Rattle.state.specs.Parts.{noClient, noRequests}
 use Rattle.state.specs.Tables.{maxSlots, runnableIn, areaIn, operationIn}

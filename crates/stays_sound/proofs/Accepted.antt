@@ -10,7 +10,7 @@ use Rattle.numbers.specs.Refusals.{notSound, otherAnswer}
 use Rattle.numbers.specs.Codes.{enterCode, exitCode, sendCode, callCode, resultCode, handBackCode, endCode, spawnCode, timeoutCode, tickCode}
 use Rattle.laws.specs.Choice.{pick}
 use Rattle.laws.proofs.Choosing.{clash}
-use Rattle.types.specs.Types.{Value, Step, Answer, Taken, Refused, Config, State, Stepped}
+use Rattle.faces.specs.Types.{Value, Step, Answer, Taken, Refused, Config, State, Stepped}
 use Rattle.values.specs.Values.{numberV, okV, noDataV, answerValue}
 use Rattle.config.specs.Tables.{operationConfIn}
 use Rattle.state.specs.Tables.{operationIn}

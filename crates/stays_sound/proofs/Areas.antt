@@ -16,7 +16,7 @@ use Rattle.laws.specs.Loop.{sumBelow}
 use Rattle.laws.proofs.Choosing.{clash, all-told, pick-has, both-left, both-right, bit-most}
 use Rattle.laws.proofs.Looping.{all-at, sum-same, sum-term, spread, sum-room}
 use Rattle.laws.proofs.Places.{put-each, sum-put, sum-push, sum-pop, filled-length, filled-good}
-use Rattle.types.specs.Types.{Value, Config, Areas, Stack, Slot, Slots, State}
+use Rattle.faces.specs.Types.{Value, Config, Areas, Stack, Slot, Slots, State}
 use Rattle.config.specs.Tables.{maxAreaConfs, runnableConfIn}
 use Rattle.state.specs.Parts.{noArea, noStack, noSlot}
 use Rattle.state.specs.Queues.{upOne, pushArea, topArea, popArea}

@@ -13,7 +13,7 @@ use Rattle.laws.specs.Choice.{pick, bit}
 use Rattle.laws.proofs.Choosing.{clash, all-told, both-left, both-right}
 use Rattle.laws.proofs.Looping.{all-at}
 use Rattle.laws.proofs.Places.{inside-of, filled-length}
-use Rattle.types.specs.Types.{Value, Config, RunnableConf, Client, Runnable, Operations, Owed, Slots, State}
+use Rattle.faces.specs.Types.{Value, Config, RunnableConf, Client, Runnable, Operations, Owed, Slots, State}
 use Rattle.values.specs.Values.{timeoutV}
 use Rattle.config.specs.Tables.{maxRunnableConfs, runnableConfIn, operationConfIn, timerConfIn}
 use Rattle.state.specs.Parts.{noClient, maxRequests, noOperation, noOwed, noSlot}

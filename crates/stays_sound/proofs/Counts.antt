@@ -14,7 +14,7 @@ use Rattle.laws.proofs.Choosing.{pick-has}
 use Rattle.laws.proofs.Looping.{sum-same, count-most}
 use Rattle.laws.proofs.Places.{sum-put}
 use Rattle.values.specs.Values.{timeoutV}
-use Rattle.types.specs.Types.{Value, Config, RunnableConf, Runnable, Runnables, Slot, Slots, State}
+use Rattle.faces.specs.Types.{Value, Config, RunnableConf, Runnable, Runnables, Slot, Slots, State}
 use Rattle.config.specs.Tables.{maxRunnableConfs, runnableConfIn, operationConfIn, timerConfIn}
 use Rattle.state.specs.Parts.{noRunnable, noSlot}
 use Rattle.state.specs.Queues.{upOne}

@@ -14,7 +14,7 @@ use Rattle.laws.proofs.Choosing.{clash, both-left, both-right, both-make, eithe
 use Rattle.laws.proofs.Looping.{all-at, any-find}
 use Rattle.laws.proofs.Places.{all-put, all-each, filled-push, filled-shift}
 use Rattle.values.specs.Values.{voidV, invalidV, isVoid, isPayload}
-use Rattle.types.specs.Types.{Value, Config, Values, Element, Elements, State}
+use Rattle.faces.specs.Types.{Value, Config, Values, Element, Elements, State}
 use Rattle.config.specs.Tables.{maxRequiredConfs, requiredConfIn, providedConfIn, linkIn}
 use Rattle.entries.specs.Faults.{isQueued, configSound}
 use Rattle.state.specs.Parts.{noElement, maxValues}

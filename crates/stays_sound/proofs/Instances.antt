@@ -10,7 +10,7 @@ use Rattle.laws.specs.Choice.{both, alike}
 use Rattle.laws.specs.Row.{filled}
 use Rattle.laws.proofs.Choosing.{both-left, both-right, alike-is, all-told, all-made}
 use Rattle.laws.proofs.Looping.{all-at}
-use Rattle.types.specs.Types.{Config, Client, Life, Owed, Stack, Slot, Slots, State}
+use Rattle.faces.specs.Types.{Config, Client, Life, Owed, Stack, Slot, Slots, State}
 use Rattle.config.specs.Tables.{maxAreaConfs}
 use Rattle.entries.specs.Faults.{isServer}
 use Rattle.state.specs.Tables.{maxSlots, slotIn}

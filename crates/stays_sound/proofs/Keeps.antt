@@ -7,7 +7,7 @@ use Rattle.numbers.specs.Refusals.{otherAnswer}
 use Rattle.laws.specs.Choice.{pick}
 use Rattle.laws.proofs.Choosing.{pick-has}
 use Rattle.values.specs.Values.{timeoutV}
-use Rattle.types.specs.Types.{Value, Step, Answer, Taken, Refused, Config, State, Stepped}
+use Rattle.faces.specs.Types.{Value, Step, Answer, Taken, Refused, Config, State, Stepped}
 use Rattle.rules.specs.Sound.{soundOf}
 use Rattle.effects.specs.Steps.{refused, stored, entered, exited, looked, fed, invalidated, received, called, collected, closed, answers, clientOf, finished, handedBack, answered, failed, emptied, lowestEmpty, spawned, ticked, waited}
 use Rattle.effects.specs.Step.{possibleOf, onAnswer, agrees, claimedOf, innerOf, stepOf}

@@ -11,7 +11,7 @@ use Rattle.laws.specs.Row.{eachBelow}
 use Rattle.laws.proofs.Choosing.{clash, pick-has}
 use Rattle.laws.proofs.Looping.{first-is}
 use Rattle.laws.proofs.Places.{inside-of, put-each, each-has}
-use Rattle.types.specs.Types.{Config, Runnable, Runnables, Elements, Operation, Operations, Slot, Slots, State}
+use Rattle.faces.specs.Types.{Config, Runnable, Runnables, Elements, Operation, Operations, Slot, Slots, State}
 use Rattle.config.specs.Tables.{operationConfIn}
 use Rattle.state.specs.Parts.{noRunnable, noOperation, noSlot}
 use Rattle.state.specs.Fields.{withCount}

@@ -12,7 +12,7 @@ use Rattle.laws.proofs.Choosing.{both-left, both-right, both-make, all-told, al
 use Rattle.laws.proofs.Looping.{all-at}
 use Rattle.laws.proofs.Places.{all-put, all-each}
 use Rattle.values.specs.Values.{timeoutV, serverErrV, isVoid, isPayload}
-use Rattle.types.specs.Types.{Value, Config, Operation, Operations, State}
+use Rattle.faces.specs.Types.{Value, Config, Operation, Operations, State}
 use Rattle.config.specs.Tables.{maxOperationConfs, operationConfIn}
 use Rattle.state.specs.Parts.{lastNumber, noOperation}
 use Rattle.state.specs.Fields.{withCount}

@@ -6,7 +6,7 @@ use native.Mathlib.Omega.{arith}
 use Rattle.numbers.specs.Refusals.{notSound, otherAnswer}
 use Rattle.laws.specs.Choice.{pick}
 use Rattle.laws.proofs.Choosing.{pick-has}
-use Rattle.types.specs.Types.{Value, Step, Answer, Taken, Refused, Config, State, Stepped}
+use Rattle.faces.specs.Types.{Value, Step, Answer, Taken, Refused, Config, State, Stepped}
 use Rattle.rules.specs.Sound.{soundOf}
 use Rattle.effects.specs.Steps.{refused, took}
 use Rattle.effects.specs.Step.{possibleOf, onAnswer, agrees, claimedOf, innerOf, stepOf}

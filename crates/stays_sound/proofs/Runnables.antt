@@ -14,7 +14,7 @@ use Rattle.laws.proofs.Choosing.{clash, both-left, both-right, both-make, all-t
 use Rattle.laws.proofs.Looping.{all-at, any-find}
 use Rattle.laws.proofs.Places.{all-put, all-each, filled-good, filled-push, filled-shift}
 use Rattle.values.specs.Values.{timeoutV, isVoid}
-use Rattle.types.specs.Types.{Value, Config, RunnableConf, Client, Requests, Runnable, Runnables, Elements, State}
+use Rattle.faces.specs.Types.{Value, Config, RunnableConf, Client, Requests, Runnable, Runnables, Elements, State}
 use Rattle.config.specs.Tables.{maxRunnableConfs, runnableConfIn, operationConfIn, timerConfIn, dataEventIn, returnEventIn}
 use Rattle.entries.specs.Faults.{isServer, configSound}
 use Rattle.state.specs.Parts.{noClient, noRunnable, maxRequests}

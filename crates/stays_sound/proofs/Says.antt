@@ -10,7 +10,7 @@ use Rattle.numbers.specs.Refusals.{malformed, notThere, notOwn, barred}
 use Rattle.numbers.specs.Codes.{writeVariableCode, enterCode, exitCode, readCode, writeCode, invalidateCode, receiveCode, sendCode, callCode, resultCode, handBackCode, endCode, spawnCode, timeoutCode, tickCode, failCode}
 use Rattle.laws.specs.Choice.{both, either, bit}
 use Rattle.laws.proofs.Choosing.{clash, both-left, both-right, both-no, alike-is, all-told, pick-on}
-use Rattle.types.specs.Types.{Value, Step, Config, State}
+use Rattle.faces.specs.Types.{Value, Step, Config, State}
 use Rattle.config.specs.Tables.{runnableConfIn, areaConfIn, requiredConfIn, operationConfIn, providedConfIn}
 use Rattle.entries.specs.Entries.{countOf, entryOf}
 use Rattle.entries.specs.Faults.{isQueued}

@@ -7,7 +7,7 @@ use lib.ListN.{length, length-set}
 use Rattle.laws.specs.Choice.{pick}
 use Rattle.laws.proofs.Places.{each-length}
 use Rattle.values.specs.Values.{invalidV, timeoutV}
-use Rattle.types.specs.Types.{Value, Config, Runnable, Runnables, Variable, Variables, Area, Areas, Element, Elements, Operation, Operations, Timer, Timers, Slot, Slots, State}
+use Rattle.faces.specs.Types.{Value, Config, Runnable, Runnables, Variable, Variables, Area, Areas, Element, Elements, Operation, Operations, Timer, Timers, Slot, Slots, State}
 use Rattle.config.specs.Tables.{operationConfIn, timerConfIn}
 use Rattle.state.specs.Parts.{noSlot, noRunnable, noElement, noOperation, noTimer}
 use Rattle.state.specs.Tables.{runnableIn, elementIn, operationIn, slotIn, withRunnables, withVariables, withAreas, withElements, withOperations, withTimers, withSlots, withRunnable, withVariable, withArea, withElement, withOperation, withTimer, withSlot}

@@ -13,7 +13,7 @@ use Rattle.laws.specs.Row.{placeFilled, filled}
 use Rattle.laws.proofs.Choosing.{both-make, all-told, all-made}
 use Rattle.laws.proofs.Places.{all-put, filled-push, filled-pop}
 use Rattle.values.specs.Values.{isVoid}
-use Rattle.types.specs.Types.{Value, Config, RunnableConf, Life, Runnable, Owed, Stack, Slot, Slots, State}
+use Rattle.faces.specs.Types.{Value, Config, RunnableConf, Life, Runnable, Owed, Stack, Slot, Slots, State}
 use Rattle.config.specs.Tables.{maxAreaConfs, runnableConfIn, areaConfIn, operationConfIn}
 use Rattle.entries.specs.Faults.{isServer}
 use Rattle.state.specs.Parts.{noOwed, noStack, noSlot}

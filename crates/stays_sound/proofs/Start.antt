@@ -14,7 +14,7 @@ use Rattle.laws.proofs.Choosing.{clash, both-make, either-more, pick-has}
 use Rattle.laws.proofs.Looping.{all-of, sum-none, sum-zero}
 use Rattle.laws.proofs.Places.{each-length, each-has, all-each}
 use Rattle.values.specs.Values.{numberV, neverReceivedV, isVoid, isPayload}
-use Rattle.types.specs.Types.{Config, Runnable, Variable, Element, Slot}
+use Rattle.faces.specs.Types.{Config, Runnable, Variable, Element, Slot}
 use Rattle.config.specs.Tables.{maxRunnableConfs, maxVariableConfs, maxAreaConfs, maxRequiredConfs, maxOperationConfs, maxTimerConfs, runnableConfIn, variableConfIn, requiredConfIn, timerConfIn}
 use Rattle.entries.specs.Faults.{isServer, configSound}
 use Rattle.state.specs.Parts.{noClient, noRequests, noRunnable, noVariable, noArea, noValues, noElement, noOperation, noTimer, noStack, noSlot, maxRequests}

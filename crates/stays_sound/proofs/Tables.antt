@@ -7,7 +7,7 @@ use native.Mathlib.Omega.{arith}
 use lib.ListN.{getD}
 use borrow.Author.Tests.{leb-true, lt-ltb, le-leb}
 use Rattle.laws.proofs.Places.{all-put, all-each}
-use Rattle.types.specs.Types.{Value, Config, Timer, State}
+use Rattle.faces.specs.Types.{Value, Config, Timer, State}
 use Rattle.config.specs.Tables.{maxVariableConfs, maxTimerConfs, timerConfIn}
 use Rattle.state.specs.Parts.{noVariable, noTimer}
 use Rattle.state.specs.Tables.{variableIn, timerIn, withVariable, withTimer}

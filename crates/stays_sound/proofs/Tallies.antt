@@ -14,7 +14,7 @@ use Rattle.laws.proofs.Choosing.{clash, both-no}
 use Rattle.laws.proofs.Looping.{sum-same}
 use Rattle.laws.proofs.Places.{sum-put, sum-push, sum-shift}
 use Rattle.config.specs.Tables.{maxRunnableConfs}
-use Rattle.types.specs.Types.{Client, Requests, Runnable, Runnables, Operation, Operations, Owed, Slot, Slots}
+use Rattle.faces.specs.Types.{Client, Requests, Runnable, Runnables, Operation, Operations, Owed, Slot, Slots}
 use Rattle.state.specs.Parts.{noClient, maxRequests, noOperation, noRunnable, noSlot}
 use Rattle.state.specs.Queues.{upOne, pushRequest, firstRequest, restRequests}
 use Rattle.state.specs.Tables.{maxSlots, runnableIn, operationIn, slotIn, withRunnable, withOperation, withSlot}

@@ -12,7 +12,7 @@ use Rattle.laws.specs.Choice.{both, either, bit}
 use Rattle.laws.specs.Loop.{allBelow, sumBelow}
 use Rattle.laws.proofs.Choosing.{both-left, both-right, both-make, either-right, all-told, all-made}
 use Rattle.laws.proofs.Looping.{all-at, all-of, sum-find, sum-term}
-use Rattle.types.specs.Types.{Config, Client, Runnables, Areas, Operations, Slots, State}
+use Rattle.faces.specs.Types.{Config, Client, Runnables, Areas, Operations, Slots, State}
 use Rattle.config.specs.Tables.{maxRunnableConfs, maxAreaConfs, maxOperationConfs, operationConfIn}
 use Rattle.state.specs.Parts.{noClient}
 use Rattle.state.specs.Tables.{maxSlots, runnableIn, areaIn, operationIn, slotIn}

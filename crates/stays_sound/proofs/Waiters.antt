@@ -15,7 +15,7 @@ use Rattle.laws.proofs.Choosing.{clash, all-told, pick-has}
 use Rattle.laws.proofs.Looping.{sum-same}
 use Rattle.laws.proofs.Places.{sum-put, put-each}
 use Rattle.values.specs.Values.{timeoutV}
-use Rattle.types.specs.Types.{Value, Config, Operation, Operations, Slot, Slots, State}
+use Rattle.faces.specs.Types.{Value, Config, Operation, Operations, Slot, Slots, State}
 use Rattle.config.specs.Tables.{maxOperationConfs, runnableConfIn, operationConfIn}
 use Rattle.state.specs.Parts.{noOperation, noSlot}
 use Rattle.state.specs.Tables.{maxSlots, runnableIn, operationIn, slotIn, withOperation, withSlot}

@@ -11,7 +11,7 @@ use Rattle.numbers.specs.Codes.{readVariableCode, writeVariableCode, enterCode,
 use Rattle.laws.specs.Choice.{bit}
 use Rattle.laws.proofs.Choosing.{pick-has}
 use Rattle.values.specs.Values.{voidV, numberV, okV, limitV, noDataV, timeoutV}
-use Rattle.types.specs.Types.{Value, Step, Config, State, Stepped}
+use Rattle.faces.specs.Types.{Value, Step, Config, State, Stepped}
 use Rattle.config.specs.Tables.{runnableConfIn, operationConfIn}
 use Rattle.state.specs.Queues.{firstValue}
 use Rattle.state.specs.Tables.{maxSlots, runnableIn, variableIn, elementIn, operationIn, slotIn}

@@ -6,7 +6,7 @@ use mathlib.Core.Path.{_≡_}
 use lib.Dec.{eqb}
 use Rattle.laws.specs.Choice.{either, bit}
 use Rattle.values.specs.Values.{isPayload}
-use Rattle.types.specs.Types.{Value, Config, Runnables, Areas, Operations, Slots, State}
+use Rattle.faces.specs.Types.{Value, Config, Runnables, Areas, Operations, Slots, State}
 use Rattle.config.specs.Tables.{maxRunnableConfs, maxAreaConfs, maxOperationConfs, runnableConfIn, areaConfIn, providedConfIn, operationConfIn}
 use Rattle.entries.specs.Faults.{isQueued, configSound}
 use Rattle.state.specs.Tables.{maxSlots, runnableIn, areaIn, elementIn, operationIn, timerIn, slotIn}

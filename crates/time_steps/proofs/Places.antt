@@ -7,7 +7,7 @@ use native.Mathlib.Omega.{arith}
 use lib.Dec.{ltb}
 use borrow.Author.Tests.{ltb-true}
 use Rattle.laws.specs.Choice.{pick}
-use Rattle.types.specs.Types.{Slots}
+use Rattle.faces.specs.Types.{Slots}
 use Rattle.state.specs.Tables.{maxSlots}
 use Rattle.effects.specs.declared.Found.the-variants.{At, Nothing}
 use Rattle.effects.specs.Steps.{lowestEmpty, foundEmpty}

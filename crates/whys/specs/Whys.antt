@@ -9,7 +9,7 @@ use Rattle.laws.specs.Loop.{anyBelow, firstBelow}
 use Rattle.numbers.specs.Refusals.{malformed, notThere, notOwn, barred, areaTaken, notOnTop, queueFull, numberBorne, stillOpen, notDue, noSlotFree, tooFar, notOver, areasHeld, wrongClient, otherAnswer}
 use Rattle.numbers.specs.Codes.{resultCode, timeoutCode}
 use Rattle.numbers.specs.Tags.{operationTag, timerTag}
-use Rattle.types.specs.Types.{Step, Config, RunnableConf, Life, Owed, Stack, Runnable, Slots, State}
+use Rattle.faces.specs.Types.{Step, Config, RunnableConf, Life, Owed, Stack, Runnable, Slots, State}
 use Rattle.config.specs.Tables.{runnableConfIn, operationConfIn}
 use Rattle.entries.specs.Entries.{countOf, entryOf}
 use Rattle.state.specs.Tables.{maxSlots, runnableIn, operationIn, timerIn, slotIn}

@@ -8,7 +8,7 @@ use lib.Dec.{ltb}
 use borrow.Author.Tests.{lt-ltb, ltb-true, ltb-false}
 use Rattle.laws.specs.Loop.{sumBelow}
 use Rattle.config.specs.Tables.{maxRunnableConfs}
-use Rattle.types.specs.Types.{Runnables, Slots}
+use Rattle.faces.specs.Types.{Runnables, Slots}
 use Rattle.state.specs.Tables.{maxSlots, runnableIn, slotIn}
 use Rattle.rules.specs.Sound.{queuedAs, servedAs, clientsAs}
 use Rattle.call_steps.proofs.is_borne.Statement.{statement}

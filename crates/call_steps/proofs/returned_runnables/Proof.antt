@@ -14,7 +14,7 @@ use Rattle.laws.specs.Row.{eachBelow}
 use Rattle.effects.specs.Steps as rules
 use Rattle.effects.specs.Steps.{isReturned, returnedRunnables, woken}
 use Rattle.state.specs.Parts.{noRunnable}
-use Rattle.types.specs.Types.{Runnable}
+use Rattle.faces.specs.Types.{Runnable}
 use Rattle.shared_steps.proofs.Stopping.{each-put, each-within, runnables-made}
 use Rattle.call_steps.proofs.returned_runnables.Statement.{statement}
 use Rattle.call_steps.proofs.returned_runnables.Tie as tie

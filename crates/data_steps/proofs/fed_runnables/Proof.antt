@@ -10,7 +10,7 @@ use Rattle.laws.specs.Choice.{pick}
 use Rattle.laws.specs.Row.{eachBelow}
 use Rattle.effects.specs.Steps.{woken}
 use Rattle.state.specs.Parts.{noRunnable}
-use Rattle.types.specs.Types.{Runnable}
+use Rattle.faces.specs.Types.{Runnable}
 use Rattle.shared_steps.proofs.Stopping.{each-put, each-within, runnables-made}
 use Rattle.data_steps.specs.Rooms.{fedRunnablesBy, isFedBy}
 use Rattle.data_steps.proofs.fed_runnables.Statement.{statement}

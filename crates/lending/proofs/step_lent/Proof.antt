@@ -34,7 +34,7 @@ use denote.Triple.Table.{entered, cited}
 use denote.Triple.Walked.{says, Stays, stay-ref, stay-none, walkOf, goes-ref, goes-none, Walks, ends-at, walked, walk-meets}
 use denote.Exit.{yes}
 use Rattle.effects.specs.Step.{stepOf}
-use Rattle.types.specs.Types.{State, Config, Step, Answer, Stepped}
+use Rattle.faces.specs.Types.{State, Config, Step, Answer, Stepped}
 use Rattle.state.proofs.State as T
 use Rattle.state.proofs.State.Laws as T′
 use Rattle.config.proofs.Config as G

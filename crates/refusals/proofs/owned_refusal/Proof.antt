@@ -1,7 +1,7 @@
 -- `refusals::owned_refusal` meets its contract.
 -- Assumes nothing.
 use mathlib.Core.Path.{ap}
-use Rattle.types.specs.Types.{RunnableConf}
+use Rattle.faces.specs.Types.{RunnableConf}
 use Rattle.rules.specs.Refusals.{ownedRefusal}
 use Rattle.refusals.proofs.owned_refusal.Statement.{statement}
 use Rattle.refusals.proofs.owned_refusal.Tie as tie

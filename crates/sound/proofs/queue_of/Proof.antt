@@ -4,7 +4,7 @@ use borrow.Author.Needs.{needs}
 use mathlib.Core.Path.{_≡_, sym, ap}
 use lib.ListN.{length}
 use Rattle.laws.proofs.Places.{inside, past, length-mapped}
-use Rattle.types.specs.Types.{Runnable}
+use Rattle.faces.specs.Types.{Runnable}
 use Rattle.state.specs.Parts.{noRunnable, noRequests}
 use Rattle.state.specs.Tables.{runnableIn}
 use Rattle.sound.specs.Only.{onlyOperations}

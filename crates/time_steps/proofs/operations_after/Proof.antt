@@ -9,7 +9,7 @@ use Rattle.laws.specs.Row.{eachBelow}
 use Rattle.effects.specs.Steps.{operationAfter, operationsAfter}
 use Rattle.state.specs.Parts.{noOperation}
 use Rattle.state.specs.Tables.{operationIn, withOperation}
-use Rattle.types.specs.Types.{Operation, Operations}
+use Rattle.faces.specs.Types.{Operation, Operations}
 use Rattle.time_steps.proofs.operations_after.Statement.{statement}
 use Rattle.time_steps.proofs.operations_after.Tie as tie
 

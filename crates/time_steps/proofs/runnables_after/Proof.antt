@@ -9,7 +9,7 @@ use Rattle.laws.proofs.Places.{each-none, length-mapped}
 use Rattle.laws.specs.Row.{eachBelow}
 use Rattle.effects.specs.Steps.{runnableAfter, runnablesAfter}
 use Rattle.state.specs.Parts.{noRunnable}
-use Rattle.types.specs.Types.{Runnable}
+use Rattle.faces.specs.Types.{Runnable}
 use Rattle.shared_steps.proofs.Stopping.{each-put, each-within, runnables-made}
 use Rattle.time_steps.proofs.runnables_after.Statement.{statement}
 use Rattle.time_steps.proofs.runnables_after.Tie as tie

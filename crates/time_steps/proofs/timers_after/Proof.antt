@@ -9,7 +9,7 @@ use Rattle.laws.specs.Row.{eachBelow}
 use Rattle.effects.specs.Steps.{timerAfter, timersAfter}
 use Rattle.state.specs.Parts.{noTimer}
 use Rattle.state.specs.Tables.{timerIn, withTimer}
-use Rattle.types.specs.Types.{Timer, Timers}
+use Rattle.faces.specs.Types.{Timer, Timers}
 use Rattle.time_steps.proofs.timers_after.Statement.{statement}
 use Rattle.time_steps.proofs.timers_after.Tie as tie
 

@@ -2,7 +2,7 @@
 -- Assumes nothing.
 use mathlib.Core.Path.{ap}
 use borrow.Author.Tests.{eq-eqb, ne-eqb, lt-ltb, le-ltb}
-use Rattle.types.specs.Types.{RunnableConf}
+use Rattle.faces.specs.Types.{RunnableConf}
 use Rattle.whys.specs.Whys.{ownCause}
 use borrow.Author.Needs.{needs}
 use Rattle.whys.proofs.own_cause.Statement.{statement}
