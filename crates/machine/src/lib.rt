@@ -51,13 +51,13 @@ pub fn possible(cfg: Config, st: State, s: Step) -> Stepped
             numbers::CODE_SEND => data_steps::send(cfg, st, k, v),
             numbers::CODE_CALL => call_steps::call(cfg, st, i, k, v),
             numbers::CODE_RESULT => call_steps::result(cfg, st, i, k),
-            numbers::CODE_HAND_BACK => call_steps::hand_back(cfg, st, i, v),
-            numbers::CODE_END => call_steps::end(st, i),
+            numbers::CODE_HAND_BACK => end_steps::hand_back(cfg, st, i, v),
+            numbers::CODE_END => end_steps::end(st, i),
             numbers::CODE_SPAWN => time_steps::spawn(cfg, st, k),
-            numbers::CODE_TIMEOUT => call_steps::timeout(cfg, st, k),
+            numbers::CODE_TIMEOUT => end_steps::timeout(cfg, st, k),
             numbers::CODE_TICK => time_steps::tick(cfg, st, k),
             numbers::CODE_WAIT => time_steps::wait(cfg, st, v.number),
-            _ => call_steps::fail(st, i),
+            _ => end_steps::fail(st, i),
         };
     }
     shared_steps::refuse(n, st)

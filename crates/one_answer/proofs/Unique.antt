@@ -410,17 +410,19 @@ call-steps-call κs a x y s t = same
 pub call-steps-result : One Rattle.call_steps.proofs.result.Kinds.ps Rattle.call_steps.proofs.result.Kinds.r Rattle.call_steps.proofs.result.Reads.Post
 call-steps-result κs a x y s t = same
 
-pub call-steps-hand-back : One Rattle.call_steps.proofs.hand_back.Kinds.ps Rattle.call_steps.proofs.hand_back.Kinds.r Rattle.call_steps.proofs.hand_back.Reads.Post
-call-steps-hand-back κs a x y s t = same
+-- ---- end_steps
 
-pub call-steps-timeout : One Rattle.call_steps.proofs.timeout.Kinds.ps Rattle.call_steps.proofs.timeout.Kinds.r Rattle.call_steps.proofs.timeout.Reads.Post
-call-steps-timeout κs a x y s t = same
+pub end-steps-hand-back : One Rattle.end_steps.proofs.hand_back.Kinds.ps Rattle.end_steps.proofs.hand_back.Kinds.r Rattle.end_steps.proofs.hand_back.Reads.Post
+end-steps-hand-back κs a x y s t = same
 
-pub call-steps-end : One Rattle.call_steps.proofs.end.Kinds.ps Rattle.call_steps.proofs.end.Kinds.r Rattle.call_steps.proofs.end.Reads.Post
-call-steps-end κs a x y s t = same
+pub end-steps-timeout : One Rattle.end_steps.proofs.timeout.Kinds.ps Rattle.end_steps.proofs.timeout.Kinds.r Rattle.end_steps.proofs.timeout.Reads.Post
+end-steps-timeout κs a x y s t = same
 
-pub call-steps-fail : One Rattle.call_steps.proofs.fail.Kinds.ps Rattle.call_steps.proofs.fail.Kinds.r Rattle.call_steps.proofs.fail.Reads.Post
-call-steps-fail κs a x y s t = same
+pub end-steps-end : One Rattle.end_steps.proofs.end.Kinds.ps Rattle.end_steps.proofs.end.Kinds.r Rattle.end_steps.proofs.end.Reads.Post
+end-steps-end κs a x y s t = same
+
+pub end-steps-fail : One Rattle.end_steps.proofs.fail.Kinds.ps Rattle.end_steps.proofs.fail.Kinds.r Rattle.end_steps.proofs.fail.Reads.Post
+end-steps-fail κs a x y s t = same
 
 -- ---- time_steps
 

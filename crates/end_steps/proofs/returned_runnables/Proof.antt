@@ -1,4 +1,4 @@
--- `call_steps::returned_runnables` meets its contract. The loop has been over the places below its counter (`eachBelow`), and takes one more by `each-put`.
+-- `end_steps::returned_runnables` meets its contract. The loop has been over the places below its counter (`eachBelow`), and takes one more by `each-put`.
 -- Assumes nothing.
 use Prim.Native.Nat.{_-_, _≤_, ℕ}
 use borrow.Author.Needs.{needs}
@@ -16,8 +16,8 @@ use Rattle.effects.specs.Steps.{isReturned, returnedRunnables, woken}
 use Rattle.state.specs.Parts.{noRunnable}
 use Rattle.faces.specs.Types.{Runnable}
 use Rattle.shared_steps.proofs.Stopping.{each-put, each-within, runnables-made}
-use Rattle.call_steps.proofs.returned_runnables.Statement.{statement}
-use Rattle.call_steps.proofs.returned_runnables.Tie as tie
+use Rattle.end_steps.proofs.returned_runnables.Statement.{statement}
+use Rattle.end_steps.proofs.returned_runnables.Tie as tie
 
 abbrev Inv-loop : tie.InvT-loop
 Inv-loop o n revents u₀ r₀ u r = (r ≤ n) × (u .at ≡ eachBelow (λ (j : ℕ) (x : Runnable). pick (anyBelow (λ (e : ℕ). both (eqb (returnEventIn revents e .runnable) j) (eqb (returnEventIn revents e .operation) o)) (revents .n)) (woken x) x) noRunnable r (u₀ .at))

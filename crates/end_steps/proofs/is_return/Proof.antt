@@ -1,8 +1,8 @@
--- `call_steps::is_return` meets its contract.
+-- `end_steps::is_return` meets its contract.
 -- Assumes nothing.
 use borrow.Author.Tests.{eq-eqb, ne-eqb}
-use Rattle.call_steps.proofs.is_return.Statement.{statement}
-use Rattle.call_steps.proofs.is_return.Tie as tie
+use Rattle.end_steps.proofs.is_return.Statement.{statement}
+use Rattle.end_steps.proofs.is_return.Tie as tie
 
 returns : tie.Need-returns
 returns c = rw (eq-eqb _ _ (c .before .if1 .taken))

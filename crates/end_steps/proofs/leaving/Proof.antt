@@ -1,7 +1,7 @@
--- `call_steps::leaving` meets its contract.
+-- `end_steps::leaving` meets its contract.
 -- Assumes nothing.
-use Rattle.call_steps.proofs.leaving.Statement.{statement}
-use Rattle.call_steps.proofs.leaving.Tie as tie
+use Rattle.end_steps.proofs.leaving.Statement.{statement}
+use Rattle.end_steps.proofs.leaving.Tie as tie
 
 returns : tie.Need-returns
 returns c = rw (c .down-one .ensures)

@@ -1,10 +1,10 @@
--- `call_steps::end` meets its contract.
+-- `end_steps::end` meets its contract.
 -- Assumes nothing.
 use borrow.Author.Tests.{le-ltb, lt-ltb}
 use Rattle.effects.specs.Steps.{endOf, serves, holds}
 use Rattle.state.specs.Parts.{noSlot, noStack}
-use Rattle.call_steps.proofs.end.Statement.{statement}
-use Rattle.call_steps.proofs.end.Tie as tie
+use Rattle.end_steps.proofs.end.Statement.{statement}
+use Rattle.end_steps.proofs.end.Tie as tie
 
 returns : tie.Need-returns
 unfolding endOf

@@ -1,8 +1,8 @@
--- `call_steps::hand_back` meets its contract.
+-- `end_steps::hand_back` meets its contract.
 -- Assumes nothing.
 use Rattle.effects.specs.Steps.{closed, handBackOf, serves, clientOf, hasFailed, handsNumber, handedBack}
-use Rattle.call_steps.proofs.hand_back.Statement.{statement}
-use Rattle.call_steps.proofs.hand_back.Tie as tie
+use Rattle.end_steps.proofs.hand_back.Statement.{statement}
+use Rattle.end_steps.proofs.hand_back.Tie as tie
 
 returns : tie.Need-returns
 unfolding handBackOf

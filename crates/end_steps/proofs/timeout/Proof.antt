@@ -1,9 +1,9 @@
--- `call_steps::timeout` meets its contract.
+-- `end_steps::timeout` meets its contract.
 -- Assumes nothing.
 use borrow.Author.Tests.{eq-eqb, ne-eqb}
 use Rattle.effects.specs.Steps.{closed, timeoutOf, isOver, isOpen}
-use Rattle.call_steps.proofs.timeout.Statement.{statement}
-use Rattle.call_steps.proofs.timeout.Tie as tie
+use Rattle.end_steps.proofs.timeout.Statement.{statement}
+use Rattle.end_steps.proofs.timeout.Tie as tie
 
 returns : tie.Need-returns
 unfolding timeoutOf closed

@@ -1,7 +1,7 @@
--- `call_steps::handed_back` meets its contract.
+-- `end_steps::handed_back` meets its contract.
 -- Assumes nothing.
-use Rattle.call_steps.proofs.handed_back.Statement.{statement}
-use Rattle.call_steps.proofs.handed_back.Tie as tie
+use Rattle.end_steps.proofs.handed_back.Statement.{statement}
+use Rattle.end_steps.proofs.handed_back.Tie as tie
 
 returns : tie.Need-returns
 returns c = rw (c .if1 .taken)

@@ -1,8 +1,8 @@
--- `call_steps::fail` meets its contract.
+-- `end_steps::fail` meets its contract.
 -- Assumes nothing.
 use Rattle.effects.specs.Steps.{failOf}
-use Rattle.call_steps.proofs.fail.Statement.{statement}
-use Rattle.call_steps.proofs.fail.Tie as tie
+use Rattle.end_steps.proofs.fail.Statement.{statement}
+use Rattle.end_steps.proofs.fail.Tie as tie
 
 returns : tie.Need-returns
 unfolding failOf

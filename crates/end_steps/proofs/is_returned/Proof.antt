@@ -1,4 +1,4 @@
--- `call_steps::is_returned` meets its contract.
+-- `end_steps::is_returned` meets its contract.
 -- Assumes nothing.
 use Prim.Native.Nat.{_-_, _≤_, ℕ}
 use borrow.Author.Needs.{needs}
@@ -10,8 +10,8 @@ use Rattle.config.specs.Tables.{returnEventIn}
 use Rattle.laws.proofs.Looping.{any-here, any-more, any-none}
 use Rattle.laws.specs.Choice.{both}
 use Rattle.laws.specs.Loop.{anyBelow}
-use Rattle.call_steps.proofs.is_returned.Statement.{statement}
-use Rattle.call_steps.proofs.is_returned.Tie as tie
+use Rattle.end_steps.proofs.is_returned.Statement.{statement}
+use Rattle.end_steps.proofs.is_returned.Tie as tie
 
 abbrev Inv-loop : tie.InvT-loop
 Inv-loop t o r n e₀ e = (e ≤ n) × (anyBelow (λ (k : ℕ). both (eqb (returnEventIn t k .runnable) r) (eqb (returnEventIn t k .operation) o)) e ≡ false)

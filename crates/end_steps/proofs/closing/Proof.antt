@@ -1,8 +1,8 @@
--- `call_steps::closing` meets its contract.
+-- `end_steps::closing` meets its contract.
 -- Assumes nothing.
 use Rattle.effects.specs.Steps.{closing}
-use Rattle.call_steps.proofs.closing.Statement.{statement}
-use Rattle.call_steps.proofs.closing.Tie as tie
+use Rattle.end_steps.proofs.closing.Statement.{statement}
+use Rattle.end_steps.proofs.closing.Tie as tie
 
 returns : tie.Need-returns
 unfolding closing

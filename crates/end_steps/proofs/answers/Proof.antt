@@ -1,10 +1,10 @@
--- `call_steps::answers` meets its contract.
+-- `end_steps::answers` meets its contract.
 -- Assumes nothing.
 use mathlib.Core.Bool.{true}
 use mathlib.Core.Path.{_≡_}
 use Rattle.effects.specs.Steps.{answers}
-use Rattle.call_steps.proofs.answers.Statement.{statement}
-use Rattle.call_steps.proofs.answers.Tie as tie
+use Rattle.end_steps.proofs.answers.Statement.{statement}
+use Rattle.end_steps.proofs.answers.Tie as tie
 
 returns : tie.Need-returns
 unfolding answers

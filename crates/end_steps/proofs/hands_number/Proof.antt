@@ -1,8 +1,8 @@
--- `call_steps::hands_number` meets its contract.
+-- `end_steps::hands_number` meets its contract.
 -- Assumes nothing.
 use Rattle.values.specs.Values.{isNumber}
-use Rattle.call_steps.proofs.hands_number.Statement.{statement}
-use Rattle.call_steps.proofs.hands_number.Tie as tie
+use Rattle.end_steps.proofs.hands_number.Statement.{statement}
+use Rattle.end_steps.proofs.hands_number.Tie as tie
 
 returns : tie.Need-returns
 returns c = rw (c .before .if1 .taken, isNumber)
