@@ -28,6 +28,10 @@ use Rattle.config.specs.declared.ReturnEvent.{ReturnEvent}
 use Rattle.config.specs.declared.ReturnEvents.{ReturnEvents}
 use Rattle.config.specs.declared.Config.{Config}
 
+-- the top of a capacity, and so the places of a queue; where it is 0 a runnable is plain, and an element unqueued ("The files", below the table)
+abbrev pub maxCapacity : ℕ
+maxCapacity = 16
+
 -- ---- runnables, at most 16
 
 -- the most runnables that a configuration has ("The parts, and how many")

@@ -9,7 +9,7 @@ use Rattle.numbers.specs.Tags.{partKinds, runnableTag, variableTag, areaTag, re
 use Rattle.laws.specs.Choice.{pick, both, either, alike}
 use Rattle.laws.specs.Loop.{allBelow}
 use Rattle.config.specs.declared.Config.{Config}
-use Rattle.config.specs.Tables.{runnableConfIn, requiredConfIn, providedConfIn}
+use Rattle.config.specs.Tables.{maxCapacity, runnableConfIn, requiredConfIn, providedConfIn}
 use Rattle.entries.specs.declared.Entry.{Entry}
 use Rattle.entries.specs.Entries.{maxOf, countOf, placesOf, entryOf}
 
@@ -20,10 +20,6 @@ maxComponent = 15
 -- an hour in milliseconds: the top of intervals, timeouts and periods ("The files", below the table)
 abbrev pub maxTime : ℕ
 maxTime = 3600000
-
--- the top of a capacity; where it is 0 a runnable is plain, and an element unqueued ("The files", below the table)
-abbrev pub maxCapacity : ℕ
-maxCapacity = 16
 
 -- a time of at least 1 and at most maxTime, an hour ("The files", below the table)
 abbrev pub isTime : ℕ → Bool

@@ -3,9 +3,9 @@ ghost use mathlib.Core.Path.{_≡_};
 ghost use mathlib.Core.Bool.{not};
 ghost use lib.Dec.{leb, ltb, eqb};
 ghost use Rattle.laws.specs.Choice.{both, either, alike, bit};
-ghost use Rattle.config.specs.Tables.{addRunnableConf, addVariableConf, addAreaConf, addRequiredConf, addProvidedConf, addLink, addOperationConf, addTimerConf, addDataEvent, addReturnEvent, providedConfIn};
+ghost use Rattle.config.specs.Tables.{addRunnableConf, addVariableConf, addAreaConf, addRequiredConf, addProvidedConf, addLink, addOperationConf, addTimerConf, addDataEvent, addReturnEvent, maxCapacity, providedConfIn};
 ghost use Rattle.entries.specs.Entries.{maxOf, countOf, entryOf, placed, runnableEntry, variableEntry, areaEntry, requiredEntry, providedEntry, linkEntry, operationEntry, timerEntry, dataEventEntry, returnEventEntry, runnablePart, variablePart, areaPart, requiredPart, providedPart, linkPart, operationPart, timerPart, dataEventPart, returnEventPart, withRunnableConfs, withVariableConfs, withAreaConfs, withRequiredConfs, withProvidedConfs, withLinks, withOperationConfs, withTimerConfs, withDataEvents, withReturnEvents};
-ghost use Rattle.entries.specs.Faults.{maxComponent, maxTime, maxCapacity, isTime, inRange, namesThere, isServer, isQueued, rises, risesAt, pairsWell, entryFault, isNoEntry, placeSound, kindSound, configSound};
+ghost use Rattle.entries.specs.Faults.{maxComponent, maxTime, isTime, inRange, namesThere, isServer, isQueued, rises, risesAt, pairsWell, entryFault, isNoEntry, placeSound, kindSound, configSound};
 use config::AreaConf;
 use config::AreaConfs;
 use config::Config;
@@ -37,8 +37,6 @@ pub struct Entry {
 
 impl Entry {
     pub const MAX_COMPONENT: u8 = 15;
-
-    pub const MAX_CAPACITY: u8 = 16;
 
     // An hour in milliseconds.
     pub const MAX_TIME: u32 = 3600000;
@@ -494,7 +492,7 @@ fn runnable_ranges(e: Entry) -> bool
     if e.first <= Entry::MAX_COMPONENT {
         if e.second <= 3 {
             if e.number <= Entry::MAX_TIME {
-                return e.third <= Entry::MAX_CAPACITY;
+                return e.third <= config::MAX_CAPACITY;
             }
         }
     }
@@ -520,7 +518,7 @@ pub fn in_range(tag: u8, e: Entry) -> bool
         numbers::TAG_RUNNABLE => runnable_ranges(e),
         numbers::TAG_VARIABLE => ranges(e, 1),
         numbers::TAG_AREA => e.first <= Entry::MAX_COMPONENT,
-        numbers::TAG_REQUIRED => ranges(e, Entry::MAX_CAPACITY),
+        numbers::TAG_REQUIRED => ranges(e, config::MAX_CAPACITY),
         numbers::TAG_PROVIDED => ranges(e, 1),
         numbers::TAG_OPERATION => operation_ranges(e),
         numbers::TAG_TIMER => is_time(e.number),

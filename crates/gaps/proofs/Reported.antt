@@ -7,30 +7,31 @@ use mathlib.Core.Path.{_≡_, refl, sym, ap, _∙_}
 use native.Mathlib.Omega.{arith}
 use lib.Dec.{eqb}
 use lib.ListN.{length, length-append}
+use Rattle.numbers.specs.Tags.{stepSize, endSize}
 use Rattle.laws.specs.Choice.{pick}
 use Rattle.faces.specs.Types.{Step}
 use Rattle.recording.specs.Recording.{bytesOf}
 use Rattle.recording.specs.Whole.{textOf}
 use Rattle.gaps.specs.Gaps.{Turn, turnSteps, mendedSteps}
-use Rattle.gaps.specs.Report.{stepNote, gapNote, stepNotes, turnNotes, reportFrom, noteCount}
+use Rattle.gaps.specs.Report.{noteSize, stepNote, gapNote, stepNotes, turnNotes, reportFrom, noteCount}
 
-pub text-length : (ss : List Step) → length (textOf ss) ≡ length ss * 16 + 3
+pub text-length : (ss : List Step) → length (textOf ss) ≡ length ss * stepSize + endSize
 unfolding textOf
 text-length [] = omega arith
 text-length (s ∷ ss) = length-append (bytesOf s) (textOf ss) ∙ omega (arith, text-length ss)
 
-pub notes-length : (n : ℕ) (xs : List Step) → length (stepNotes n xs) ≡ length xs * 16
+pub notes-length : (n : ℕ) (xs : List Step) → length (stepNotes n xs) ≡ length xs * noteSize
 unfolding stepNotes
 notes-length n [] = omega arith
 notes-length n (x ∷ xs) = omega (arith, notes-length (n + 1) xs)
 
-pub report-length : (n : ℕ) (ts : List Turn) → length (reportFrom n ts) ≡ noteCount ts * 16
+pub report-length : (n : ℕ) (ts : List Turn) → length (reportFrom n ts) ≡ noteCount ts * noteSize
 unfolding reportFrom noteCount turnNotes
 report-length n [] = omega arith
 report-length n (t ∷ ts) = go (eqb (t .passed) 0) refl (report-length (n + length (turnSteps t)) ts)
   where
-    go : (b : Bool) → eqb (t .passed) 0 ≡ b → length (reportFrom (n + length (turnSteps t)) ts) ≡ noteCount ts * 16
-        → length (turnNotes n t ++ reportFrom (n + length (turnSteps t)) ts) ≡ (pick (eqb (t .passed) 0) 0 (length (t .inserted) + 1) + noteCount ts) * 16
+    go : (b : Bool) → eqb (t .passed) 0 ≡ b → length (reportFrom (n + length (turnSteps t)) ts) ≡ noteCount ts * noteSize
+        → length (turnNotes n t ++ reportFrom (n + length (turnSteps t)) ts) ≡ (pick (eqb (t .passed) 0) 0 (length (t .inserted) + 1) + noteCount ts) * noteSize
     go true e r = rw e (r ∙ omega arith)
     go false e r =
         rw e

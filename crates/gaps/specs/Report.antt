@@ -25,6 +25,10 @@ onMended (Refused place number) a b = b
 
 -- ---- the report
 
+-- how long a note is (W-209, the report)
+abbrev pub noteSize : ℕ
+noteSize = 16
+
 -- the eight bytes of a place (W-209, the report)
 abbrev pub placeBytes : ℕ → List ℕ
 placeBytes n = bytes32 (n / 4294967296) ++ bytes32 n
@@ -73,7 +77,7 @@ surveyOf step cfg st t =
 
 -- 27, last of all, where the text or the report does not fit its buffer (W-209, 27)
 abbrev pub fitted : List ℕ → List ℕ → Mended → Mended
-fitted b p (Whole steps notes) = pick (both (leb (steps * stepSize + endSize) (length b)) (leb (notes * 16) (length p))) (Whole steps notes) (Refused 0 noRoom)
+fitted b p (Whole steps notes) = pick (both (leb (steps * stepSize + endSize) (length b)) (leb (notes * noteSize) (length p))) (Whole steps notes) (Refused 0 noRoom)
 fitted b p (Refused place number) = Refused place number
 
 -- the answer: 1 at place 0 before all (W-209, refusals)

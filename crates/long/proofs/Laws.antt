@@ -7,9 +7,10 @@ use native.Mathlib.Numerals.{add-one}
 use native.Mathlib.Omega.{arith}
 use lib.ListN.{length, take, drop, getD, set, length-drop}
 use lib.Seq.{paste, paste-suc, length-paste-head, getD-append-add, getD-drop}
+use Rattle.numbers.specs.Tags.{stepSize}
 
 -- a byte that is still to be moved stands where it stood
-held-byte : (b : List ℕ) (i : ℕ) → length b ≡ 65536 → i < 16 → getD (paste b 0 (drop 65520 b) i) (65520 + i) 0 ≡ getD (drop 65520 b) i 0
+held-byte : (b : List ℕ) (i : ℕ) → length b ≡ 65536 → i < stepSize → getD (paste b 0 (drop 65520 b) i) (65520 + i) 0 ≡ getD (drop 65520 b) i 0
 held-byte b i l h =
     let m = length-drop 65520 b in
     let n = length-paste-head b 0 (drop 65520 b) i (omega arith) (omega arith) in
@@ -20,7 +21,7 @@ held-byte b i l h =
     ∙ getD-drop (0 + i) b 65520 0 ∙ ap (λ (k : ℕ). getD b k 0) f ∙ sym (getD-drop 65520 b i 0)
 
 -- one byte more
-pub held-more : (b₀ b : List ℕ) (i : ℕ) → length b₀ ≡ 65536 → i < 16 → b ≡ paste b₀ 0 (drop 65520 b₀) i → set b i (getD b (65520 + i) 0) ≡ paste b₀ 0 (drop 65520 b₀) (i + 1)
+pub held-more : (b₀ b : List ℕ) (i : ℕ) → length b₀ ≡ 65536 → i < stepSize → b ≡ paste b₀ 0 (drop 65520 b₀) i → set b i (getD b (65520 + i) 0) ≡ paste b₀ 0 (drop 65520 b₀) (i + 1)
 held-more b₀ b i l h e =
     let m = length-drop 65520 b₀ in
     let z : i ≡ 0 + i = omega arith in

@@ -4,6 +4,7 @@ ghost use mathlib.Core.Path.{_≡_};
 ghost use Prim.Native.Nat.{_≤_};
 ghost use lib.ListN.{length, drop};
 ghost use lib.Seq.{paste};
+ghost use Rattle.numbers.specs.Tags.{stepSize};
 ghost use Rattle.judging.specs.Judging.{judgeOf};
 ghost use Rattle.judging.specs.Line.{verdictLine};
 ghost use Rattle.parts.specs.Parts.{later, laterVerdict, sure, wholeOf};
@@ -20,9 +21,9 @@ use state::State;
 // The bytes of a part, the steps of it that are judged before more is read, and where the bytes begin that are held for the next.
 const ROOM: usize = 65536;
 
-const SURE: u32 = 4095;
+const SURE: u32 = (ROOM / numbers::SIZE_STEP - 1) as u32;
 
-const HELD: usize = 65520;
+const HELD: usize = ROOM - numbers::SIZE_STEP;
 
 // More parts than any disk has room for. A loop that is proved has to end.
 const PARTS: u32 = 4000000000;
@@ -83,10 +84,10 @@ fn judge_last(cfg: Config, st: State, n: usize, s: &[u8]) -> Judged
 // The bytes that are held, moved to the front of the part.
 fn hold(buf: &mut [u8])
     requires { ⌜ length (now buf) ≡ 65536 ⌝ }
-    ensures { λ _. ⌜ now (buf .exit) ≡ paste (now (buf .entry)) 0 (drop 65520 (now (buf .entry))) 16 ⌝ }
+    ensures { λ _. ⌜ now (buf .exit) ≡ paste (now (buf .entry)) 0 (drop 65520 (now (buf .entry))) stepSize ⌝ }
 {
     let mut i: usize = 0;
-    while i < 16 {
+    while i < numbers::SIZE_STEP {
         buf[i] = buf[HELD + i];
         i = i + 1;
     }
@@ -129,7 +130,7 @@ fn judge_parts(cfg: Config, part: &mut [u8]) -> Came
                 st = j.state;
                 n = n + SURE as usize;
                 hold(part);
-                held = 16;
+                held = numbers::SIZE_STEP;
                 left = left - 1;
             }
             _ => {

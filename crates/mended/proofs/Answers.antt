@@ -9,6 +9,7 @@ use native.Mathlib.Omega.{arith}
 use lib.Dec.{leb}
 use lib.ListN.{length, drop, length-append, length-map}
 use borrow.Author.Tests.{eq-eqb, ne-eqb, le-leb, leb-true, leb-false, ltb-false}
+use Rattle.numbers.specs.Tags.{stepSize, endSize}
 use Rattle.laws.proofs.Choosing.{clash}
 use Rattle.faces.specs.Types.{Step, Config, State, Stepped}
 use Rattle.rules.specs.Sound.{soundOf}
@@ -23,7 +24,7 @@ use Rattle.history.specs.Promises.{Accepted}
 use Rattle.gaps.specs.declared.Mended.{Mended}
 use Rattle.gaps.specs.declared.Mended.the-variants.{Whole, Refused}
 use Rattle.gaps.specs.Gaps.{Turn, sequencesOf, fills, rankOf, canFill, turnOf, turnSteps, turnsOf, stateAfter, mendedSteps}
-use Rattle.gaps.specs.Report.{noteCount, onLast, surveyOf, fitted, mendTo}
+use Rattle.gaps.specs.Report.{noteCount, onLast, surveyOf, fitted, mendTo, noteSize}
 use Rattle.gaps.proofs.Ordered.{passed-before}
 use Rattle.gaps.proofs.Members.{member-at}
 use Rattle.gaps.proofs.Turns.{turns-on}
@@ -138,27 +139,27 @@ module _ (cfg : Config) (st : State) (t b p : List ℕ) where
   mend-stop h x = mend-sound h _ (survey-stop x)
 
   -- the text is a whole recording, and there is room
-  pub mend-whole : soundOf cfg st ≡ true → AllMended cfg st t → isSound t ≡ true → length (mended cfg st t) * 16 + 3 ≤ length b → noteCount (turnsIn cfg st t) * 16 ≤ length p
+  pub mend-whole : soundOf cfg st ≡ true → AllMended cfg st t → isSound t ≡ true → length (mended cfg st t) * stepSize + endSize ≤ length b → noteCount (turnsIn cfg st t) * noteSize ≤ length p
       → mendTo cfg st t b p ≡ Whole (length (mended cfg st t)) (noteCount (turnsIn cfg st t))
   mend-whole h e s l m =
       ⊎-elim
       (λ (x : (isSound t ≡ true) × (wholeOf t .last ≡ End)).
       mend-sound h _ (survey-whole e ∙ ap (λ (y : Field). onLast y (length (stepsIn t)) (Whole (length (mended cfg st t)) (noteCount (turnsIn cfg st t)))) (x .1))
-      ∙ rw (le-leb (length (mended cfg st t) * 16 + 3) (length b) l, le-leb (noteCount (turnsIn cfg st t) * 16) (length p) m))
+      ∙ rw (le-leb (length (mended cfg st t) * stepSize + endSize) (length b) l, le-leb (noteCount (turnsIn cfg st t) * noteSize) (length p) m))
       (λ (x : (isSound t ≡ false) × (wholeOf t .last ≡ NoField (fieldPast (wholeOf t .last)) 18)). absurd (clash (isSound t) s (x .0)))
       (last-is t)
 
-  whole-fitted : (x y : Bool) → leb (length (mended cfg st t) * 16 + 3) (length b) ≡ x → leb (noteCount (turnsIn cfg st t) * 16) (length p) ≡ y
+  whole-fitted : (x y : Bool) → leb (length (mended cfg st t) * stepSize + endSize) (length b) ≡ x → leb (noteCount (turnsIn cfg st t) * noteSize) (length p) ≡ y
       → soundOf cfg st ≡ true → AllMended cfg st t → isSound t ≡ true → mendTo cfg st t b p ≡ fitted b p (Whole (length (mended cfg st t)) (noteCount (turnsIn cfg st t))) → Outcome cfg st t b p (mendTo cfg st t b p)
   whole-fitted true true f g h e s q = whole h e s (leb-true _ _ f) (leb-true _ _ g) (q ∙ rw (f, g))
-  whole-fitted true false f g h e s q = short h e s (inr (leb-false (noteCount (turnsIn cfg st t) * 16) (length p) g)) (q ∙ rw (f, g))
-  whole-fitted false y f g h e s q = short h e s (inl (leb-false (length (mended cfg st t) * 16 + 3) (length b) f)) (q ∙ rw f)
+  whole-fitted true false f g h e s q = short h e s (inr (leb-false (noteCount (turnsIn cfg st t) * noteSize) (length p) g)) (q ∙ rw (f, g))
+  whole-fitted false y f g h e s q = short h e s (inl (leb-false (length (mended cfg st t) * stepSize + endSize) (length b) f)) (q ∙ rw f)
 
   all-mended : soundOf cfg st ≡ true → AllMended cfg st t → Outcome cfg st t b p (mendTo cfg st t b p)
   all-mended h e =
       ⊎-elim
       (λ (l : (isSound t ≡ true) × (wholeOf t .last ≡ End)).
-      whole-fitted (leb (length (mended cfg st t) * 16 + 3) (length b)) (leb (noteCount (turnsIn cfg st t) * 16) (length p)) refl refl h e (l .0)
+      whole-fitted (leb (length (mended cfg st t) * stepSize + endSize) (length b)) (leb (noteCount (turnsIn cfg st t) * noteSize) (length p)) refl refl h e (l .0)
       (mend-sound h _ (survey-whole e ∙ ap (λ (x : Field). onLast x (length (stepsIn t)) (Whole (length (mended cfg st t)) (noteCount (turnsIn cfg st t)))) (l .1))))
       (λ (l : (isSound t ≡ false) × (wholeOf t .last ≡ NoField (fieldPast (wholeOf t .last)) 18)).
       unread h e (l .0) (mend-sound h _ (survey-whole e ∙ ap (λ (x : Field). onLast x (length (stepsIn t)) (Whole (length (mended cfg st t)) (noteCount (turnsIn cfg st t)))) (l .1))))

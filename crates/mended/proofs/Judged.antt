@@ -8,6 +8,7 @@ use mathlib.Core.Path.{_≡_, refl, sym, ap, subst, _∙_}
 use native.Mathlib.Omega.{arith}
 use lib.ListN.{length}
 use borrow.Author.Tests.{ltb-true}
+use Rattle.numbers.specs.Tags.{stepSize, endSize}
 use Rattle.numbers.specs.Codes.{spawnCode, timeoutCode, tickCode}
 use Rattle.faces.specs.Types.{Step, Config, State, Stepped}
 use Rattle.state.specs.Start.{startOf}
@@ -27,7 +28,7 @@ use Rattle.history.specs.Promises.{Accepted}
 use Rattle.history.proofs.Runs.{taken-of}
 use Rattle.gaps.specs.declared.Mended.the-variants.{Whole}
 use Rattle.gaps.specs.Gaps.{sequencesOf, answered, rankOf, canFill, fillOf, answeredAll, turnOf, turnSteps, turnsOf, stateAfter, mendedSteps}
-use Rattle.gaps.specs.Report.{noteCount, mendTo}
+use Rattle.gaps.specs.Report.{noteCount, mendTo, noteSize}
 use Rattle.gaps.proofs.Answers.{spawn, timeout, tick, answered-recorded}
 use Rattle.gaps.proofs.Members.{at-member}
 use Rattle.history.proofs.Together.{demand3}
@@ -89,8 +90,8 @@ pub record Done (cfg : Config) (st : State) (t b p : List ℕ) (n k : ℕ) : Typ
   pub sound : soundOf cfg st ≡ true
   pub kept : AllMended cfg st t
   pub text : isSound t ≡ true
-  pub room : length (mended cfg st t) * 16 + 3 ≤ length b
-  pub paper : noteCount (turnsIn cfg st t) * 16 ≤ length p
+  pub room : length (mended cfg st t) * stepSize + endSize ≤ length b
+  pub paper : noteCount (turnsIn cfg st t) * noteSize ≤ length p
   pub steps : n ≡ length (mended cfg st t)
   pub notes : k ≡ noteCount (turnsIn cfg st t)
 

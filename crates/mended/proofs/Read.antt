@@ -13,7 +13,7 @@ use Rattle.wire.proofs.Laws.{Bytes, be32-bytes}
 use Rattle.recording.specs.Recording.{Recorded}
 use Rattle.recording.specs.Whole.{stepsIn, EachRecorded}
 use Rattle.gaps.specs.Gaps.{sequencesOf}
-use Rattle.gaps.specs.Report.{mendReported}
+use Rattle.gaps.specs.Report.{mendReported, noteSize}
 use Rattle.mended.specs.Claims.{turnsIn, mended}
 use Rattle.mended.specs.Faithful.{Insertable, Note, inserts, mends, noteBytes, notesBytes, insertPlaces, without, Stands, True, noteRead, notesRead, ReportReadsBack}
 use Rattle.mended.proofs.First.{list-is-bounded, first-is-inserted}
@@ -46,7 +46,7 @@ note-back (inserts place x) rest h =
     ∙ ap (inserts place) (λ i. record { code = x .code; who = sym w i; what = x .what; argument = sym a i; claim = x .claim })
 note-back (mends place passed) rest h = ap₂ mends (place-back place (h .0)) (be32-bytes passed (h .1))
 
-note-drop : (y : Note) (rest : List ℕ) → drop 16 (noteBytes y ++ rest) ≡ rest
+note-drop : (y : Note) (rest : List ℕ) → drop noteSize (noteBytes y ++ rest) ≡ rest
 note-drop (inserts place x) rest = refl
 note-drop (mends place passed) rest = refl
 
@@ -54,7 +54,7 @@ notes-back : (ys : List Note) (rest : List ℕ) → ((y : Note) → List·Memᴰ
 unfolding notesRead notesBytes
 notes-back [] rest h = refl
 notes-back (y ∷ ys) rest h =
-    ap (λ (l : List ℕ). noteRead l ∷ notesRead (length ys) (drop 16 l)) (append-assoc (noteBytes y) (notesBytes ys) rest)
+    ap (λ (l : List ℕ). noteRead l ∷ notesRead (length ys) (drop noteSize l)) (append-assoc (noteBytes y) (notesBytes ys) rest)
     ∙ ap₂ (λ (z : Note) (l : List ℕ). z ∷ notesRead (length ys) l) (note-back y (notesBytes ys ++ rest) (h y (List·Memᴰ·head refl))) (note-drop y (notesBytes ys ++ rest))
     ∙ ap (λ (l : List Note). y ∷ l) (notes-back ys rest (λ z m. h z (List·Memᴰ·tail m)))
 
@@ -84,8 +84,8 @@ report-reads-back cfg st t b p n k small h l =
     let m : length (mended cfg st t) < 2 ^ 64 = subst (λ (x : ℕ). x < 2 ^ 64) (d .steps) l in
     let few = list-is-bounded cfg .1 (told cfg st (d .sound) .config) in
     let e : notesRead k (mendReported cfg st t b p) ≡ r .notes =
-    ap₂ notesRead (d .notes ∙ r .count) (buffers-hold cfg st t b p n k h .2 ∙ ap (λ (x : List ℕ). x ++ drop (k * 16) p) (r .bytes))
-    ∙ notes-back (r .notes) (drop (k * 16) p) (λ y j. true-holds cfg st t small few m y (r .each y j)) in (
+    ap₂ notesRead (d .notes ∙ r .count) (buffers-hold cfg st t b p n k h .2 ∙ ap (λ (x : List ℕ). x ++ drop (k * noteSize) p) (r .bytes))
+    ∙ notes-back (r .notes) (drop (k * noteSize) p) (λ y j. true-holds cfg st t small few m y (r .each y j)) in (
       λ x j. r .each x (subst (λ (ys : List Note). List·Memᴰ x ys) e j),
       ap (λ (ys : List Note). without (insertPlaces ys) 0 (mended cfg st t)) e ∙ r .rest ∙ d .kept,
     )

@@ -8,6 +8,7 @@ use mathlib.Core.Path.{_≡_, ap, subst}
 use native.Mathlib.Omega.{arith}
 use lib.Dec.{eqb}
 use lib.ListN.{length, length-append}
+use Rattle.numbers.specs.Tags.{stepSize, endSize}
 use Rattle.laws.specs.Choice.{pick}
 use Rattle.laws.proofs.Choosing.{clash}
 use Rattle.faces.specs.Types.{Step, Config, State, Stepped}
@@ -17,7 +18,7 @@ use Rattle.recording.proofs.OneField.{end-bytes}
 use Rattle.recording.proofs.Texts.{by-fields, step-shorter, whole-step, whole-end, whole-refused}
 use Rattle.gaps.specs.declared.Mended.the-variants.{Refused}
 use Rattle.gaps.specs.Gaps.{Turn, turnOf, turnSteps, turnsOf, mendedSteps}
-use Rattle.gaps.specs.Report.{noteCount, mendTo}
+use Rattle.gaps.specs.Report.{noteCount, mendTo, noteSize}
 use Rattle.mended.specs.Claims.{turnsIn, mended, Outcome, unsound, unfilled, unread, short, whole, FourTimesSuffice}
 use Rattle.mended.proofs.Walks.{turns-each}
 use Rattle.mended.proofs.Answers.{answer-by-cases}
@@ -50,9 +51,9 @@ module _ (f : State → Step → Stepped) (cfg : Config) where
 -- ---- for the bytes
 
 -- a recording has sixteen bytes for each step, and three for its end
-sound-length : (t : List ℕ) → isSound t ≡ true → length (stepsIn t) * 16 + 3 ≡ length t
+sound-length : (t : List ℕ) → isSound t ≡ true → length (stepsIn t) * stepSize + endSize ≡ length t
 sound-length =
-    by-fields (λ t. isSound t ≡ true → length (stepsIn t) * 16 + 3 ≡ length t)
+    by-fields (λ t. isSound t ≡ true → length (stepsIn t) * stepSize + endSize ≡ length t)
     (λ t s n e rest h. let w = whole-step t s n e in
     let r = rest (subst (λ (x : Texted). isEnd (x .last) ≡ true) w h) in
     omega (arith, step-shorter t s n e, ap (λ (x : Texted). length (x .steps)) w))
@@ -73,5 +74,5 @@ four-times-suffice cfg st t b p = (room .0, room .1, λ l m place h. go l m plac
         let g = sound-length t s in
         let x = room .0 in
         let y = room .1 in
-        ⊎-elim (λ (i : length b < length (mended cfg st t) * 16 + 3). omega arith) (λ (i : length p < noteCount (turnsIn cfg st t) * 16). omega arith) o
+        ⊎-elim (λ (i : length b < length (mended cfg st t) * stepSize + endSize). omega arith) (λ (i : length p < noteCount (turnsIn cfg st t) * noteSize). omega arith) o
     go l m place h (whole a k s i j e) = let z : _≡_ {A = ℕ} 0 1 = cc in omega arith

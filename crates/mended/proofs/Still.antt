@@ -6,6 +6,7 @@ use mathlib.Core.List.{List, [], _∷_, _++_, map}
 use mathlib.Core.Path.{_≡_, refl, sym, ap, subst, _∙_}
 use native.Mathlib.Omega.{arith}
 use lib.ListN.{length, drop}
+use Rattle.numbers.specs.Tags.{stepSize, endSize}
 use Rattle.laws.specs.Choice.{pick}
 use Rattle.faces.specs.Types.{Step, Config, State}
 use Rattle.rules.specs.Sound.{soundOf}
@@ -22,7 +23,7 @@ use Rattle.claims.proofs.Counted.{accepted-whole}
 use Rattle.gaps.specs.declared.Mended.{Mended}
 use Rattle.gaps.specs.declared.Mended.the-variants.{Whole, Refused}
 use Rattle.gaps.specs.Gaps.{Turn, turnSteps, turnsOf, stateAfter, mendedSteps}
-use Rattle.gaps.specs.Report.{onMended, reportFrom, noteCount, mendTo, mendReported}
+use Rattle.gaps.specs.Report.{onMended, reportFrom, noteCount, mendTo, mendReported, noteSize}
 use Rattle.gaps.proofs.Reported.{text-length, report-length}
 use Rattle.gaps.proofs.Turns.{bare, turns-on, bare-fills, turn-bare, bare-mended, bare-report, bare-notes}
 use Rattle.mended.specs.Claims.{turnsIn, mended, BuffersHold, RefusalLeaves, Still, AcceptedIsStill, MendedIsStill, MendIsUnique}
@@ -55,9 +56,9 @@ put-front b xs n e = ap (λ (k : ℕ). xs ++ drop k b) (let z : 0 + length xs �
 pub buffers-hold : BuffersHold
 buffers-hold cfg st t b p n k h =
     let d = mended-done cfg st t b p n k h in
-    let l : length (textOf (mended cfg st t)) ≡ n * 16 + 3 = text-length (mended cfg st t) ∙ ap (λ (m : ℕ). m * 16 + 3) (sym (d .steps)) in
-    let m : length (reportFrom 0 (turnsIn cfg st t)) ≡ k * 16 = report-length 0 (turnsIn cfg st t) ∙ ap (λ (m : ℕ). m * 16) (sym (d .notes)) in
-    (rw h (put-front b (textOf (mended cfg st t)) (n * 16 + 3) l), l, rw h (put-front p (reportFrom 0 (turnsIn cfg st t)) (k * 16) m), m)
+    let l : length (textOf (mended cfg st t)) ≡ n * stepSize + endSize = text-length (mended cfg st t) ∙ ap (λ (m : ℕ). m * stepSize + endSize) (sym (d .steps)) in
+    let m : length (reportFrom 0 (turnsIn cfg st t)) ≡ k * noteSize = report-length 0 (turnsIn cfg st t) ∙ ap (λ (m : ℕ). m * noteSize) (sym (d .notes)) in
+    (rw h (put-front b (textOf (mended cfg st t)) (n * stepSize + endSize) l), l, rw h (put-front p (reportFrom 0 (turnsIn cfg st t)) (k * noteSize) m), m)
 
 pub refusal-leaves : RefusalLeaves
 refusal-leaves cfg st t b p place number h = (rw h, rw h)
@@ -74,7 +75,7 @@ module _ (cfg : Config) (st st′ : State) (t : List ℕ) (sound : soundOf cfg s
   notes : noteCount (turnsIn cfg st t) ≡ 0
   notes = ap noteCount turns ∙ bare-notes (stepsIn t)
 
-  long : length (stepsIn t) * 16 + 3 ≡ length t
+  long : length (stepsIn t) * stepSize + endSize ≡ length t
   long = sym (text-length (stepsIn t)) ∙ ap length same
 
   answer : (b p : List ℕ) → length t ≤ length b → mendTo cfg st t b p ≡ Whole (length (stepsIn t)) 0

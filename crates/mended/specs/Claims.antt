@@ -24,7 +24,7 @@ use Rattle.history.specs.Promises.{Answers, Accepted, Run, Demand3}
 use Rattle.gaps.specs.declared.Mended.{Mended}
 use Rattle.gaps.specs.declared.Mended.the-variants.{Whole, Refused}
 use Rattle.gaps.specs.Gaps.{choice, sequencesOf, fills, answeredAll, Turn, turnsOf, stateAfter, mendedSteps}
-use Rattle.gaps.specs.Report.{reportFrom, noteCount, mendTo, mendWritten, mendReported}
+use Rattle.gaps.specs.Report.{reportFrom, noteCount, mendTo, mendWritten, mendReported, noteSize}
 
 -- the turns of the steps that a text reads as (W-209, per gap)
 abbrev pub turnsIn : Config → State → List ℕ → List Turn
@@ -120,8 +120,8 @@ pub data Outcome (cfg : Config) (st : State) (t b p : List ℕ) (r : Mended) : T
   unsound : soundOf cfg st ≡ false → r ≡ Refused 0 notSound → Outcome cfg st t b p r
   unfilled : (place : ℕ) → soundOf cfg st ≡ true → Unfilled cfg st (stepsIn t) place → r ≡ Refused place noFill → Outcome cfg st t b p r
   unread : soundOf cfg st ≡ true → AllMended cfg st t → isSound t ≡ false → r ≡ Refused (length (stepsIn t) + 1 + fieldPast (wholeOf t .last)) badField → Outcome cfg st t b p r
-  short : soundOf cfg st ≡ true → AllMended cfg st t → isSound t ≡ true → ((length b < length (mended cfg st t) * stepSize + endSize) ⊎ (length p < noteCount (turnsIn cfg st t) * 16)) → r ≡ Refused 0 noRoom → Outcome cfg st t b p r
-  whole : soundOf cfg st ≡ true → AllMended cfg st t → isSound t ≡ true → length (mended cfg st t) * 16 + 3 ≤ length b → noteCount (turnsIn cfg st t) * 16 ≤ length p
+  short : soundOf cfg st ≡ true → AllMended cfg st t → isSound t ≡ true → ((length b < length (mended cfg st t) * stepSize + endSize) ⊎ (length p < noteCount (turnsIn cfg st t) * noteSize)) → r ≡ Refused 0 noRoom → Outcome cfg st t b p r
+  whole : soundOf cfg st ≡ true → AllMended cfg st t → isSound t ≡ true → length (mended cfg st t) * stepSize + endSize ≤ length b → noteCount (turnsIn cfg st t) * noteSize ≤ length p
       → r ≡ Whole (length (mended cfg st t)) (noteCount (turnsIn cfg st t)) → Outcome cfg st t b p r
 
 -- every answer is one of these (W-209, refusals)
@@ -167,7 +167,7 @@ abbrev pub BuffersHold : Type 0
 BuffersHold =
     (cfg : Config) (st : State) (t b p : List ℕ) (n k : ℕ) → mendTo cfg st t b p ≡ Whole n k
     → (mendWritten cfg st t b p ≡ textOf (mended cfg st t) ++ drop (n * stepSize + endSize) b) × (length (textOf (mended cfg st t)) ≡ n * stepSize + endSize)
-    × (mendReported cfg st t b p ≡ reportFrom 0 (turnsIn cfg st t) ++ drop (k * 16) p) × (length (reportFrom 0 (turnsIn cfg st t)) ≡ k * 16)
+    × (mendReported cfg st t b p ≡ reportFrom 0 (turnsIn cfg st t) ++ drop (k * noteSize) p) × (length (reportFrom 0 (turnsIn cfg st t)) ≡ k * noteSize)
 
 -- a refusal leaves every lent byte (W-209, refusals)
 abbrev pub RefusalLeaves : Type 0

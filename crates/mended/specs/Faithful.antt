@@ -17,7 +17,7 @@ use Rattle.recording.specs.Whole.{stepsIn}
 use Rattle.history.specs.Promises.{Answers, Accepted}
 use Rattle.gaps.specs.declared.Mended.the-variants.{Whole}
 use Rattle.gaps.specs.Gaps.{Turn, turnsOf, mendedSteps}
-use Rattle.gaps.specs.Report.{stepNote, gapNote, reportFrom, noteCount, mendTo, mendReported}
+use Rattle.gaps.specs.Report.{stepNote, gapNote, reportFrom, noteCount, mendTo, mendReported, noteSize}
 use Rattle.mended.specs.Claims.{turnsIn, mended, AllMended}
 
 -- ---- faithful
@@ -122,7 +122,7 @@ noteRead t =
 -- so many notes, sixteen bytes each (W-209, the report)
 unfoldable pub notesRead : ℕ → List ℕ → List Note
 notesRead zero t = []
-notesRead (suc k) t = noteRead t ∷ notesRead k (drop 16 t)
+notesRead (suc k) t = noteRead t ∷ notesRead k (drop noteSize t)
 
 -- what the lent buffer says, read back: true notes, and the mended steps without those that they name as inserted are the recorded ones (W-209, the report)
 abbrev pub ReportReadsBack : Type 0

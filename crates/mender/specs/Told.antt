@@ -5,6 +5,7 @@ use mathlib.Core.Bool.{Bool}
 use mathlib.Core.List.{List, [], _∷_}
 use lib.Dec.{ltb, eqb}
 use lib.ListN.{length, getD}
+use Rattle.numbers.specs.Tags.{stepSize, endSize}
 use Rattle.laws.specs.Choice.{pick, either}
 use Rattle.state.specs.Start.{startOf}
 use Rattle.wire.specs.Bytes.{numberOf}
@@ -97,4 +98,4 @@ toldLine TooLong = lineBytes tooLongWords []
 
 -- the bytes of a text of so many steps; 0 where a buffer of this length is shorter (W-209, the mended text)
 unfoldable pub textSize : ℕ → ℕ → ℕ
-textSize steps room = pick (ltb room 3) 0 (pick (ltb ((room - 3) / 16) steps) 0 (steps * 16 + 3))
+textSize steps room = pick (ltb room endSize) 0 (pick (ltb ((room - endSize) / stepSize) steps) 0 (steps * stepSize + endSize))

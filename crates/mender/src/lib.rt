@@ -58,7 +58,7 @@ pub fn mend_files(config: &[u8], recording: &[u8], out: &mut [u8], report: &mut 
 }
 
 // The line of a note, written from a place on.
-pub fn put_note(buf: &mut [u8], at: usize, note: &[u8; 16]) -> Wrote
+pub fn put_note(buf: &mut [u8], at: usize, note: &[u8; gaps::NOTE]) -> Wrote
     ensures { λ r. ⌜ Written (now (buf .entry)) at (noteLine (now (note .entry))) r (now (buf .exit)) ⌝ }
 {
     let number = wire::number(note[4], note[5], note[6], note[7]);
@@ -127,11 +127,11 @@ pub fn print_notes(report: &[u8], notes: usize) -> bool {
     let mut at: usize = 0;
     let mut left = notes;
     while left > 0 {
-        if report.len() < at + 16 {
+        if report.len() < at + gaps::NOTE {
             return false;
         }
         if print_note(&report[at..]) {
-            at = at + 16;
+            at = at + gaps::NOTE;
             left = left - 1;
         } else {
             return false;
@@ -142,7 +142,7 @@ pub fn print_notes(report: &[u8], notes: usize) -> bool {
 
 // The line of the note at the front of a report.
 fn print_note(report: &[u8]) -> bool {
-    if report.len() < 16 {
+    if report.len() < gaps::NOTE {
         return false;
     }
     let note = [
@@ -187,11 +187,11 @@ pub fn size_of(steps: usize, out: &[u8]) -> usize
     ensures { λ r. ⌜ r ≤ length (now (out .entry)) ⌝ }
 {
     let room = out.len();
-    if room < 3 {
+    if room < numbers::SIZE_END {
         return 0;
     }
-    if (room - 3) / 16 < steps {
+    if (room - numbers::SIZE_END) / numbers::SIZE_STEP < steps {
         return 0;
     }
-    steps * 16 + 3
+    steps * numbers::SIZE_STEP + numbers::SIZE_END
 }

@@ -8,6 +8,7 @@ use native.Mathlib.Omega.{arith}
 use lib.Dec.{leb, eqb}
 use lib.ListN.{length}
 use borrow.Author.Tests.{eqb-true, leb-true}
+use Rattle.numbers.specs.Tags.{stepSize, endSize}
 use Rattle.laws.specs.Choice.{pick, both}
 use Rattle.laws.proofs.Choosing.{both-left, both-right}
 use Rattle.faces.specs.Types.{Step, Config, State}
@@ -22,7 +23,7 @@ use Rattle.recording.proofs.Texts.{text-again}
 use Rattle.gaps.specs.declared.Mended.{Mended}
 use Rattle.gaps.specs.declared.Mended.the-variants.{Whole, Refused}
 use Rattle.gaps.specs.Gaps.{rankOf, canFill, stateAfter, Turn, turnOf, turnSteps, turnsOf, mendedSteps}
-use Rattle.gaps.specs.Report.{onMended, reportFrom, noteCount, onLast, surveyOf, fitted, mendTo, mendWritten, mendReported}
+use Rattle.gaps.specs.Report.{onMended, reportFrom, noteCount, onLast, surveyOf, fitted, mendTo, mendWritten, mendReported, noteSize}
 use Rattle.gaps.proofs.Same.{turns-once, survey-once}
 use Rattle.gaps.proofs.Reported.{text-length}
 use Rattle.gaps.proofs.Turns.{bare, turn-bare, bare-mended, bare-report}
@@ -41,15 +42,15 @@ refused-leaves a b told = rw told
 -- ---- mended
 
 module _ (b p : List ℕ) {s : Mended} {n m : ℕ} (told : s ≡ Whole n m) where
-  pub fitted-whole : both (leb (n * 16 + 3) (length b)) (leb (m * 16) (length p)) ≡ true → Whole n m ≡ fitted b p s
+  pub fitted-whole : both (leb (n * stepSize + endSize) (length b)) (leb (m * noteSize) (length p)) ≡ true → Whole n m ≡ fitted b p s
   fitted-whole h = sym (ap (fitted b p) told ∙ ap (λ (x : Bool). pick x (Whole n m) (Refused 0 27)) h)
 
-  pub fitted-short : both (leb (n * 16 + 3) (length b)) (leb (m * 16) (length p)) ≡ false → Refused 0 27 ≡ fitted b p s
+  pub fitted-short : both (leb (n * stepSize + endSize) (length b)) (leb (m * noteSize) (length p)) ≡ false → Refused 0 27 ≡ fitted b p s
   fitted-short h = sym (ap (fitted b p) told ∙ ap (λ (x : Bool). pick x (Whole n m) (Refused 0 27)) h)
 
-pub room-told : (n m b p : ℕ) → both (leb (n * 16 + 3) b) (leb (m * 16) p) ≡ true → (n * 16 + 3 ≤ b) × (m * 16 ≤ p)
+pub room-told : (n m b p : ℕ) → both (leb (n * stepSize + endSize) b) (leb (m * noteSize) p) ≡ true → (n * stepSize + endSize ≤ b) × (m * noteSize ≤ p)
 room-told n m b p h =
-    (leb-true (n * 16 + 3) b (both-left (leb (n * 16 + 3) b) (leb (m * 16) p) h), leb-true (m * 16) p (both-right (leb (n * 16 + 3) b) (leb (m * 16) p) h))
+    (leb-true (n * stepSize + endSize) b (both-left (leb (n * stepSize + endSize) b) (leb (m * noteSize) p) h), leb-true (m * noteSize) p (both-right (leb (n * stepSize + endSize) b) (leb (m * noteSize) p) h))
 
 -- ---- nothing was lost
 
@@ -97,11 +98,11 @@ module _ (cfg : Config) (st : State) (t : List ℕ) (n m : ℕ) (whole : surveyO
   same-text : textOf (mendedSteps (turnsOf (innerOf cfg) cfg st (stepsIn t))) ≡ t
   same-text = ap (λ (ts : List Turn). textOf (mendedSteps ts)) quiet ∙ ap textOf (bare-mended (stepsIn t)) ∙ text-again t small (survey-told cfg st t n m whole .1)
 
-  long : length t ≡ n * 16 + 3
+  long : length t ≡ n * stepSize + endSize
   long =
       ap length (sym same-text) ∙ text-length (mendedSteps (turnsOf (innerOf cfg) cfg st (stepsIn t))) ∙ omega (arith, survey-counts cfg st t n m whole .0)
 
-  pub still-text : (b b′ : List ℕ) → n * 16 + 3 ≤ length b → b′ ≡ rewriteWritten t b → b′ ≡ putAt b 0 (textOf (mendedSteps (turnsOf (innerOf cfg) cfg st (stepsIn t))))
+  pub still-text : (b b′ : List ℕ) → n * stepSize + endSize ≤ length b → b′ ≡ rewriteWritten t b → b′ ≡ putAt b 0 (textOf (mendedSteps (turnsOf (innerOf cfg) cfg st (stepsIn t))))
   still-text b b′ h w =
       w ∙ ap (λ (x : Bool). pick x (wroteBytes b 0 t) b) (survey-told cfg st t n m whole .1) ∙ wrote-fits b t 0 (omega (arith, h, long)) ∙ ap (putAt b 0) (sym same-text)
 

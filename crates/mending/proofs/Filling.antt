@@ -8,6 +8,7 @@ use native.Mathlib.Omega.{arith}
 use lib.ListN.{length, getD, length-append}
 use lib.Dec.{ltb}
 use borrow.Author.Tests.{ltb-true, ne-eqb}
+use Rattle.numbers.specs.Tags.{stepSize}
 use Rattle.numbers.specs.Codes.{spawnCode, timeoutCode, tickCode}
 use Rattle.laws.specs.Choice.{pick}
 use Rattle.laws.proofs.Choosing.{pick-has}
@@ -19,7 +20,7 @@ use Rattle.recording.specs.Recording.{Recorded, bytesOf, stepWritten}
 use Rattle.gaps.specs.declared.Choices.{Choices}
 use Rattle.gaps.specs.Orders.{upToThree}
 use Rattle.gaps.specs.Gaps.{countsOf, choicesIn, sequencesOf, rankOf, fillOf, answered, answeredAll, turnOf, turnSteps}
-use Rattle.gaps.specs.Report.{stepNote, gapNote, stepNotes, turnNotes}
+use Rattle.gaps.specs.Report.{stepNote, gapNote, stepNotes, turnNotes, noteSize}
 use Rattle.gaps.proofs.Same.{answered-is}
 use Rattle.gaps.proofs.Reported.{notes-length, notes-one}
 use Rattle.gaps.proofs.Turns.{answered-length}
@@ -50,8 +51,8 @@ module _ (cfg : Config) (all : Choices) (out₀ : List ℕ) (n : ℕ) (report₀
     pub total : done + left .length ≡ fill .length
     pub states : takenAll cfg st (picked all fill) ≡ takenAll cfg reached (picked all left)
     pub steps : answeredAll (innerOf cfg) cfg st (picked all fill) ≡ put ++ answeredAll (innerOf cfg) cfg reached (picked all left)
-    pub text : out ≡ putAt out₀ (n * 16) (fieldsOf put)
-    pub notes : report ≡ putAt report₀ (m * 16) (stepNotes n put)
+    pub text : out ≡ putAt out₀ (n * stepSize) (fieldsOf put)
+    pub notes : report ≡ putAt report₀ (m * noteSize) (stepNotes n put)
     pub out-same : length out ≡ length out₀
     pub report-same : length report ≡ length report₀
 
@@ -64,8 +65,8 @@ module _ (cfg : Config) (all : Choices) (out₀ : List ℕ) (n : ℕ) (report₀
     total = omega arith;
     states = refl;
     steps = refl;
-    text = sym (put-none out₀ (n * 16));
-    notes = sym (put-none report₀ (m * 16));
+    text = sym (put-none out₀ (n * stepSize));
+    notes = sym (put-none report₀ (m * noteSize));
     out-same = refl;
     report-same = refl;
   }
@@ -74,12 +75,12 @@ module _ (cfg : Config) (all : Choices) (out₀ : List ℕ) (n : ℕ) (report₀
       (out report : List ℕ) (reached : State) (left : Picks) (done : ℕ) (f : Filling out report reached left done) where
     -- the text and the notes of the whole fill are there
     pub filling-over : left .length ≡ 0
-        → (reached ≡ takenAll cfg st (picked all fill)) × (out ≡ putAt out₀ (n * 16) (fieldsOf (answeredAll (innerOf cfg) cfg st (picked all fill)))) × (report ≡ putAt report₀ (m * 16) (stepNotes n (answeredAll (innerOf cfg) cfg st (picked all fill))))
+        → (reached ≡ takenAll cfg st (picked all fill)) × (out ≡ putAt out₀ (n * stepSize) (fieldsOf (answeredAll (innerOf cfg) cfg st (picked all fill)))) × (report ≡ putAt report₀ (m * noteSize) (stepNotes n (answeredAll (innerOf cfg) cfg st (picked all fill))))
     unfolding answeredAll
     filling-over e =
         let none : answeredAll (innerOf cfg) cfg reached (picked all left) ≡ [] = ap (answeredAll (innerOf cfg) cfg reached) (picked-none all left e) in
         let whole : f .put ≡ answeredAll (innerOf cfg) cfg st (picked all fill) = sym (f .steps ∙ ap (λ (l : List Step). f .put ++ l) none ∙ append-nil (f .put)) in
-        (sym (f .states ∙ taken-none cfg reached all left e), f .text ∙ ap (λ (l : List Step). putAt out₀ (n * 16) (fieldsOf l)) whole, f .notes ∙ ap (λ (l : List Step). putAt report₀ (m * 16) (stepNotes n l)) whole)
+        (sym (f .states ∙ taken-none cfg reached all left e), f .text ∙ ap (λ (l : List Step). putAt out₀ (n * stepSize) (fieldsOf l)) whole, f .notes ∙ ap (λ (l : List Step). putAt report₀ (m * noteSize) (stepNotes n l)) whole)
 
     module _ (some : 0 < left .length) {x : Step} {r : Stepped} {y : Step} (is : x ≡ choiceAt all (left .first)) (stepped : r ≡ possibleOf cfg reached x) (claims : y ≡ claimingOf x (r .answer)) where
       answers : y ≡ answered cfg reached x
@@ -94,21 +95,21 @@ module _ (cfg : Config) (all : Choices) (out₀ : List ℕ) (n : ℕ) (report₀
           ap (answeredAll (innerOf cfg) cfg reached) (picked-rest all left some (f .short) ∙ ap (λ (z : Step). z ∷ picked all (restOf left)) (sym is))
           ∙ ap₂ (λ (z : Step) (w : Stepped). z ∷ answeredAll (innerOf cfg) cfg (w .state) (picked all (restOf left))) (sym answers) (answered-is cfg reached x ∙ sym stepped)
 
-      pub filling-next : {out′ report′ : List ℕ} {w : Wrote} → out′ ≡ stepWritten out ((n + done) * 16) y
-          → Written report ((m + done) * 16) (noteOf 1 (y .code) (y .what) (y .claim) (n + done + 1)) w report′
+      pub filling-next : {out′ report′ : List ℕ} {w : Wrote} → out′ ≡ stepWritten out ((n + done) * stepSize) y
+          → Written report ((m + done) * noteSize) (noteOf 1 (y .code) (y .what) (y .claim) (n + done + 1)) w report′
           → Filling out′ report′ (r .state) (restOf left) (done + 1)
       filling-next {out′} {report′} {w} wrote noted =
           let long = length-append (f .put) (y ∷ []) in
-          let tx : out′ ≡ putAt out₀ (n * 16) (fieldsOf (f .put ++ (y ∷ []))) =
-          wrote ∙ step-fits out ((n + done) * 16) y (good .good) (omega (arith, f .total, some, room .text, f .out-same))
-          ∙ ap (λ (b : List ℕ). putAt b ((n + done) * 16) (bytesOf y)) (f .text)
-          ∙ put-more out₀ (fieldsOf (f .put)) (bytesOf y) (n * 16) ((n + done) * 16) (omega (arith, room .text)) (omega (arith, length-fields (f .put), f .count))
-          ∙ ap (putAt out₀ (n * 16)) (sym (fields-append (f .put) (y ∷ []) ∙ ap (λ (l : List ℕ). fieldsOf (f .put) ++ l) (fields-one y))) in
-          let nt : report′ ≡ putAt report₀ (m * 16) (stepNotes n (f .put ++ (y ∷ []))) =
-          noted .bytes ∙ wrote-fits report (noteOf 1 (y .code) (y .what) (y .claim) (n + done + 1)) ((m + done) * 16) (omega (arith, f .total, some, room .note, f .report-same))
-          ∙ ap (λ (b : List ℕ). putAt b ((m + done) * 16) (stepNote (n + done + 1) y)) (f .notes)
-          ∙ put-more report₀ (stepNotes n (f .put)) (stepNote (n + done + 1) y) (m * 16) ((m + done) * 16) (omega (arith, room .note)) (omega (arith, notes-length n (f .put), f .count))
-          ∙ ap (putAt report₀ (m * 16)) (ap (λ (k : ℕ). stepNotes n (f .put) ++ stepNote (n + k + 1) y) (f .count) ∙ sym (notes-one n (f .put) y)) in
+          let tx : out′ ≡ putAt out₀ (n * stepSize) (fieldsOf (f .put ++ (y ∷ []))) =
+          wrote ∙ step-fits out ((n + done) * stepSize) y (good .good) (omega (arith, f .total, some, room .text, f .out-same))
+          ∙ ap (λ (b : List ℕ). putAt b ((n + done) * stepSize) (bytesOf y)) (f .text)
+          ∙ put-more out₀ (fieldsOf (f .put)) (bytesOf y) (n * stepSize) ((n + done) * stepSize) (omega (arith, room .text)) (omega (arith, length-fields (f .put), f .count))
+          ∙ ap (putAt out₀ (n * stepSize)) (sym (fields-append (f .put) (y ∷ []) ∙ ap (λ (l : List ℕ). fieldsOf (f .put) ++ l) (fields-one y))) in
+          let nt : report′ ≡ putAt report₀ (m * noteSize) (stepNotes n (f .put ++ (y ∷ []))) =
+          noted .bytes ∙ wrote-fits report (noteOf 1 (y .code) (y .what) (y .claim) (n + done + 1)) ((m + done) * noteSize) (omega (arith, f .total, some, room .note, f .report-same))
+          ∙ ap (λ (b : List ℕ). putAt b ((m + done) * noteSize) (stepNote (n + done + 1) y)) (f .notes)
+          ∙ put-more report₀ (stepNotes n (f .put)) (stepNote (n + done + 1) y) (m * noteSize) ((m + done) * noteSize) (omega (arith, room .note)) (omega (arith, notes-length n (f .put), f .count))
+          ∙ ap (putAt report₀ (m * noteSize)) (ap (λ (k : ℕ). stepNotes n (f .put) ++ stepNote (n + k + 1) y) (f .count) ∙ sym (notes-one n (f .put) y)) in
           record {
             put = f .put ++ (y ∷ []);
             short = omega (arith, f .short);
@@ -118,8 +119,8 @@ module _ (cfg : Config) (all : Choices) (out₀ : List ℕ) (n : ℕ) (report₀
             steps = f .steps ∙ ap (λ (l : List Step). f .put ++ l) next-steps ∙ sym (append-assoc (f .put) (y ∷ []) _);
             text = tx;
             notes = nt;
-            out-same = ap length tx ∙ length-put out₀ (fieldsOf (f .put ++ (y ∷ []))) (n * 16) (omega (arith, length-fields (f .put ++ (y ∷ [])), long, f .count, f .total, some, room .text));
-            report-same = ap length nt ∙ length-put report₀ (stepNotes n (f .put ++ (y ∷ []))) (m * 16) (omega (arith, notes-length n (f .put ++ (y ∷ [])), long, f .count, f .total, some, room .note));
+            out-same = ap length tx ∙ length-put out₀ (fieldsOf (f .put ++ (y ∷ []))) (n * stepSize) (omega (arith, length-fields (f .put ++ (y ∷ [])), long, f .count, f .total, some, room .text));
+            report-same = ap length nt ∙ length-put report₀ (stepNotes n (f .put ++ (y ∷ []))) (m * noteSize) (omega (arith, notes-length n (f .put ++ (y ∷ [])), long, f .count, f .total, some, room .note));
           }
 
 -- ---- a gap, its step and its note
@@ -157,7 +158,7 @@ module _ (cfg : Config) (st : State) (s : Step) (all : Choices) (n m : ℕ) (out
   pub gap-room : Room (n + fill .length) (m + fill .length) (length out) (length report)
   gap-room = record { text = omega (arith, g .room .text, turn-long); note = omega (arith, g .room .note, turn-long) }
 
-  pub gap-more : ((n + (fill .length + 1)) * 16 ≤ length out) × ((m + (fill .length + 1)) * 16 ≤ length report)
+  pub gap-more : ((n + (fill .length + 1)) * stepSize ≤ length out) × ((m + (fill .length + 1)) * noteSize ≤ length report)
   gap-more = (omega (arith, g .room .text, turn-long), omega (arith, g .room .note, turn-long))
 
   module _ {next : State} {last : Stepped} (taken : next ≡ takenAll cfg st (picked all fill)) (stepped : last ≡ innerOf cfg next s) where
@@ -166,28 +167,28 @@ module _ (cfg : Config) (st : State) (s : Step) (all : Choices) (n m : ℕ) (out
         ap₂ (λ (x : State) (i : ℕ). record { state = x; inserted = i })
         (ap (λ (y : Stepped). y .state) stepped ∙ ap (λ (x : State). innerOf cfg x s .state) (taken ∙ ap (takenAll cfg st) filled)) (sym fill-long)
 
-  pub gap-text : {b c : List ℕ} → b ≡ putAt out (n * 16) (fieldsOf (answeredAll (innerOf cfg) cfg st (picked all fill))) → c ≡ stepWritten b ((n + fill .length) * 16) s
-      → c ≡ putAt out (n * 16) (fieldsOf (turnSteps (turnOf (innerOf cfg) cfg st s)))
+  pub gap-text : {b c : List ℕ} → b ≡ putAt out (n * stepSize) (fieldsOf (answeredAll (innerOf cfg) cfg st (picked all fill))) → c ≡ stepWritten b ((n + fill .length) * stepSize) s
+      → c ≡ putAt out (n * stepSize) (fieldsOf (turnSteps (turnOf (innerOf cfg) cfg st s)))
   gap-text {b} {c} put wrote =
-      let first : b ≡ putAt out (n * 16) (fieldsOf (turnOf (innerOf cfg) cfg st s .inserted)) = put ∙ ap (λ (l : List Step). putAt out (n * 16) (fieldsOf l)) inserted-is in
-      let long : length (fieldsOf (turnOf (innerOf cfg) cfg st s .inserted)) ≡ fill .length * 16 = length-fields (turnOf (innerOf cfg) cfg st s .inserted) ∙ ap (λ (i : ℕ). i * 16) inserted-long in
-      let same : length b ≡ length out = ap length first ∙ length-put out (fieldsOf (turnOf (innerOf cfg) cfg st s .inserted)) (n * 16) (omega (arith, long, gap-room .text)) in
-      wrote ∙ step-fits b ((n + fill .length) * 16) s (g .good) (omega (arith, same, gap-more .0))
-      ∙ ap (λ (x : List ℕ). putAt x ((n + fill .length) * 16) (bytesOf s)) first
-      ∙ put-more out (fieldsOf (turnOf (innerOf cfg) cfg st s .inserted)) (bytesOf s) (n * 16) ((n + fill .length) * 16) (omega (arith, gap-room .text)) (omega (arith, long))
-      ∙ ap (putAt out (n * 16)) (sym (fields-append (turnOf (innerOf cfg) cfg st s .inserted) (s ∷ []) ∙ ap (λ (l : List ℕ). fieldsOf (turnOf (innerOf cfg) cfg st s .inserted) ++ l) (fields-one s)))
+      let first : b ≡ putAt out (n * stepSize) (fieldsOf (turnOf (innerOf cfg) cfg st s .inserted)) = put ∙ ap (λ (l : List Step). putAt out (n * stepSize) (fieldsOf l)) inserted-is in
+      let long : length (fieldsOf (turnOf (innerOf cfg) cfg st s .inserted)) ≡ fill .length * stepSize = length-fields (turnOf (innerOf cfg) cfg st s .inserted) ∙ ap (λ (i : ℕ). i * stepSize) inserted-long in
+      let same : length b ≡ length out = ap length first ∙ length-put out (fieldsOf (turnOf (innerOf cfg) cfg st s .inserted)) (n * stepSize) (omega (arith, long, gap-room .text)) in
+      wrote ∙ step-fits b ((n + fill .length) * stepSize) s (g .good) (omega (arith, same, gap-more .0))
+      ∙ ap (λ (x : List ℕ). putAt x ((n + fill .length) * stepSize) (bytesOf s)) first
+      ∙ put-more out (fieldsOf (turnOf (innerOf cfg) cfg st s .inserted)) (bytesOf s) (n * stepSize) ((n + fill .length) * stepSize) (omega (arith, gap-room .text)) (omega (arith, long))
+      ∙ ap (putAt out (n * stepSize)) (sym (fields-append (turnOf (innerOf cfg) cfg st s .inserted) (s ∷ []) ∙ ap (λ (l : List ℕ). fieldsOf (turnOf (innerOf cfg) cfg st s .inserted) ++ l) (fields-one s)))
 
-  pub gap-notes : {b c : List ℕ} {w : Wrote} → b ≡ putAt report (m * 16) (stepNotes n (answeredAll (innerOf cfg) cfg st (picked all fill)))
-      → Written b ((m + fill .length) * 16) (gapNote (n + fill .length + 1) passed) w c
-      → c ≡ putAt report (m * 16) (turnNotes n (turnOf (innerOf cfg) cfg st s))
+  pub gap-notes : {b c : List ℕ} {w : Wrote} → b ≡ putAt report (m * noteSize) (stepNotes n (answeredAll (innerOf cfg) cfg st (picked all fill)))
+      → Written b ((m + fill .length) * noteSize) (gapNote (n + fill .length + 1) passed) w c
+      → c ≡ putAt report (m * noteSize) (turnNotes n (turnOf (innerOf cfg) cfg st s))
   unfolding turnNotes
   gap-notes {b} {c} {w} put noted =
-      let first : b ≡ putAt report (m * 16) (stepNotes n (turnOf (innerOf cfg) cfg st s .inserted)) = put ∙ ap (λ (l : List Step). putAt report (m * 16) (stepNotes n l)) inserted-is in
-      let long : length (stepNotes n (turnOf (innerOf cfg) cfg st s .inserted)) ≡ fill .length * 16 = notes-length n (turnOf (innerOf cfg) cfg st s .inserted) ∙ ap (λ (i : ℕ). i * 16) inserted-long in
-      let same : length b ≡ length report = ap length first ∙ length-put report (stepNotes n (turnOf (innerOf cfg) cfg st s .inserted)) (m * 16) (omega (arith, long, gap-room .note)) in
+      let first : b ≡ putAt report (m * noteSize) (stepNotes n (turnOf (innerOf cfg) cfg st s .inserted)) = put ∙ ap (λ (l : List Step). putAt report (m * noteSize) (stepNotes n l)) inserted-is in
+      let long : length (stepNotes n (turnOf (innerOf cfg) cfg st s .inserted)) ≡ fill .length * noteSize = notes-length n (turnOf (innerOf cfg) cfg st s .inserted) ∙ ap (λ (i : ℕ). i * noteSize) inserted-long in
+      let same : length b ≡ length report = ap length first ∙ length-put report (stepNotes n (turnOf (innerOf cfg) cfg st s .inserted)) (m * noteSize) (omega (arith, long, gap-room .note)) in
       let is : gapNote (n + fill .length + 1) passed ≡ gapNote (n + length (turnOf (innerOf cfg) cfg st s .inserted) + 1) (rankOf (innerOf cfg) cfg st s) = ap₂ (λ (i r : ℕ). gapNote (n + i + 1) r) (sym inserted-long) ranked in
       let gap : rankOf (innerOf cfg) cfg st s ≡ 0 → ⊥ = λ z. omega (arith, g .gap, z) in
-      noted .bytes ∙ wrote-fits b (gapNote (n + fill .length + 1) passed) ((m + fill .length) * 16) (omega (arith, same, gap-more .1))
-      ∙ ap₂ (λ (x y : List ℕ). putAt x ((m + fill .length) * 16) y) first is
-      ∙ put-more report (stepNotes n (turnOf (innerOf cfg) cfg st s .inserted)) (gapNote (n + length (turnOf (innerOf cfg) cfg st s .inserted) + 1) (rankOf (innerOf cfg) cfg st s)) (m * 16) ((m + fill .length) * 16) (omega (arith, gap-room .note)) (omega (arith, long))
-      ∙ ap (λ (x : Bool). putAt report (m * 16) (pick x [] (stepNotes n (turnOf (innerOf cfg) cfg st s .inserted) ++ gapNote (n + length (turnOf (innerOf cfg) cfg st s .inserted) + 1) (rankOf (innerOf cfg) cfg st s)))) (sym (ne-eqb _ _ gap))
+      noted .bytes ∙ wrote-fits b (gapNote (n + fill .length + 1) passed) ((m + fill .length) * noteSize) (omega (arith, same, gap-more .1))
+      ∙ ap₂ (λ (x y : List ℕ). putAt x ((m + fill .length) * noteSize) y) first is
+      ∙ put-more report (stepNotes n (turnOf (innerOf cfg) cfg st s .inserted)) (gapNote (n + length (turnOf (innerOf cfg) cfg st s .inserted) + 1) (rankOf (innerOf cfg) cfg st s)) (m * noteSize) ((m + fill .length) * noteSize) (omega (arith, gap-room .note)) (omega (arith, long))
+      ∙ ap (λ (x : Bool). putAt report (m * noteSize) (pick x [] (stepNotes n (turnOf (innerOf cfg) cfg st s .inserted) ++ gapNote (n + length (turnOf (innerOf cfg) cfg st s .inserted) + 1) (rankOf (innerOf cfg) cfg st s)))) (sym (ne-eqb _ _ gap))

@@ -10,6 +10,8 @@ use lib.ListN.{length, take, drop, length-append, length-drop, take-append-drop}
 use lib.Seq.{take-at, drop-at, drop-drop, length-take-le}
 use lib.Dec.{leb}
 use borrow.Author.Tests.{le-leb, lt-leb}
+use Rattle.gaps.specs.Report.{noteSize}
+use Rattle.numbers.specs.Tags.{stepSize}
 use Rattle.laws.specs.Choice.{pick}
 use Rattle.faces.specs.Types.{Step}
 use Rattle.wire.specs.Bytes.{endBytes, putAt, wroteBytes}
@@ -47,12 +49,12 @@ put-more b xs ys at n h e =
 pub wrote-fits : (b xs : List ℕ) (at : ℕ) → at + length xs ≤ length b → wroteBytes b at xs ≡ putAt b at xs
 wrote-fits b xs at h = ap (λ (x : Bool). pick x (putAt b at xs) b) (le-leb (at + length xs) (length b) h)
 
-pub step-fits : (b : List ℕ) (at : ℕ) (s : Step) → valuesGood s ≡ true → at + 16 ≤ length b → stepWritten b at s ≡ putAt b at (bytesOf s)
+pub step-fits : (b : List ℕ) (at : ℕ) (s : Step) → valuesGood s ≡ true → at + stepSize ≤ length b → stepWritten b at s ≡ putAt b at (bytesOf s)
 step-fits b at s good h = ap (λ (x : Bool). pick x (wroteBytes b at (bytesOf s)) b) good ∙ wrote-fits b (bytesOf s) at h
 
 -- ---- step fields
 
-pub length-fields : (rs : List Step) → length (fieldsOf rs) ≡ length rs * 16
+pub length-fields : (rs : List Step) → length (fieldsOf rs) ≡ length rs * stepSize
 unfolding fieldsOf
 length-fields [] = refl
 length-fields (s ∷ rs) = length-append (bytesOf s) (fieldsOf rs) ∙ omega (arith, length-fields rs)
@@ -71,11 +73,11 @@ unfolding fieldsOf textOf
 text-fields [] = refl
 text-fields (s ∷ rs) = ap (λ (l : List ℕ). bytesOf s ++ l) (text-fields rs) ∙ sym (append-assoc (bytesOf s) (fieldsOf rs) endBytes)
 
--- ---- room, counted in sixteens
+-- ---- room, counted in notes
 
-pub sixteen : (n m : ℕ) → leb n (m / 16) ≡ leb (n * 16) m
-sixteen n m = go (decLe n (m / 16))
+pub notes-room : (n m : ℕ) → leb n (m / noteSize) ≡ leb (n * noteSize) m
+notes-room n m = go (decLe n (m / noteSize))
   where
-    go : Dec (n ≤ m / 16) → leb n (m / 16) ≡ leb (n * 16) m
-    go (yes h) = le-leb n (m / 16) h ∙ sym (le-leb (n * 16) m (omega arith))
-    go (no h) = lt-leb n (m / 16) (omega (arith, h)) ∙ sym (lt-leb (n * 16) m (omega (arith, h)))
+    go : Dec (n ≤ m / noteSize) → leb n (m / noteSize) ≡ leb (n * noteSize) m
+    go (yes h) = le-leb n (m / noteSize) h ∙ sym (le-leb (n * noteSize) m (omega arith))
+    go (no h) = lt-leb n (m / noteSize) (omega (arith, h)) ∙ sym (lt-leb (n * noteSize) m (omega (arith, h)))

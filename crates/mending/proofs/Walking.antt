@@ -12,6 +12,7 @@ use lib.Dec.{eqb}
 use lib.ListN.{length, getD, drop, length-append}
 use lib.Seq.{drop-drop}
 use borrow.Author.Tests.{lt-ltb, le-ltb, eq-eqb, ne-eqb}
+use Rattle.numbers.specs.Tags.{stepSize}
 use Rattle.laws.specs.Choice.{pick}
 use Rattle.faces.specs.Types.{Value, Step, Taken, Refused as Barred, Config, State, Stepped}
 use Rattle.effects.specs.Step.{innerOf}
@@ -43,7 +44,7 @@ use Rattle.searching.proofs.Searching.{Passed}
 -- the turns so far, as many as fields were passed; what is ahead makes up the rest
 pub record Along (cfg : Config) (st : State) (t : List ℕ) (reached : State) (at : ℕ) (done : List Turn) : Type 0 where
   pub inside : at ≤ length t
-  pub places : length done * 16 ≡ at
+  pub places : length done * stepSize ≡ at
   pub turns : turnsOf (innerOf cfg) cfg st (stepsIn t) ≡ done ++ turnsOf (innerOf cfg) cfg reached (stepsIn (drop at t))
   pub steps : length (stepsIn t) ≡ length done + length (stepsIn (drop at t))
   pub last : wholeOf t .last ≡ wholeOf (drop at t) .last
@@ -195,7 +196,7 @@ surveying-starts cfg st t = record { done = []; along = along-starts cfg st t; c
 
 module _ (cfg : Config) (st : State) (t : List ℕ) (reached : State) (count steps notes at : ℕ) (w : Surveying cfg st t reached count steps notes at) where
   -- the counts are small against the text
-  pub surveying-room : (count * 16 ≤ length t) × (steps * 4 ≤ length t) × (notes * 4 ≤ length t)
+  pub surveying-room : (count * stepSize ≤ length t) × (steps * 4 ≤ length t) × (notes * 4 ≤ length t)
   surveying-room =
       let i = w .along .inside in
       let p = w .along .places in

@@ -7,6 +7,7 @@ use mathlib.Core.List.{List, [], _∷_, _++_}
 use mathlib.Core.Path.{_≡_}
 use lib.Dec.{ltb, eqb}
 use lib.ListN.{length}
+use Rattle.numbers.specs.Tags.{stepSize, endSize}
 use Rattle.laws.specs.Choice.{pick}
 use Rattle.faces.specs.Types.{Value, Step, Config, State}
 use Rattle.effects.specs.Step.{possibleOf, innerOf}
@@ -14,7 +15,7 @@ use Rattle.wire.specs.Bytes.{bytes32}
 use Rattle.recording.specs.Recording.{valuesGood, bytesOf}
 use Rattle.gaps.specs.declared.Choices.{Choices}
 use Rattle.gaps.specs.Gaps.{countsOf, rankOf, canFill, fillOf, turnOf, turnSteps}
-use Rattle.gaps.specs.Report.{placeBytes, surveyOf}
+use Rattle.gaps.specs.Report.{placeBytes, surveyOf, noteSize}
 use Rattle.gaps.specs.declared.Mended.the-variants.{Whole}
 use Rattle.searching.specs.Search.{choiceAt}
 use Rattle.mending.specs.declared.Picks.{Picks}
@@ -70,8 +71,8 @@ noteOf kind code what v place = kind ∷ code ∷ what ∷ v .kind ∷ (bytes32 
 
 -- so many steps and notes have room in buffers of these lengths
 pub record Room (steps notes out report : ℕ) : Type 0 where
-  pub text : steps * 16 ≤ out
-  pub note : notes * 16 ≤ report
+  pub text : steps * stepSize ≤ out
+  pub note : notes * noteSize ≤ report
 
 -- what is known of a gap before it is written: some sequence fills it and it is not the empty one, the recorded step can be written, and there is room
 pub record Fillable (cfg : Config) (st : State) (s : Step) (all : Choices) (steps notes out report : ℕ) : Type 0 where
@@ -86,8 +87,8 @@ pub record Mendable (cfg : Config) (st : State) (t : List ℕ) (out report : ℕ
   pub steps : ℕ
   pub notes : ℕ
   pub survey : surveyOf (innerOf cfg) cfg st t ≡ Whole steps notes
-  pub text : steps * 16 + 3 ≤ out
-  pub note : notes * 16 ≤ report
+  pub text : steps * stepSize + endSize ≤ out
+  pub note : notes * noteSize ≤ report
 
 -- the state behind a gap and its step, and how many steps were inserted
 abbrev pub crossedOf : Config → State → Step → Crossed

@@ -3,17 +3,19 @@ ghost use mathlib.Core.Path.{_≡_};
 ghost use Prim.Native.Nat.{_+_, _*_, _≤_};
 ghost use lib.Dec.{leb};
 ghost use lib.ListN.{length};
+ghost use Rattle.numbers.specs.Tags.{stepSize, endSize};
 ghost use Rattle.laws.specs.Choice.{both};
 ghost use Rattle.wire.specs.Bytes.{putAt, Written};
 ghost use Rattle.recording.specs.Whole.{stepsIn, textOf};
 ghost use Rattle.effects.specs.Step.{innerOf};
 ghost use Rattle.gaps.specs.Gaps.{answeredAll, turnOf, turnSteps, turnsOf, mendedSteps};
-ghost use Rattle.gaps.specs.Report.{onMended, stepNotes, turnNotes, reportFrom, onLast, surveyOf, fitted, mendTo, mendWritten, mendReported};
+ghost use Rattle.gaps.specs.Report.{onMended, noteSize, stepNotes, turnNotes, reportFrom, onLast, surveyOf, fitted, mendTo, mendWritten, mendReported};
 ghost use Rattle.gaps.specs.declared.Mended.the-variants.{Whole};
 ghost use Rattle.mending.specs.Going.{fieldsOf, noteOf, Room, Fillable, Mendable, crossedOf, mostOf, picks, picksOf, picked, takenAll};
 use config::Config;
 use gaps::Choices;
 use gaps::Mended;
+use gaps::NOTE;
 use recording::Field;
 use state::State;
 use values::Answer;
@@ -201,8 +203,8 @@ fn write_fill(
 ) -> State
     requires { ⌜ (fill .length ≤ 3) × Room (n + fill .length) (m + fill .length) (length (now out)) (length (now report)) ⌝ }
     ensures { λ r. ⌜ r ≡ takenAll cfg st (picked all fill) ⌝ }
-    ensures { λ r. ⌜ now (out .exit) ≡ putAt (now (out .entry)) (n * 16) (fieldsOf (answeredAll (innerOf cfg) cfg st (picked all fill))) ⌝ }
-    ensures { λ r. ⌜ now (report .exit) ≡ putAt (now (report .entry)) (m * 16) (stepNotes n (answeredAll (innerOf cfg) cfg st (picked all fill))) ⌝ }
+    ensures { λ r. ⌜ now (out .exit) ≡ putAt (now (out .entry)) (n * stepSize) (fieldsOf (answeredAll (innerOf cfg) cfg st (picked all fill))) ⌝ }
+    ensures { λ r. ⌜ now (report .exit) ≡ putAt (now (report .entry)) (m * noteSize) (stepNotes n (answeredAll (innerOf cfg) cfg st (picked all fill))) ⌝ }
 {
     let mut reached = st;
     let mut left = fill;
@@ -212,10 +214,10 @@ fn write_fill(
         let r = machine::possible(cfg, reached, x);
         let a = r.answer;
         let y = searching::claiming(x, a);
-        recording::write_step(out, (n + done) * 16, y);
+        recording::write_step(out, (n + done) * numbers::SIZE_STEP, y);
         write_note(
             report,
-            (m + done) * 16,
+            (m + done) * NOTE,
             1,
             y.code,
             y.what,
@@ -242,20 +244,20 @@ fn write_gap(
 ) -> Crossed
     requires { ⌜ Fillable cfg st s all n m (length (now out)) (length (now report)) ⌝ }
     ensures { λ r. ⌜ r ≡ crossedOf cfg st s ⌝ }
-    ensures { λ r. ⌜ now (out .exit) ≡ putAt (now (out .entry)) (n * 16) (fieldsOf (turnSteps (turnOf (innerOf cfg) cfg st s))) ⌝ }
-    ensures { λ r. ⌜ now (report .exit) ≡ putAt (now (report .entry)) (m * 16) (turnNotes n (turnOf (innerOf cfg) cfg st s)) ⌝ }
+    ensures { λ r. ⌜ now (out .exit) ≡ putAt (now (out .entry)) (n * stepSize) (fieldsOf (turnSteps (turnOf (innerOf cfg) cfg st s))) ⌝ }
+    ensures { λ r. ⌜ now (report .exit) ≡ putAt (now (report .entry)) (m * noteSize) (turnNotes n (turnOf (innerOf cfg) cfg st s)) ⌝ }
 {
     let k = searching::count_of(all);
     let passed = searching::rank(cfg, st, s, all);
     let fill = picks_of(k, passed);
     let next = write_fill(cfg, st, all, fill, out, n, report, m);
     let inserted = fill.length as usize;
-    recording::write_step(out, (n + inserted) * 16, s);
+    recording::write_step(out, (n + inserted) * numbers::SIZE_STEP, s);
     let v = Value {
         kind: 0,
         number: passed as u32,
     };
-    write_note(report, (m + inserted) * 16, 2, 0, 0, v, n + inserted + 1);
+    write_note(report, (m + inserted) * NOTE, 2, 0, 0, v, n + inserted + 1);
     let last = machine::inner(cfg, next, s);
     let reached = last.state;
     Crossed {
@@ -278,14 +280,14 @@ fn write_all(cfg: Config, st: State, s: &[u8], out: &mut [u8], report: &mut [u8]
     loop {
         let f = recording::read_field(s, at);
         let Field::Step(x, size) = f else {
-            recording::write_end(out, steps * 16);
+            recording::write_end(out, steps * numbers::SIZE_STEP);
             return;
         };
         let r = machine::inner(cfg, reached, x);
         let a = r.answer;
         match a {
             Answer::Taken(_) => {
-                recording::write_step(out, steps * 16, x);
+                recording::write_step(out, steps * numbers::SIZE_STEP, x);
                 reached = r.state;
                 steps = steps + 1;
                 at = at + size;
@@ -304,15 +306,15 @@ fn write_all(cfg: Config, st: State, s: &[u8], out: &mut [u8], report: &mut [u8]
 
 // So many steps with their end, and so many notes, have room in buffers of these lengths.
 fn has_room(steps: usize, notes: usize, out: usize, report: usize) -> bool
-    ensures { λ r. ⌜ r ≡ both (leb (steps * 16 + 3) out) (leb (notes * 16) report) ⌝ }
+    ensures { λ r. ⌜ r ≡ both (leb (steps * stepSize + endSize) out) (leb (notes * noteSize) report) ⌝ }
 {
-    if out < 3 {
+    if out < numbers::SIZE_END {
         return false;
     }
-    if (out - 3) / 16 < steps {
+    if (out - numbers::SIZE_END) / numbers::SIZE_STEP < steps {
         return false;
     }
-    notes <= report / 16
+    notes <= report / NOTE
 }
 
 // Mends a recording from a state that is known to be sound. Where nothing is lost, the text is copied and no step is taken twice.

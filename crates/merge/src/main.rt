@@ -34,13 +34,13 @@ fn size_of(steps: usize, out: &[u8]) -> usize
     ensures { λ r. ⌜ r ≤ length (now (out .entry)) ⌝ }
 {
     let room = out.len();
-    if room < 3 {
+    if room < numbers::SIZE_END {
         return 0;
     }
-    if (room - 3) / 16 < steps {
+    if (room - numbers::SIZE_END) / numbers::SIZE_STEP < steps {
         return 0;
     }
-    steps * 16 + 3
+    steps * numbers::SIZE_STEP + numbers::SIZE_END
 }
 
 // Merges and prints. The line is the last to go out: where it is missing, there is no answer.

@@ -10,6 +10,7 @@ use native.Mathlib.Omega.{arith}
 use lib.Dec.{leb}
 use lib.ListN.{length, take}
 use borrow.Author.Tests.{lt-ltb, le-ltb}
+use Rattle.numbers.specs.Tags.{stepSize, endSize}
 use Rattle.laws.specs.Choice.{pick}
 use Rattle.numbers.specs.Refusals.{notSound}
 use Rattle.faces.specs.Types.{Step, Answer, Taken, Refused as Barred, Config, State}
@@ -226,7 +227,7 @@ said t b n h = go (wholeOf t .last) refl h
 
     go : (f : Field) → wholeOf t .last ≡ f → fitted b (onLast f (length (stepsIn t)) (Whole (length (mergedOf (stepsIn t))))) ≡ Whole n → Said t n
     go (IsStep s z) e k = absurd (let z : _≡_ {A = ℕ} 0 1 = cc in omega arith)
-    go End e k = record { last = e; count = room (leb (length (mergedOf (stepsIn t)) * 16 + 3) (length b)) (length (mergedOf (stepsIn t))) k }
+    go End e k = record { last = e; count = room (leb (length (mergedOf (stepsIn t)) * stepSize + endSize) (length b)) (length (mergedOf (stepsIn t))) k }
     go (NoField p r) e k = absurd (let z : _≡_ {A = ℕ} 0 1 = cc in omega arith)
 
 pub tool-keeps : ToolKeeps

@@ -8,6 +8,7 @@ use native.Mathlib.Decide.{decLe}
 use native.Mathlib.Omega.{arith}
 use lib.Dec.{leb, eqb}
 use borrow.Author.Tests.{eqb-true, leb-true, le-leb, lt-leb}
+use Rattle.numbers.specs.Tags.{stepSize, endSize}
 use Rattle.laws.specs.Choice.{pick}
 use Rattle.laws.proofs.Choosing.{both-left, both-right}
 use Rattle.values.specs.declared.Step.{Step}
@@ -63,12 +64,12 @@ fits-left a b h = go (decLe (a + b) longest)
     go (yes l) = le-leb b (longest - a) (omega (arith, l)) ∙ sym (le-leb (a + b) longest l)
     go (no l) = lt-leb b (longest - a) (omega (arith, l, h)) ∙ sym (lt-leb (a + b) longest (omega (arith, l)))
 
-pub room-left : (n m : ℕ) → 3 ≤ m → leb n ((m - 3) / 16) ≡ leb (n * 16 + 3) m
-room-left n m h = go (decLe n ((m - 3) / 16))
+pub room-left : (n m : ℕ) → endSize ≤ m → leb n ((m - endSize) / stepSize) ≡ leb (n * stepSize + endSize) m
+room-left n m h = go (decLe n ((m - endSize) / stepSize))
   where
-    go : Dec (n ≤ (m - 3) / 16) → leb n ((m - 3) / 16) ≡ leb (n * 16 + 3) m
-    go (yes l) = le-leb n ((m - 3) / 16) l ∙ sym (le-leb (n * 16 + 3) m (omega (arith, l, h)))
-    go (no l) = lt-leb n ((m - 3) / 16) (omega (arith, l)) ∙ sym (lt-leb (n * 16 + 3) m (omega (arith, l, h)))
+    go : Dec (n ≤ (m - endSize) / stepSize) → leb n ((m - endSize) / stepSize) ≡ leb (n * stepSize + endSize) m
+    go (yes l) = le-leb n ((m - endSize) / stepSize) l ∙ sym (le-leb (n * stepSize + endSize) m (omega (arith, l, h)))
+    go (no l) = lt-leb n ((m - endSize) / stepSize) (omega (arith, l)) ∙ sym (lt-leb (n * stepSize + endSize) m (omega (arith, l, h)))
 
 -- ---- merged steps can be written down
 

@@ -12,6 +12,7 @@ use lib.ListN.{length, take, drop, length-append, length-drop}
 use lib.Seq.{drop-drop, drop-at, length-take-le, take-length}
 use lib.Dec.{leb}
 use borrow.Author.Tests.{le-leb, leb-true}
+use Rattle.numbers.specs.Tags.{stepSize, endSize}
 use Rattle.laws.specs.Choice.{pick}
 use Rattle.values.specs.declared.Step.{Step}
 use Rattle.wire.specs.Bytes.{endBytes, putAt, wroteBytes, Written}
@@ -73,7 +74,7 @@ no-step t (NoField n k) p e = whole-refused t k n (sym e)
 
 pub record Surveying (t : List ℕ) (last : Step) (count steps at : ℕ) : Type 0 where
   pub inside : at ≤ length t
-  pub places : count * 16 ≡ at
+  pub places : count * stepSize ≡ at
   pub most : steps ≤ count
   pub counted : length (stepsIn t) ≡ count + length (stepsIn (drop at t))
   pub merged : steps + length (mergedFrom last (stepsIn (drop at t))) ≡ 1 + length (mergedOf (stepsIn t))
@@ -84,7 +85,7 @@ surveying-starts t = record { inside = omega arith; places = refl; most = omega 
 
 module _ (t : List ℕ) (last : Step) (count steps at : ℕ) (w : Surveying t last count steps at) where
   -- there are as many fields as sixteens of bytes
-  pub surveying-room : (steps ≤ count) × (count * 16 ≤ length t)
+  pub surveying-room : (steps ≤ count) × (count * stepSize ≤ length t)
   surveying-room = (w .most, omega (arith, w .places, w .inside))
 
   module _ (x : Step) (size : ℕ) (e : fieldOf (drop at t) ≡ IsStep x size) where
@@ -183,7 +184,7 @@ module _ (t b₀ b : List ℕ) (last : Step) (at to : ℕ) (w : Writing t b₀ b
   step-put : (b′ : List ℕ) → b′ ≡ stepWritten b to last → b′ ≡ wroteBytes b to (bytesOf last)
   step-put b′ p = p ∙ ap (λ (q : Bool). pick q (wroteBytes b to (bytesOf last)) b) (w .good)
 
-  pub writing-next : length (textMerged t) ≤ length b₀ → (x : Step) (size : ℕ) → fieldOf (drop at t) ≡ IsStep x size → addsUp last x ≡ false → (b′ : List ℕ) → b′ ≡ stepWritten b to last → Writing t b₀ b′ x (at + size) (to + 16)
+  pub writing-next : length (textMerged t) ≤ length b₀ → (x : Step) (size : ℕ) → fieldOf (drop at t) ≡ IsStep x size → addsUp last x ≡ false → (b′ : List ℕ) → b′ ≡ stepWritten b to last → Writing t b₀ b′ x (at + size) (to + stepSize)
   unfolding textOf
   writing-next room x size e h b′ p =
       let next : drop to (textMerged t) ≡ bytesOf last ++ textOf (mergedFrom x (stepsIn (drop (at + size) t))) = w .ahead ∙ ap textOf (ap (mergedFrom last) (next-steps t at x size e) ∙ merged-off last x _ h) in
@@ -202,20 +203,20 @@ module _ (t b₀ b : List ℕ) (last : Step) (at to : ℕ) (w : Writing t b₀ b
     unfolding textOf
     rest-is = w .ahead ∙ ap (λ (v : Whole). textOf (mergedFrom last (v .steps))) e ∙ ap textOf (merged-none last)
 
-    pub last-fits : to + 16 + 3 ≤ length (textMerged t)
+    pub last-fits : to + stepSize + endSize ≤ length (textMerged t)
     last-fits = omega (arith, length-drop to (textMerged t), ap length rest-is, w .within)
 
     pub last-same : length b′ ≡ length b₀
     last-same = put-same room b′ (bytesOf last) endBytes rest-is (step-put b′ p)
 
-    pub writing-ended : (r : Wrote) (b″ : List ℕ) → Written b′ (to + 16) endBytes r b″ → b″ ≡ putAt b₀ 0 (textMerged t)
+    pub writing-ended : (r : Wrote) (b″ : List ℕ) → Written b′ (to + stepSize) endBytes r b″ → b″ ≡ putAt b₀ 0 (textMerged t)
     writing-ended r b″ q =
         let T = textMerged t in
-        let all : to + 16 + 3 ≡ length T = omega (arith, length-drop to T, ap length rest-is, w .within) in
+        let all : to + stepSize + endSize ≡ length T = omega (arith, length-drop to T, ap length rest-is, w .within) in
         let none : length T ≡ 0 + length T = omega arith in
-        let ahead : drop (to + 16) T ≡ endBytes = put-ahead room b′ (bytesOf last) endBytes rest-is (step-put b′ p) in
-        q .bytes ∙ ap (λ (x : Bool). pick x (putAt b′ (to + 16) endBytes) b′) (le-leb (to + 16 + 3) (length b′) (omega (arith, last-fits, last-same, room)))
-        ∙ grown T b₀ b′ endBytes (to + 16) (omega (arith, last-fits)) room (put-bytes room b′ (bytesOf last) endBytes rest-is (step-put b′ p)) (ahead ∙ sym (ap (λ (l : List ℕ). endBytes ++ drop 3 l) ahead))
+        let ahead : drop (to + stepSize) T ≡ endBytes = put-ahead room b′ (bytesOf last) endBytes rest-is (step-put b′ p) in
+        q .bytes ∙ ap (λ (x : Bool). pick x (putAt b′ (to + stepSize) endBytes) b′) (le-leb (to + stepSize + endSize) (length b′) (omega (arith, last-fits, last-same, room)))
+        ∙ grown T b₀ b′ endBytes (to + stepSize) (omega (arith, last-fits)) room (put-bytes room b′ (bytesOf last) endBytes rest-is (step-put b′ p)) (ahead ∙ sym (ap (λ (l : List ℕ). endBytes ++ drop 3 l) ahead))
         ∙ ap (λ (n : ℕ). take n T ++ drop n b₀) all ∙ ap₂ (λ (l : List ℕ) (n : ℕ). l ++ drop n b₀) (take-length T) none
 
 -- a recording with no step is its end
@@ -223,11 +224,11 @@ pub none-written : (t b₀ b : List ℕ) (f : Field) (r : Wrote) → wholeOf t �
 unfolding textOf mergedOf
 none-written t b₀ b f r e room q =
     let T : textMerged t ≡ endBytes = ap (λ (v : Whole). textOf (mergedOf (v .steps))) e in
-    q .bytes ∙ ap (λ (x : Bool). pick x (putAt b₀ 0 endBytes) b₀) (le-leb (0 + 3) (length b₀) (omega (arith, room, ap length T))) ∙ ap (putAt b₀ 0) (sym T)
+    q .bytes ∙ ap (λ (x : Bool). pick x (putAt b₀ 0 endBytes) b₀) (le-leb (0 + endSize) (length b₀) (omega (arith, room, ap length T))) ∙ ap (putAt b₀ 0) (sym T)
 
 -- ---- the answer
 
-pub text-long : (xs : List Step) → length (textOf xs) ≡ length xs * 16 + 3
+pub text-long : (xs : List Step) → length (textOf xs) ≡ length xs * stepSize + endSize
 unfolding textOf
 text-long [] = refl
 text-long (x ∷ xs) = length-append (bytesOf x) (textOf xs) ∙ omega (arith, text-long xs)
@@ -242,8 +243,8 @@ survey-counts t n h = go (wholeOf t .last) h
     go (NoField p k) e = absurd (let z : _≡_ {A = ℕ} 0 1 = cc in omega arith)
 
 -- what has room for so many steps has room for the text
-pub survey-fits : (t b : List ℕ) (n : ℕ) → surveyOf t ≡ Merges n → leb (n * 16 + 3) (length b) ≡ true → length (textMerged t) ≤ length b
-survey-fits t b n h r = omega (arith, leb-true (n * 16 + 3) (length b) r, text-long (mergedOf (stepsIn t)), survey-counts t n h)
+pub survey-fits : (t b : List ℕ) (n : ℕ) → surveyOf t ≡ Merges n → leb (n * stepSize + endSize) (length b) ≡ true → length (textMerged t) ≤ length b
+survey-fits t b n h r = omega (arith, leb-true (n * stepSize + endSize) (length b) r, text-long (mergedOf (stepsIn t)), survey-counts t n h)
 
 module _ (t b : List ℕ) where
   -- a refusal, and nothing is written
@@ -252,11 +253,11 @@ module _ (t b : List ℕ) where
   refused-to {r} {p} {k} h e = let s : surveyOf t ≡ Refused p k = sym h ∙ e in (rw s e, rw s)
 
   -- all has room
-  pub whole-to : (n : ℕ) → surveyOf t ≡ Merges n → leb (n * 16 + 3) (length b) ≡ true → (Merges n ≡ mergeTo t b) × (putAt b 0 (textMerged t) ≡ mergeWritten t b)
+  pub whole-to : (n : ℕ) → surveyOf t ≡ Merges n → leb (n * stepSize + endSize) (length b) ≡ true → (Merges n ≡ mergeTo t b) × (putAt b 0 (textMerged t) ≡ mergeWritten t b)
   unfolding mergeTo
   whole-to n s r = (rw (s, r), rw (s, r))
 
   -- it has not
-  pub short-to : (n : ℕ) → surveyOf t ≡ Merges n → leb (n * 16 + 3) (length b) ≡ false → (Refused 0 27 ≡ mergeTo t b) × (b ≡ mergeWritten t b)
+  pub short-to : (n : ℕ) → surveyOf t ≡ Merges n → leb (n * stepSize + endSize) (length b) ≡ false → (Refused 0 27 ≡ mergeTo t b) × (b ≡ mergeWritten t b)
   unfolding mergeTo
   short-to n s r = (rw (s, r), rw (s, r))

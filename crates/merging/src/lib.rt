@@ -3,6 +3,7 @@ ghost use mathlib.Core.Path.{_≡_};
 ghost use Prim.Native.Nat.{_+_, _*_, _≤_};
 ghost use lib.Dec.{leb};
 ghost use lib.ListN.{length};
+ghost use Rattle.numbers.specs.Tags.{stepSize, endSize};
 ghost use Rattle.wire.specs.Bytes.{putAt};
 ghost use Rattle.recording.specs.declared.Field.the-variants.{Step as IsStep};
 ghost use Rattle.recording.specs.Recording.{fieldOf};
@@ -132,7 +133,7 @@ fn write_from(s: &[u8], first: Step, size: usize, out: &mut [u8])
         let f = recording::read_field(s, at);
         let Field::Step(x, n) = f else {
             recording::write_step(out, to, last);
-            recording::write_end(out, to + 16);
+            recording::write_end(out, to + numbers::SIZE_STEP);
             return;
         };
         if adds_up(last, x) {
@@ -141,7 +142,7 @@ fn write_from(s: &[u8], first: Step, size: usize, out: &mut [u8])
         } else {
             recording::write_step(out, to, last);
             last = x;
-            to = to + 16;
+            to = to + numbers::SIZE_STEP;
             at = at + n;
         }
     }
@@ -162,12 +163,12 @@ fn write_all(s: &[u8], out: &mut [u8])
 
 // So many steps with their end have room in a buffer of this length.
 fn has_room(steps: usize, out: usize) -> bool
-    ensures { λ r. ⌜ r ≡ leb (steps * 16 + 3) out ⌝ }
+    ensures { λ r. ⌜ r ≡ leb (steps * stepSize + endSize) out ⌝ }
 {
-    if out < 3 {
+    if out < numbers::SIZE_END {
         return false;
     }
-    steps <= (out - 3) / 16
+    steps <= (out - numbers::SIZE_END) / numbers::SIZE_STEP
 }
 
 // Merges neighbouring waits of a recording into a lent buffer. A refusal leaves it as it is.

@@ -8,6 +8,7 @@ use native.Mathlib.Omega.{arith}
 use lib.ListN.{length, drop, getD, length-append, List·getD-append}
 use lib.Seq.{drop-drop, drop-append-le}
 use borrow.Author.Tests.{le-ltb, ne-eqb}
+use Rattle.numbers.specs.Tags.{stepSize}
 use Rattle.faces.specs.Types.{Step, State, Stepped}
 use Rattle.recording.specs.Recording.{fieldOf, stepIn, endIn}
 use Rattle.recording.proofs.OneField.{step-told, refused-18}
@@ -19,16 +20,16 @@ use Rattle.parts.specs.Parts.{later}
 
 -- ---- the field at the front of a text that has 16 bytes does not depend on what follows
 
-field-front : (t r : List ℕ) → 16 ≤ length t → fieldOf (t ++ r) ≡ fieldOf t
+field-front : (t r : List ℕ) → stepSize ≤ length t → fieldOf (t ++ r) ≡ fieldOf t
 unfolding fieldOf stepIn endIn
 field-front t r h =
     let n = length-append t r in
-    let at : (i : ℕ) → i < 16 → getD (t ++ r) i 0 ≡ getD t i 0 = λ i l. List·getD-append t r 0 i (omega (arith, l)) in
+    let at : (i : ℕ) → i < stepSize → getD (t ++ r) i 0 ≡ getD t i 0 = λ i l. List·getD-append t r 0 i (omega (arith, l)) in
     simp (
       le-ltb (length (t ++ r)) 3 (omega arith),
       le-ltb (length t) 3 (omega arith),
-      le-ltb (length (t ++ r)) 16 (omega arith),
-      le-ltb (length t) 16 (omega arith),
+      le-ltb (length (t ++ r)) stepSize (omega arith),
+      le-ltb (length t) stepSize (omega arith),
       ne-eqb (length (t ++ r)) 3 (λ e. omega (arith, e)),
       ne-eqb (length t) 3 (λ e. omega (arith, e)),
       at 0 (omega arith),
@@ -77,9 +78,9 @@ module _ (f : State → Step → Stepped) where
       })
 
   -- ---- bytes that are not looked at
-  pub judged-front : (r : List ℕ) (a : ℕ) (t : List ℕ) (n : ℕ) (st : State) → 16 * a + 16 ≤ length t → judgeFrom f a (t ++ r) n st ≡ judgeFrom f a t n st
+  pub judged-front : (r : List ℕ) (a : ℕ) (t : List ℕ) (n : ℕ) (st : State) → stepSize * a + stepSize ≤ length t → judgeFrom f a (t ++ r) n st ≡ judgeFrom f a t n st
   judged-front r =
-      judged-each f (λ a t n st j. 16 * a + 16 ≤ length t → judgeFrom f a (t ++ r) n st ≡ j)
+      judged-each f (λ a t n st j. stepSize * a + stepSize ≤ length t → judgeFrom f a (t ++ r) n st ≡ j)
       (record {
         starved = λ t n st s z e h. starved f (t ++ r) n st (field-front t r (omega (arith, h)) ∙ e);
         ended = λ a t n st e h. ended f (t ++ r) n st a (field-front t r (omega (arith, h)) ∙ e);
@@ -91,17 +92,17 @@ module _ (f : State → Step → Stepped) where
       })
 
   -- ---- where an unfinished recording goes on: behind as many fields of 16 bytes
-  pub rest-drop : (a : ℕ) (t : List ℕ) (n : ℕ) (st : State) → judgeFrom f a t n st .verdict ≡ Unfinished → restOf a t ≡ drop (16 * a) t
+  pub rest-drop : (a : ℕ) (t : List ℕ) (n : ℕ) (st : State) → judgeFrom f a t n st .verdict ≡ Unfinished → restOf a t ≡ drop (stepSize * a) t
   unfolding restOf
   rest-drop =
-      judged-each f (λ a t n st j. j .verdict ≡ Unfinished → restOf a t ≡ drop (16 * a) t)
+      judged-each f (λ a t n st j. j .verdict ≡ Unfinished → restOf a t ≡ drop (stepSize * a) t)
       (record {
         starved = λ t n st s z e u. refl;
         ended = λ a t n st e u. absurd (unfinished-accepted (sym u));
         stopped = λ a t n st k p e u. absurd (unfinished-refused (sym u));
         barred = λ a t n st s z k e q u. absurd (unfinished-refused (sym u));
-        went = λ a t n st s z v j e q rest u. let far : z + 16 * a ≡ 16 * suc a = omega (arith, step-told t s z e .size) in
-            rw e (rest u ∙ drop-drop (16 * a) z t ∙ ap (λ (k : ℕ). drop k t) far);
+        went = λ a t n st s z v j e q rest u. let far : z + stepSize * a ≡ stepSize * suc a = omega (arith, step-told t s z e .size) in
+            rw e (rest u ∙ drop-drop (stepSize * a) z t ∙ ap (λ (k : ℕ). drop k t) far);
       })
 
   -- ---- what each step keeps, all of them keep

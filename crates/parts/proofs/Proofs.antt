@@ -8,6 +8,7 @@ use native.Mathlib.Omega.{arith}
 use lib.Dec.{ltb}
 use lib.ListN.{length, drop, length-append, length-drop}
 use lib.Seq.{drop-append-le}
+use Rattle.numbers.specs.Tags.{stepSize}
 use Rattle.laws.specs.Choice.{pick, either}
 use Rattle.faces.specs.Types.{Config, State}
 use Rattle.state.specs.Start.{startOf}
@@ -55,7 +56,7 @@ whole-is cfg st t a h l =
     ∙ judged-stays (stepOf cfg) (length t) (a - length t) t 0 st (judged-finishes (stepOf cfg) (length t) t 0 st (omega arith))
     ∙ sym (judged-from cfg st t (length t) h)
 
-module _ (cfg : Config) (st : State) (s r : List ℕ) (h : soundOf cfg st ≡ true) (long : 16 ≤ length s) where
+module _ (cfg : Config) (st : State) (s r : List ℕ) (h : soundOf cfg st ≡ true) (long : stepSize ≤ length s) where
   part-is : judgeOf cfg st s (sure s) ≡ judgeFrom (stepOf cfg) (sure s) s 0 st
   part-is = judged-from cfg st s (sure s) h
 
@@ -73,18 +74,18 @@ module _ (cfg : Config) (st : State) (s r : List ℕ) (h : soundOf cfg st ≡ tr
       ∙ more-allowed
 
   -- and a part without one leaves the rest to be judged from the state that it led to
-  part-goes-on : judgeOf cfg st s (sure s) .verdict ≡ Unfinished → wholeOf cfg st (s ++ r) ≡ later (sure s) (wholeOf cfg (judgeOf cfg st s (sure s) .state) (drop (16 * sure s) s ++ r))
+  part-goes-on : judgeOf cfg st s (sure s) .verdict ≡ Unfinished → wholeOf cfg st (s ++ r) ≡ later (sure s) (wholeOf cfg (judgeOf cfg st s (sure s) .state) (drop (stepSize * sure s) s ++ r))
   part-goes-on u =
       let f = stepOf cfg in
       let a = sure s in
       let b = length (s ++ r) - sure s in
       let st′ = judgeFrom f a (s ++ r) 0 st .state in
-      let t′ = drop (16 * a) s ++ r in
+      let t′ = drop (stepSize * a) s ++ r in
       let u′ : judgeFrom f a (s ++ r) 0 st .verdict ≡ Unfinished = ap (λ (j : Judged). j .verdict) (front ∙ sym part-is) ∙ u in
-      let d : restOf a (s ++ r) ≡ t′ = rest-drop f a (s ++ r) 0 st u′ ∙ drop-append-le (16 * a) s r (omega arith) in
+      let d : restOf a (s ++ r) ≡ t′ = rest-drop f a (s ++ r) 0 st u′ ∙ drop-append-le (stepSize * a) s r (omega arith) in
       let n : 0 + a ≡ a + 0 = omega arith in
       let k : soundOf cfg st′ ≡ true = judged-keeps f (soundOf cfg) (kept-step cfg) a (s ++ r) 0 st h in
-      let l : length t′ ≤ b = omega (arith, length-append s r, length-append (drop (16 * a) s) r, length-drop (16 * a) s) in
+      let l : length t′ ≤ b = omega (arith, length-append s r, length-append (drop (stepSize * a) s) r, length-drop (stepSize * a) s) in
       let g = judged-goes-on f a b (s ++ r) 0 st u′ .1 in
       sym more-allowed ∙ g ∙ ap₂ (λ (t : List ℕ) (m : ℕ). judgeFrom f b t m st′) d n ∙ judged-later f a b t′ 0 st′
       ∙ ap (later a) (whole-is cfg st′ t′ b k l) ∙ ap (λ (j : Judged). later a (wholeOf cfg (j .state) t′)) (front ∙ sym part-is)
@@ -107,15 +108,15 @@ unfolding inParts
 parts-as-one cfg st n held [] h l = ap (λ (t : List ℕ). later n (wholeOf cfg st t)) (sym (append-nil held))
 parts-as-one cfg st n held (p ∷ ps) h l =
     go (judgeOf cfg st (held ++ p) (sure (held ++ p)) .verdict) refl
-    (λ k. parts-as-one cfg (judgeOf cfg st (held ++ p) (sure (held ++ p)) .state) (n + sure (held ++ p)) (drop (16 * sure (held ++ p)) (held ++ p)) ps k (l .1))
+    (λ k. parts-as-one cfg (judgeOf cfg st (held ++ p) (sure (held ++ p)) .state) (n + sure (held ++ p)) (drop (stepSize * sure (held ++ p)) (held ++ p)) ps k (l .1))
     ∙ ap (λ (t : List ℕ). later n (wholeOf cfg st t)) (append-assoc held p (joined ps))
   where
-    long : 16 ≤ length (held ++ p)
+    long : stepSize ≤ length (held ++ p)
     long = omega (arith, length-append held p, l .0)
 
     Rest : Type 0
-    Rest = soundOf cfg (judgeOf cfg st (held ++ p) (sure (held ++ p)) .state) ≡ true → inParts cfg (judgeOf cfg st (held ++ p) (sure (held ++ p)) .state) (n + sure (held ++ p)) (drop (16 * sure (held ++ p)) (held ++ p)) ps
-        ≡ later (n + sure (held ++ p)) (wholeOf cfg (judgeOf cfg st (held ++ p) (sure (held ++ p)) .state) (drop (16 * sure (held ++ p)) (held ++ p) ++ joined ps))
+    Rest = soundOf cfg (judgeOf cfg st (held ++ p) (sure (held ++ p)) .state) ≡ true → inParts cfg (judgeOf cfg st (held ++ p) (sure (held ++ p)) .state) (n + sure (held ++ p)) (drop (stepSize * sure (held ++ p)) (held ++ p)) ps
+        ≡ later (n + sure (held ++ p)) (wholeOf cfg (judgeOf cfg st (held ++ p) (sure (held ++ p)) .state) (drop (stepSize * sure (held ++ p)) (held ++ p) ++ joined ps))
 
     Other : Type 0
     Other = judgeOf cfg st (held ++ p) (sure (held ++ p)) .verdict ≡ Unfinished → ⊥
@@ -128,7 +129,7 @@ parts-as-one cfg st n held (p ∷ ps) h l =
     go (Refused q k) e rest = let not : Other = λ u. unfinished-refused (sym u ∙ e) in on-done _ _ _ not ∙ stop not
     go Unfinished e rest =
         on-more _ _ _ e ∙ rest (part-sound cfg st (held ++ p) (joined ps) h long)
-        ∙ sym (later-twice n (sure (held ++ p)) (wholeOf cfg (judgeOf cfg st (held ++ p) (sure (held ++ p)) .state) (drop (16 * sure (held ++ p)) (held ++ p) ++ joined ps)))
+        ∙ sym (later-twice n (sure (held ++ p)) (wholeOf cfg (judgeOf cfg st (held ++ p) (sure (held ++ p)) .state) (drop (stepSize * sure (held ++ p)) (held ++ p) ++ joined ps)))
         ∙ ap (later n) (sym (part-goes-on cfg st (held ++ p) (joined ps) h long e))
 
 -- ---- how far a part reaches

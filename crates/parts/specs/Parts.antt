@@ -6,6 +6,7 @@ use mathlib.Core.List.{List, [], _∷_, _++_}
 use mathlib.Core.Path.{_≡_}
 use lib.Dec.{ltb}
 use lib.ListN.{length, drop}
+use Rattle.numbers.specs.Tags.{stepSize}
 use Rattle.laws.specs.Choice.{pick}
 use Rattle.faces.specs.Types.{Config, State}
 use Rattle.state.specs.Start.{startOf}
@@ -35,7 +36,7 @@ wholeOf cfg st t = judgeOf cfg st t (length t)
 
 -- how many steps of a part are judged before more is read: a step has 16 bytes, and 16 bytes more stay for the field that is next ("The files", recording)
 abbrev pub sure : List ℕ → ℕ
-sure s = length s / 16 - 1
+sure s = length s / stepSize - 1
 
 -- by cases on a verdict: unfinished, or any other ("Judging")
 abbrev pub onUnfinished : {A : Type 0} → Verdict → A → A → A
@@ -48,7 +49,7 @@ unfoldable pub inParts : Config → State → ℕ → List ℕ → List (List �
 inParts cfg st n held [] = later n (wholeOf cfg st held)
 inParts cfg st n held (p ∷ ps) =
     onUnfinished (judgeOf cfg st (held ++ p) (sure (held ++ p)) .verdict)
-    (inParts cfg (judgeOf cfg st (held ++ p) (sure (held ++ p)) .state) (n + sure (held ++ p)) (drop (16 * sure (held ++ p)) (held ++ p)) ps)
+    (inParts cfg (judgeOf cfg st (held ++ p) (sure (held ++ p)) .state) (n + sure (held ++ p)) (drop (stepSize * sure (held ++ p)) (held ++ p)) ps)
     (later n (judgeOf cfg st (held ++ p) (sure (held ++ p))))
 
 -- the parts, one behind the other ("The files")
@@ -59,7 +60,7 @@ joined (p ∷ ps) = p ++ joined ps
 -- each part is long enough for a step ("The files", recording)
 abbrev pub EachLong : List (List ℕ) → Type 0
 EachLong [] = Unit {0}
-EachLong (p ∷ ps) = (16 ≤ length p) × EachLong ps
+EachLong (p ∷ ps) = (stepSize ≤ length p) × EachLong ps
 
 -- the line for a recording of any length: the judge's own, but for the two limits of a recording ("Judging", the program)
 unfoldable pub longLine : List ℕ → List ℕ → Line

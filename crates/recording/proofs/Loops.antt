@@ -9,6 +9,7 @@ use lib.ListN.{length, take, drop, length-append, length-drop}
 use lib.Seq.{drop-drop, length-take-le, take-length}
 use lib.Dec.{leb}
 use borrow.Author.Tests.{le-leb, lt-leb, leb-true}
+use Rattle.numbers.specs.Tags.{stepSize}
 use Rattle.laws.specs.Choice.{pick}
 use Rattle.laws.proofs.Choosing.{clash, pick-on}
 use Rattle.values.specs.declared.Step.{Step}
@@ -32,7 +33,7 @@ pub reading-starts : (s : List ℕ) → Reading s 0
 reading-starts s = record { inside = omega arith; sound = refl }
 
 -- a step that is ahead lies inside
-pub step-room : (s : List ℕ) (at n : ℕ) (x : Step) → at ≤ length s → fieldOf (drop at s) ≡ IsStep x n → (at + n ≤ length s) × (n ≡ 16)
+pub step-room : (s : List ℕ) (at n : ℕ) (x : Step) → at ≤ length s → fieldOf (drop at s) ≡ IsStep x n → (at + n ≤ length s) × (n ≡ stepSize)
 step-room s at n x i e = let f = step-told (drop at s) x n e in let l = length-drop at s in let z = f .size in let m = f .long in (omega arith, z)
 
 sound-on : (s : List ℕ) (at n : ℕ) (x : Step) → fieldOf (drop at s) ≡ IsStep x n → isSound (drop at s) ≡ isSound (drop (at + n) s)
@@ -86,7 +87,7 @@ module _ (s b₀ b b′ : List ℕ) (at : ℕ) (k : Copying s b₀ b at) (room :
       let f = step-told (drop at s) x n e in
       let v : b′ ≡ wroteBytes b at (bytesOf x) = w ∙ ap (λ (q : Bool). pick q (wroteBytes b at (bytesOf x)) b) (f .good) in
       let d = step-bytes (drop at s) x n (bytes-drop s at small) e in
-      let z : at + 16 ≡ at + n = ap (λ (m : ℕ). at + m) (sym (f .size)) in
+      let z : at + stepSize ≡ at + n = ap (λ (m : ℕ). at + m) (sym (f .size)) in
       record {
         inside = step-room s at n x (k .inside) e .0;
         sound = sym (sound-on s at n x e) ∙ k .sound;
@@ -125,7 +126,7 @@ not-to : {r n : ℕ} {A : Type 0} → NotWritten r ≡ To n → A
 not-to e = let z : _≡_ {A = ℕ} 0 1 = cc in absurd (omega arith)
 
 refused-as : (x y : Bool) (m n : ℕ) (s : Step) → pick x (pick y (To m) (NotWritten 27)) (NotWritten 18) ≡ NotWritten n
-    → Refused 0 n ≡ pick x (pick y (IsStep s 16) (Refused 0 27)) (Refused 0 18)
+    → Refused 0 n ≡ pick x (pick y (IsStep s stepSize) (Refused 0 27)) (Refused 0 18)
 refused-as true true m n s e = not-to (sym e)
 refused-as true false m n s e = let q : n ≡ 27 = cc in ap (λ (k : ℕ). Refused 0 k) q
 refused-as false y m n s e = let q : n ≡ 18 = cc in ap (λ (k : ℕ). Refused 0 k) q
@@ -134,14 +135,14 @@ module _ (b b′ : List ℕ) (at : ℕ) (s : Step) (r : Wrote) (to : r ≡ stepT
   pub back-read : (n : ℕ) → s .argument .number < 2 ^ 32 → s .claim .number < 2 ^ 32 → r ≡ To n → fieldOf (drop at b′) ≡ writeAndReadOf b at s
   back-read n ha hc e =
       let p = pick-on (valuesGood s) _ _ (To n) (sym to ∙ e) not-to in
-      let q = pick-on (leb (at + 16) (length b)) _ _ (To n) (p .1) not-to in
+      let q = pick-on (leb (at + stepSize) (length b)) _ _ (To n) (p .1) not-to in
       let good = p .0 in
       let room = q .0 in
-      let l : at + 16 ≤ length b = leb-true (at + 16) (length b) room in
+      let l : at + stepSize ≤ length b = leb-true (at + stepSize) (length b) room in
       let put : b′ ≡ putAt b at (bytesOf s) = bytes ∙ ap₂ (λ (x y : Bool). pick x (pick y (putAt b at (bytesOf s)) b) b) good room in
       ap (λ (x : List ℕ). fieldOf (drop at x)) put ∙ ap fieldOf (drop-put b (bytesOf s) at (omega arith))
-      ∙ step-reads s (drop (at + 16) b) (record { good = good; argument = ha; claim = hc })
-      ∙ sym (ap₂ (λ (x y : Bool). pick x (pick y (IsStep s 16) (Refused 0 27)) (Refused 0 18)) good room)
+      ∙ step-reads s (drop (at + stepSize) b) (record { good = good; argument = ha; claim = hc })
+      ∙ sym (ap₂ (λ (x y : Bool). pick x (pick y (IsStep s stepSize) (Refused 0 27)) (Refused 0 18)) good room)
 
   pub back-refused : (n : ℕ) → r ≡ NotWritten n → Refused 0 n ≡ writeAndReadOf b at s
-  back-refused n e = refused-as (valuesGood s) (leb (at + 16) (length b)) (at + 16) n s (sym to ∙ e)
+  back-refused n e = refused-as (valuesGood s) (leb (at + stepSize) (length b)) (at + stepSize) n s (sym to ∙ e)

@@ -6,6 +6,7 @@ use mathlib.Core.List.{List}
 use mathlib.Core.Path.{_≡_, refl, ap, _∙_}
 use lib.ListN.{length}
 use borrow.Author.Tests.{le-leb, lt-leb}
+use Rattle.numbers.specs.Tags.{stepSize}
 use Rattle.values.specs.declared.Step.{Step}
 use Rattle.wire.specs.Bytes.{wroteRefusal, wroteLength, putAt}
 use Rattle.recording.specs.Recording.{fieldRefusal, valuesGood, fieldOf, bytesOf, stepTo, stepWritten}
@@ -26,9 +27,9 @@ module _ (b : List ℕ) (at : ℕ) (s : Step) where
   pub bad-refused : valuesGood s ≡ false → (wroteRefusal (stepTo b at s) ≡ 18) × (stepWritten b at s ≡ b)
   bad-refused g = (rw g, rw g)
 
-  pub step-short : valuesGood s ≡ true → length b < at + 16 → (wroteRefusal (stepTo b at s) ≡ 27) × (stepWritten b at s ≡ b)
-  step-short g h = let t = lt-leb (at + 16) (length b) h in (rw (g, t), rw (g, t))
+  pub step-short : valuesGood s ≡ true → length b < at + stepSize → (wroteRefusal (stepTo b at s) ≡ 27) × (stepWritten b at s ≡ b)
+  step-short g h = let t = lt-leb (at + stepSize) (length b) h in (rw (g, t), rw (g, t))
 
-  pub step-written : valuesGood s ≡ true → at + 16 ≤ length b
-      → (wroteRefusal (stepTo b at s) ≡ 0) × (wroteLength (stepTo b at s) ≡ at + 16) × (stepWritten b at s ≡ putAt b at (bytesOf s))
-  step-written g h = let t = le-leb (at + 16) (length b) h in (rw (g, t), rw (g, t), rw (g, t))
+  pub step-written : valuesGood s ≡ true → at + stepSize ≤ length b
+      → (wroteRefusal (stepTo b at s) ≡ 0) × (wroteLength (stepTo b at s) ≡ at + stepSize) × (stepWritten b at s ≡ putAt b at (bytesOf s))
+  step-written g h = let t = le-leb (at + stepSize) (length b) h in (rw (g, t), rw (g, t), rw (g, t))

@@ -8,6 +8,7 @@ use native.Mathlib.Omega.{arith}
 use lib.ListN.{length, getD, drop, drop-of-length-le}
 use lib.Dec.{eqb, ltb}
 use borrow.Author.Tests.{eqb-true, ltb-false, le-ltb}
+use Rattle.numbers.specs.Tags.{stepSize}
 use Rattle.laws.specs.Choice.{pick}
 use Rattle.laws.proofs.Choosing.{pick-on, pick-off, pick-has}
 use Rattle.values.specs.declared.Step.{Step}
@@ -36,20 +37,20 @@ step-back s rest h =
     (be32-bytes (s .argument .number) (h .argument))
     (be32-bytes (s .claim .number) (h .claim))
 
-pub step-reads : (s : Step) (rest : List ℕ) → Recorded s → fieldOf (bytesOf s ++ rest) ≡ IsStep s 16
+pub step-reads : (s : Step) (rest : List ℕ) → Recorded s → fieldOf (bytesOf s ++ rest) ≡ IsStep s stepSize
 unfolding fieldOf stepIn tested
 step-reads s rest h =
     let t : List ℕ = bytesOf s ++ rest in
     let l₃ : ltb (length t) 3 ≡ false = le-ltb (length t) 3 (omega arith) in
-    let l₁₆ : ltb (length t) 16 ≡ false = le-ltb (length t) 16 (omega arith) in
+    let l₁₆ : ltb (length t) stepSize ≡ false = le-ltb (length t) stepSize (omega arith) in
     rw (l₃, l₁₆, step-back s rest h, h .good)
 
 -- ---- read, then written
 
 -- what is known of a text that reads as a step
 pub record StepField (t : List ℕ) (s : Step) (n : ℕ) : Type 0 where
-  pub size : n ≡ 16
-  pub long : 16 ≤ length t
+  pub size : n ≡ stepSize
+  pub long : stepSize ≤ length t
   pub step : stepAt t ≡ s
   pub good : valuesGood s ≡ true
   pub tag : getD t 0 0 ≡ 0x40
@@ -71,12 +72,12 @@ step-told t s n e =
     let p₀ = pick-off (ltb (length t) 3) _ _ (IsStep s n) e no-step in
     let p₁ = pick-on (eqb (getD t 0 0) 0x40) _ _ (IsStep s n) (p₀ .1) (end-no-step (eqb (getD t 0 0) 0x7f) (eqb (lengthOf (getD t 1 0) (getD t 2 0)) 0) (eqb (length t) 3)) in
     let p₂ = pick-on (eqb (lengthOf (getD t 1 0) (getD t 2 0)) 13) _ _ (IsStep s n) (p₁ .1) no-step in
-    let p₃ = pick-off (ltb (length t) 16) _ _ (IsStep s n) (p₂ .1) no-step in
+    let p₃ = pick-off (ltb (length t) stepSize) _ _ (IsStep s n) (p₂ .1) no-step in
     let p₄ = pick-on (valuesGood (stepAt t)) _ _ (IsStep s n) (p₃ .1) no-step in
     let same : stepAt t ≡ s = let q = p₄ .1 in cc in
     record {
       size = let q = p₄ .1 in cc;
-      long = ltb-false (length t) 16 (p₃ .0);
+      long = ltb-false (length t) stepSize (p₃ .0);
       step = same;
       good = ap valuesGood (sym same) ∙ p₄ .0;
       tag = eqb-true (getD t 0 0) 0x40 (p₁ .0);
@@ -96,7 +97,7 @@ step-recorded t s n h e =
     }
 
 -- a step that was read has these very bytes
-pub step-bytes : (t : List ℕ) (s : Step) (n : ℕ) → Bytes t → fieldOf t ≡ IsStep s n → t ≡ bytesOf s ++ drop 16 t
+pub step-bytes : (t : List ℕ) (s : Step) (n : ℕ) → Bytes t → fieldOf t ≡ IsStep s n → t ≡ bytesOf s ++ drop stepSize t
 step-bytes t s n h e =
     let f = step-told t s n e in
     let u = f .step in
@@ -110,13 +111,13 @@ step-bytes t s n h e =
     let k₃ : s .what ≡ getD t 5 0 = ap (λ (x : Step). x .what) (sym u) in
     let a = bytes32-be (s .argument .number) (getD t 7 0) (getD t 8 0) (getD t 9 0) (getD t 10 0) (ap (λ (x : Step). x .argument .number) (sym u)) (h 7) (h 8) (h 9) (h 10) in
     let c = bytes32-be (s .claim .number) (getD t 12 0) (getD t 13 0) (getD t 14 0) (getD t 15 0) (ap (λ (x : Step). x .claim .number) (sym u)) (h 12) (h 13) (h 14) (h 15) in
-    front-read 16 t (bytesOf s) (f .long) (cc)
+    front-read stepSize t (bytesOf s) (f .long) (cc)
 
 no-end : {A : Type 0} {r p : ℕ} → Refused p r ≡ End → A
 no-end e = let z : _≡_ {A = ℕ} 0 1 = cc in absurd (omega arith)
 
 -- the branch of a step gives no end
-step-no-end : (a b c : Bool) (s : Step) → pick a (pick b (Refused 0 18) (pick c (IsStep s 16) (Refused 0 18))) (Refused 0 18) ≡ End → ⊥
+step-no-end : (a b c : Bool) (s : Step) → pick a (pick b (Refused 0 18) (pick c (IsStep s stepSize) (Refused 0 18))) (Refused 0 18) ≡ End → ⊥
 step-no-end true true c s e = no-end e
 step-no-end true false true s e = let z : _≡_ {A = ℕ} 0 1 = cc in omega arith
 step-no-end true false false s e = no-end e
@@ -127,7 +128,7 @@ pub end-bytes : (t : List ℕ) → fieldOf t ≡ End → t ≡ endBytes
 unfolding fieldOf stepIn endIn tested
 end-bytes t e =
     let p₀ = pick-off (ltb (length t) 3) _ _ End e no-end in
-    let p₁ = pick-off (eqb (getD t 0 0) 0x40) _ _ End (p₀ .1) (step-no-end (eqb (lengthOf (getD t 1 0) (getD t 2 0)) 13) (ltb (length t) 16) (valuesGood (stepAt t)) (stepAt t)) in
+    let p₁ = pick-off (eqb (getD t 0 0) 0x40) _ _ End (p₀ .1) (step-no-end (eqb (lengthOf (getD t 1 0) (getD t 2 0)) 13) (ltb (length t) stepSize) (valuesGood (stepAt t)) (stepAt t)) in
     let p₂ = pick-on (eqb (getD t 0 0) 0x7f) _ _ End (p₁ .1) no-end in
     let p₃ = pick-on (eqb (lengthOf (getD t 1 0) (getD t 2 0)) 0) _ _ End (p₂ .1) no-end in
     let p₄ = pick-on (eqb (length t) 3) _ _ End (p₃ .1) no-end in
@@ -152,8 +153,8 @@ here = (refl, omega arith)
 numbered : (t : List ℕ) → Numbered (fieldOf t)
 unfolding fieldOf stepIn endIn tested
 numbered t =
-    let step : Numbered (stepIn t) = pick-has Numbered (ltb (length t) 16) (Refused 0 18) (tested (stepAt t)) (λ e. here)
-    (λ e. pick-has Numbered (valuesGood (stepAt t)) (IsStep (stepAt t) 16) (Refused 0 18) (λ d. tt) (λ d. here)) in
+    let step : Numbered (stepIn t) = pick-has Numbered (ltb (length t) stepSize) (Refused 0 18) (tested (stepAt t)) (λ e. here)
+    (λ e. pick-has Numbered (valuesGood (stepAt t)) (IsStep (stepAt t) stepSize) (Refused 0 18) (λ d. tt) (λ d. here)) in
     let end : Numbered (endIn t) = pick-has Numbered (eqb (length t) 3) End (Refused 1 18) (λ e. tt) (λ e. (refl, omega arith)) in
     pick-has Numbered (ltb (length t) 3) (Refused 0 18) _ (λ e. here)
     (λ e. pick-has Numbered (eqb (getD t 0 0) 0x40) _ _

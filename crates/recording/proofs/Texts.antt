@@ -8,6 +8,7 @@ use native.Mathlib.Nat.{not-suc-le-zero}
 use native.Mathlib.Omega.{arith}
 use lib.ListN.{length, drop, length-drop}
 use lib.Seq.{getD-drop}
+use Rattle.numbers.specs.Tags.{stepSize}
 use Rattle.laws.proofs.Choosing.{clash}
 use Rattle.values.specs.declared.Step.{Step}
 use Rattle.wire.proofs.Laws.{Bytes}
@@ -21,7 +22,7 @@ use Rattle.recording.proofs.OneField.{step-told, step-reads, end-reads,
 -- ---- reading goes field by field, whatever the bound on the fields
 
 -- a step is taken off the front
-pub step-shorter : (t : List ℕ) (s : Step) (n : ℕ) → fieldOf t ≡ IsStep s n → length (drop n t) + 16 ≡ length t
+pub step-shorter : (t : List ℕ) (s : Step) (n : ℕ) → fieldOf t ≡ IsStep s n → length (drop n t) + stepSize ≡ length t
 step-shorter t s n e = let f = step-told t s n e in omega (arith, length-drop n t)
 
 -- induction over a text, field by field
@@ -89,7 +90,7 @@ pub text-reads : (ss : List Step) → EachRecorded ss → wholeOf (textOf ss) �
 unfolding textOf
 text-reads [] h = whole-end endBytes end-reads
 text-reads (s ∷ ss) h =
-    whole-step (bytesOf s ++ textOf ss) s 16 (step-reads s (textOf ss) (h .0))
+    whole-step (bytesOf s ++ textOf ss) s stepSize (step-reads s (textOf ss) (h .0))
     ∙ ap (λ (w : Whole). record { steps = s ∷ w .steps; last = w .last }) (text-reads ss (h .1))
 
 -- ---- read, then written

@@ -31,7 +31,7 @@ fn tested(s: Step) -> Field
     ensures { λ r. ⌜ r ≡ tested s ⌝ }
 {
     if values_good(s) {
-        return Field::Step(s, 16);
+        return Field::Step(s, numbers::SIZE_STEP);
     }
     Field::Refused(0, numbers::BAD_FIELD)
 }
@@ -40,7 +40,7 @@ fn tested(s: Step) -> Field
 fn step_in(t: &[u8]) -> Field
     ensures { λ r. ⌜ r ≡ stepIn (now (t .entry)) ⌝ }
 {
-    if t.len() < 16 {
+    if t.len() < numbers::SIZE_STEP {
         return Field::Refused(0, numbers::BAD_FIELD);
     }
     let argument = Value {
@@ -64,7 +64,7 @@ fn step_in(t: &[u8]) -> Field
 fn end_in(t: &[u8]) -> Field
     ensures { λ r. ⌜ r ≡ endIn (now (t .entry)) ⌝ }
 {
-    if t.len() == 3 {
+    if t.len() == numbers::SIZE_END {
         return Field::End;
     }
     Field::Refused(1, numbers::BAD_FIELD)
@@ -74,19 +74,19 @@ fn end_in(t: &[u8]) -> Field
 fn field_of(t: &[u8]) -> Field
     ensures { λ r. ⌜ r ≡ fieldOf (now (t .entry)) ⌝ }
 {
-    if t.len() < 3 {
+    if t.len() < numbers::HEAD {
         return Field::Refused(0, numbers::BAD_FIELD);
     }
     let tag = t[0];
     let size = wire::length_of(t[1], t[2]);
     if tag == numbers::TAG_STEP {
-        if size == 13 {
+        if size == numbers::LENGTH_STEP {
             return step_in(t);
         }
         return Field::Refused(0, numbers::BAD_FIELD);
     }
     if tag == numbers::TAG_END {
-        if size == 0 {
+        if size == numbers::LENGTH_END {
             return end_in(t);
         }
         return Field::Refused(0, numbers::BAD_FIELD);

@@ -3,7 +3,7 @@
 use Prim.Native.Nat.{ℕ}
 use mathlib.Core.Bool.{false}
 use lib.ListN.{replicate}
-use Rattle.config.specs.Tables.{maxAreaConfs}
+use Rattle.config.specs.Tables.{maxAreaConfs, maxCapacity}
 use Rattle.values.specs.Values.{voidV}
 use Rattle.state.specs.declared.Client.{Client}
 use Rattle.state.specs.declared.Requests.{Requests}
@@ -25,7 +25,7 @@ noClient = record { operation = 0; number = 0; argument = voidV }
 
 -- a queue of requests has as many places as a capacity may be ("The files", below the table)
 abbrev pub maxRequests : ℕ
-maxRequests = 16
+maxRequests = maxCapacity
 
 -- an empty queue of requests ("A sound state", unused places)
 unfoldable pub noRequests : Requests
@@ -45,7 +45,7 @@ noArea = record { taken = false }
 
 -- a queue of values has as many places as a capacity may be ("The files", below the table)
 abbrev pub maxValues : ℕ
-maxValues = 16
+maxValues = maxCapacity
 
 -- an empty queue of values ("A sound state", unused places)
 unfoldable pub noValues : Values

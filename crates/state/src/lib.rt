@@ -44,7 +44,7 @@ pub struct Requests {
 }
 
 impl Requests {
-    pub const MAX: usize = 16;
+    pub const MAX: usize = config::MAX_CAPACITY as usize;
 
     const LAST: usize = Requests::MAX - 1;
 
@@ -138,7 +138,7 @@ pub struct Values {
 }
 
 impl Values {
-    pub const MAX: usize = 16;
+    pub const MAX: usize = config::MAX_CAPACITY as usize;
 
     const LAST: usize = Values::MAX - 1;
 

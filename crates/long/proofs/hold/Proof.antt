@@ -6,15 +6,16 @@ use native.Mathlib.Omega.{arith}
 use lib.ListN.{length, drop, length-set}
 use lib.Seq.{paste, paste-zero}
 use denote.Ref.{now}
+use Rattle.numbers.specs.Tags.{stepSize}
 use Rattle.long.proofs.Laws.{held-more}
 use Rattle.long.proofs.hold.Statement.{statement}
 use Rattle.long.proofs.hold.Tie as tie
 
 abbrev Inv-loop : tie.InvT-loop
-Inv-loop buf₀ i₀ buf i = (i ≤ 16) × (length buf ≡ length buf₀) × (buf ≡ paste buf₀ 0 (drop 65520 buf₀) i)
+Inv-loop buf₀ i₀ buf i = (i ≤ stepSize) × (length buf ≡ length buf₀) × (buf ≡ paste buf₀ 0 (drop 65520 buf₀) i)
 
 abbrev μ-loop : tie.MeasureT-loop
-μ-loop buf₀ i₀ buf i = 16 - i
+μ-loop buf₀ i₀ buf i = stepSize - i
 
 loop-holds : tie.Need-loop-holds Inv-loop μ-loop
 loop-holds c = (omega arith, omega arith, paste-zero (now (c .args .buf)) 0 (drop 65520 (now (c .args .buf))))
@@ -42,7 +43,7 @@ same-length c = c .before .loop .inv .1
 
 returns : tie.Need-returns Inv-loop μ-loop
 returns c =
-    let e : c .before .loop .i ≡ 16 = omega arith in
+    let e : c .before .loop .i ≡ stepSize = omega arith in
     c .before .loop .inv .2 ∙ ap (paste (now (c .before .before .args .buf)) 0 (drop 65520 (now (c .before .before .args .buf)))) e
 
 pub hold-spec : {M : Type 1} → statement M

@@ -6,6 +6,7 @@ use native.Mathlib.Omega.{arith}
 use lib.ListN.{length}
 use denote.Ref.{now}
 use borrow.Author.Needs.{needs}
+use Rattle.numbers.specs.Tags.{stepSize}
 use Rattle.parts.proofs.Proofs.{judged-near}
 use Rattle.long.proofs.judge_part.Statement.{statement}
 use Rattle.long.proofs.judge_part.Tie as tie
@@ -18,7 +19,7 @@ add-t9 c = omega (arith, c .before .before .before .before .before .pre .0, c .b
 
 returns : tie.Need-returns
 returns c =
-    let e : length (now (c .before .before .before .before .before .args .s)) / 16 - 1 ≡ 4095 = omega (arith, c .before .before .before .before .before .pre .1) in
+    let e : length (now (c .before .before .before .before .before .args .s)) / stepSize - 1 ≡ 4095 = omega (arith, c .before .before .before .before .before .pre .1) in
     rw (c .before .before .later-verdict .ensures, e, ← c .before .before .before .judge .ensures)
 
 pub judge-part-spec : {M : Type 1} → statement M

@@ -6,11 +6,12 @@ use native.Mathlib.Omega.{arith}
 use lib.ListN.{length}
 use lib.Seq.{length-take-le}
 use borrow.Author.Needs.{needs}
+use Rattle.numbers.specs.Tags.{stepSize}
 use Rattle.long.proofs.judge_parts.Statement.{statement}
 use Rattle.long.proofs.judge_parts.Tie as tie
 
 abbrev Inv-loop : tie.InvT-loop
-Inv-loop cfg part₀ st₀ n₀ held₀ left₀ part st n held left = (length part ≡ length part₀) × (held ≤ 16) × (n + 4095 * left ≤ 16380000000000)
+Inv-loop cfg part₀ st₀ n₀ held₀ left₀ part st n held left = (length part ≡ length part₀) × (held ≤ stepSize) × (n + 4095 * left ≤ 16380000000000)
 
 abbrev μ-loop : tie.MeasureT-loop
 μ-loop cfg part₀ st₀ n₀ held₀ left₀ part st n held left = left
