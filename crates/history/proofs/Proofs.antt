@@ -31,7 +31,7 @@ use Rattle.stays_sound.proofs.Clients.{requests-told}
 use Rattle.stays_sound.proofs.Ways.{Way}
 use Rattle.stays_sound.proofs.Accepted.{answerIn, way, enter-told, exit-told, collect-told, result-told, answer-told, end-told, spawn-told, timeout-told, tick-told}
 use Rattle.history.specs.History.{noRequest, History, historyOf, takenBy, latestOn, endsOf, lastOn, isUnended, livesIn, boundIn, awaitsIn, holderOf, allQueued, allSpawns}
-use Rattle.history.specs.Promises.{Run, OfRuns, OfSteps, StaysSound, HeldBy, AreasHeld, EntersFree, ExitsHeld, EndsEmpty, SpawnsEmpty, ActsAlive, HolderStays, FailedStops, BackIsLast, EndsPaid, FailedGoesOn, RequestsFit, ValuesFit, CallsOneByOne, WaiterWaits, BackIsAnswered, EndsOnce, EndsProperly, TimeoutAtZero, TimeoutInTime, BackInTime, OpenInTime, TicksInTime, TimersInTime, ResultIsDelivered, ResultIsOwn, DoneIsDelivered, NumberIsFinal, DoneIsFinal, FailureIsFinal, DoneIsFailure, UsedIsLived, FailedFollowed, FinishedFollowed, NumberGoesRound, WaitingFollowed, BoundFollowed, OpenIsUnended, UnendedIsLatest, LatestStarted, CountIsRest, QueuesFollowed, ServedFollowed, FirstInFirstOut, SpawnTakesNext}
+use Rattle.history.specs.Promises.{Run, OfRuns, OfSteps, StaysSound, HeldBy, AreasHeld, EntersFree, ExitsHeld, EndsEmpty, SpawnsEmpty, ActsAlive, HolderStays, FailedStops, BackIsLast, EndsPaid, FailedGoesOn, RequestsFit, ValuesFit, CallsOneByOne, WaiterWaits, BackIsAnswered, EndsOnce, EndsProperly, TimeoutAtZero, TimeoutEndsOpen, TimeoutInTime, BackInTime, OpenInTime, TicksInTime, TimersInTime, ResultIsDelivered, ResultIsOwn, DoneIsDelivered, NumberIsFinal, DoneIsFinal, FailureIsFinal, DoneIsFailure, UsedIsLived, FailedFollowed, FinishedFollowed, NumberGoesRound, WaitingFollowed, BoundFollowed, OpenIsUnended, UnendedIsLatest, LatestStarted, CountIsRest, QueuesFollowed, ServedFollowed, FirstInFirstOut, SpawnTakesNext}
 use Rattle.history.proofs.Runs.{Halves, halves, first, history-one}
 use Rattle.history.proofs.Deeds.{due-server}
 use Rattle.history.proofs.Ended.{ended-at, answer-latest}
@@ -180,19 +180,25 @@ back-is-answered cfg before after s st c e q =
     let m = found cfg before after s st c e in
     back-way cfg (m .mid) s (historyOf cfg before) (tied-at cfg before (m .mid) (m .before)) (way-there cfg before after s st c e q refl)
 
-pub ends-once : OfRuns EndsOnce
+pub ends-once : OfRuns (λ cfg rs st. EndsOnce cfg rs)
 ends-once cfg rs st c e k = tied-at cfg rs st e .calls .once k
 
-pub ends-properly : OfRuns EndsProperly
+pub ends-properly : OfRuns (λ cfg rs st. EndsProperly cfg rs)
 ends-properly cfg rs st c e x m = ended-at cfg rs x _ (ended-along cfg rs st e) m
 
 pub timeout-at-zero : OfSteps TimeoutAtZero
 timeout-at-zero cfg before after s st c e q =
     let m = found cfg before after s st c e in
     let z = timeout-told cfg (m .mid) s (way-there cfg before after s st c e q refl) in
+    (m .mid, m .before, z .calling, z .zero)
+
+pub timeout-ends-open : OfSteps TimeoutEndsOpen
+timeout-ends-open cfg before after s st c e q =
+    let m = found cfg before after s st c e in
+    let z = timeout-told cfg (m .mid) s (way-there cfg before after s st c e q refl) in
     let t = tied-at cfg before (m .mid) (m .before) in
     let b = t .calls .begun (s .what) (z .calling) in
-    (m .mid, m .before, z .calling, z .zero, named-at cfg before (m .mid) (m .before) .latest (s .what) b, omega (arith, rw (z .calling) at (t .calls .state (s .what) b)))
+    (named-at cfg before (m .mid) (m .before) .latest (s .what) b, omega (arith, rw (z .calling) at (t .calls .state (s .what) b)))
 
 pub timeout-in-time : OfSteps TimeoutInTime
 timeout-in-time cfg before after s st c e q =
@@ -208,7 +214,7 @@ back-in-time cfg before after s st c e q v =
     rw (w .latest) (omega (arith, timed-at cfg before (m .mid) (m .before) .rest (takenBy (historyOf cfg before) (s .who) .on) (w .calling)))
 
 -- a call without an ending is the latest of its operation, which is Calling
-pub open-in-time : OfRuns OpenInTime
+pub open-in-time : OfRuns (λ cfg rs st. OpenInTime cfg rs)
 unfolding isUnended
 open-in-time cfg rs st c e k o x z =
     let l = unended-at cfg rs st e .latest k o x z in
@@ -224,7 +230,7 @@ ticks-in-time cfg before after s st c e q =
     let z = tick-told cfg (m .mid) s (way-there cfg before after s st c e q refl) in
     omega (arith, ticked-at cfg before (m .mid) (m .before) .rest (s .what) (z .inside), z .zero)
 
-pub timers-in-time : OfRuns TimersInTime
+pub timers-in-time : OfRuns (λ cfg rs st. TimersInTime cfg rs)
 timers-in-time cfg rs st c e k b = omega (arith, ticked-at cfg rs st e .rest k b)
 
 pub result-is-delivered : OfSteps ResultIsDelivered
@@ -297,13 +303,13 @@ number-goes-round cfg rs st c e o b = tied-at cfg rs st e .calls .number o
 pub open-is-unended : OfRuns OpenIsUnended
 open-is-unended cfg rs st c e o b = open-unended st (historyOf cfg rs) o (tied-at cfg rs st e)
 
-pub unended-is-latest : OfRuns UnendedIsLatest
+pub unended-is-latest : OfRuns (λ cfg rs st. UnendedIsLatest cfg rs)
 unended-is-latest cfg rs st c e k o x z = unended-at cfg rs st e .latest k o x z
 
 pub count-is-rest : OfRuns CountIsRest
 count-is-rest cfg rs st c e o q = timed-at cfg rs st e .rest o q
 
-pub latest-started : OfRuns LatestStarted
+pub latest-started : OfRuns (λ cfg rs st. LatestStarted cfg rs)
 latest-started cfg rs st c e o b q = named-at cfg rs st e .latest o q
 
 pub queues-followed : OfRuns QueuesFollowed
@@ -314,7 +320,7 @@ queues-followed cfg rs st c e r b =
 pub served-followed : OfRuns ServedFollowed
 served-followed cfg rs st c e i b q = let t = tied-at cfg rs st e .served .each i q in (sym (t .same), sym (t .argument))
 
-pub first-in-first-out : OfRuns FirstInFirstOut
+pub first-in-first-out : OfRuns (λ cfg rs st. FirstInFirstOut cfg rs)
 unfolding isServer
 first-in-first-out cfg rs st c e r b q = fifo-at cfg rs st r (lt-ltb 0 _ q) (omega (arith, b, runnables-most cfg c)) e .queue
 

@@ -37,11 +37,11 @@ gets v = step resultCode voidV v
 
 module _ (cfg : Config) (st : State) (q : isServer cfg 0 ≡ false) where
   -- `call_over_open`: the second call leaves the first without an ending for ever
-  pub call-over-open : UnendedIsLatest cfg (spawns ∷ calls ∷ calls ∷ []) st → ⊥
+  pub call-over-open : UnendedIsLatest cfg (spawns ∷ calls ∷ calls ∷ []) → ⊥
   unfolding historyOf historyFrom observe nothing sameValue endsOf Started
   call-over-open h = omega (arith, rw q at (h 2 0 (refl, refl, refl) (rw q)))
 
-  pub call-over-open-ages : (t : ℕ) → operationConfIn (cfg .operations) 0 .timeout ≡ t → 0 < t → OpenInTime cfg (spawns ∷ calls ∷ waits t ∷ calls ∷ waits t ∷ []) st → ⊥
+  pub call-over-open-ages : (t : ℕ) → operationConfIn (cfg .operations) 0 .timeout ≡ t → 0 < t → OpenInTime cfg (spawns ∷ calls ∷ waits t ∷ calls ∷ waits t ∷ []) → ⊥
   unfolding historyOf historyFrom observe nothing sameValue endsOf Started timeIn timeOf
   call-over-open-ages t e b h = omega (arith, e, b, h 2 0 (refl, refl, refl) (rw q))
 
@@ -86,9 +86,9 @@ fails = served failCode voidV voidV
 abbrev backs : Value → Step
 backs v = served handBackCode v (numberV 1)
 
-module _ (cfg : Config) (st : State) (q : isServer cfg 0 ≡ false) (y : isServer cfg 1 ≡ true) (e : operationConfIn (cfg .operations) 0 .server ≡ 1) where
+module _ (cfg : Config) (q : isServer cfg 0 ≡ false) (y : isServer cfg 1 ≡ true) (e : operationConfIn (cfg .operations) 0 .server ≡ 1) where
   -- `late_failure_delivered`: the call has ended by its timeout, and ends again
-  pub late-failure-delivered : (t : ℕ) → EndsOnce cfg (spawns ∷ calls ∷ serves ∷ waits t ∷ step timeoutCode voidV voidV ∷ fails ∷ backs voidV ∷ []) st → ⊥
+  pub late-failure-delivered : (t : ℕ) → EndsOnce cfg (spawns ∷ calls ∷ serves ∷ waits t ∷ step timeoutCode voidV voidV ∷ fails ∷ backs voidV ∷ []) → ⊥
   unfolding historyOf historyFrom observe nothing sameValue endsOf
   late-failure-delivered t h = omega (arith, rw (q, y, e) at (h 2))
 

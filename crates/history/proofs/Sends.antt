@@ -148,6 +148,7 @@ send-is-unread cfg before after s v c = (u, at)
       waiter = p .waiter;
       answer = λ q. absurd (other-code handBackCode c refl q);
       zero = p .zero;
+      ends = p .ends;
       timeout = p .timeout;
       back = λ q k. absurd (other-code handBackCode c refl q);
       tick = p .tick;

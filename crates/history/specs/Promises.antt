@@ -1,5 +1,6 @@
 -- The promises, as types, in the order of demand 3: of accepted steps and the state that they reach (`OfRuns`), or of a step with the steps before and after it
 -- (`OfSteps`); and at the end all of them in one record (`Demand3`). They are proved in proofs/, by citing; nothing else stands here.
+-- A promise that needs no state to be said names none; crate crew says these of the two files alone.
 -- `Run cfg rs st` says that every step of rs, in turn from the start state, is accepted, with an answer that agrees with what it claims, and that st is the state reached.
 -- Assumes nothing.
 use Prim.Native.Nat.{ℕ, _+_, _%_, _≤_, _<_}
@@ -137,8 +138,8 @@ BackIsAnswered cfg before s after =
     s .code ≡ handBackCode → s .claim ≡ numberV (bit (eqb (endsOf (takenBy (historyOf cfg before) (s .who) .at) (historyOf cfg before .endings)) 0))
 
 -- each started call ends at most once ("How tight the contracts are", demand 3)
-abbrev pub EndsOnce : Config → List Step → State → Type 0
-EndsOnce cfg rs st = (k : ℕ) → endsOf k (historyOf cfg rs .endings) ≤ 1
+abbrev pub EndsOnce : Config → List Step → Type 0
+EndsOnce cfg rs = (k : ℕ) → endsOf k (historyOf cfg rs .endings) ≤ 1
 
 -- an ending of a recording: at its place stands the step that ended the call, behind the call's own step; and how long the call lasted ("How tight the contracts are", demand 3)
 pub record Ended (cfg : Config) (rs : List Step) (e : Ending) : Type 0 where
@@ -152,15 +153,18 @@ pub record Ended (cfg : Config) (rs : List Step) (e : Ending) : Type 0 where
   pub time : InTime (timeSince (e .call) before) (operationConfIn (cfg .operations) (e .on) .timeout) (e .how)
 
 -- every ending is one: of a call started on its operation, by a timeout there or by a hand back of the instance spawned for this very call, which may have failed ("How tight the contracts are", demand 3; W-205)
-abbrev pub EndsProperly : Config → List Step → State → Type 0
-EndsProperly cfg rs st = (e : Ending) → List·Memᴰ e (historyOf cfg rs .endings) → Ended cfg rs e
+abbrev pub EndsProperly : Config → List Step → Type 0
+EndsProperly cfg rs = (e : Ending) → List·Memᴰ e (historyOf cfg rs .endings) → Ended cfg rs e
 
--- a timeout is taken at count zero of an open operation, whose latest call was started and has not ended ("How tight the contracts are", demand 3)
+-- a timeout is taken at count zero of an open operation ("How tight the contracts are", demand 3)
 abbrev pub TimeoutAtZero : Config → List Step → Step → List Step → Type 0
 TimeoutAtZero cfg before s after =
-    s .code ≡ timeoutCode
-    → (m : State) × Run cfg before m × (operationIn (m .operations) (s .what) .calling ≡ true) × (operationIn (m .operations) (s .what) .count ≡ 0)
-    × Started before (latestOn (historyOf cfg before) (s .what)) (s .what) × (endsOf (latestOn (historyOf cfg before) (s .what)) (historyOf cfg before .endings) ≡ 0)
+    s .code ≡ timeoutCode → (m : State) × Run cfg before m × (operationIn (m .operations) (s .what) .calling ≡ true) × (operationIn (m .operations) (s .what) .count ≡ 0)
+
+-- and it ends the latest call there, which was started and has not ended ("How tight the contracts are", demand 3)
+abbrev pub TimeoutEndsOpen : Config → List Step → Step → List Step → Type 0
+TimeoutEndsOpen cfg before s after =
+    s .code ≡ timeoutCode → Started before (latestOn (historyOf cfg before) (s .what)) (s .what) × (endsOf (latestOn (historyOf cfg before) (s .what)) (historyOf cfg before .endings) ≡ 0)
 
 -- and when exactly its timeout has passed since that call ("The eighteen steps", 16 and Wait)
 abbrev pub TimeoutInTime : Config → List Step → Step → List Step → Type 0
@@ -174,8 +178,8 @@ BackInTime cfg before s after =
     → timeSince (takenBy (historyOf cfg before) (s .who) .at) before ≤ operationConfIn (cfg .operations) (takenBy (historyOf cfg before) (s .who) .on) .timeout
 
 -- at every moment no more than its timeout has passed since any call that has no ending yet ("The eighteen steps", Wait)
-abbrev pub OpenInTime : Config → List Step → State → Type 0
-OpenInTime cfg rs st = (k o : ℕ) → Started rs k o → endsOf k (historyOf cfg rs .endings) ≡ 0 → timeSince k rs ≤ operationConfIn (cfg .operations) o .timeout
+abbrev pub OpenInTime : Config → List Step → Type 0
+OpenInTime cfg rs = (k o : ℕ) → Started rs k o → endsOf k (historyOf cfg rs .endings) ≡ 0 → timeSince k rs ≤ operationConfIn (cfg .operations) o .timeout
 
 -- from one tick of a timer to its next exactly its period passes, and before its first tick no time at all ("The eighteen steps", 17 and Wait)
 abbrev pub TicksInTime : Config → List Step → Step → List Step → Type 0
@@ -183,8 +187,8 @@ TicksInTime cfg before s after =
     s .code ≡ tickCode → timeSince (lastTick (s .what) before) before ≡ pick (eqb (lastTick (s .what) before) 0) 0 (timerConfIn (cfg .timers) (s .what) .period)
 
 -- at every moment no more than its period has passed since a timer's last tick, and before its first no time at all ("The eighteen steps", 17 and Wait)
-abbrev pub TimersInTime : Config → List Step → State → Type 0
-TimersInTime cfg rs st = (k : ℕ) → k < cfg .timers .n → timeSince (lastTick k rs) rs ≤ pick (eqb (lastTick k rs) 0) 0 (timerConfIn (cfg .timers) k .period)
+abbrev pub TimersInTime : Config → List Step → Type 0
+TimersInTime cfg rs = (k : ℕ) → k < cfg .timers .n → timeSince (lastTick k rs) rs ≤ pick (eqb (lastTick k rs) 0) 0 (timerConfIn (cfg .timers) k .period)
 
 -- a result is NoData while a call is open there, and else exactly what the latest ending there gave, however often it is asked for; a synchronous one is only given then ("The eighteen steps", Result)
 abbrev pub ResultIsDelivered : Config → List Step → Step → List Step → Type 0
@@ -276,12 +280,12 @@ abbrev pub OpenIsUnended : Config → List Step → State → Type 0
 OpenIsUnended cfg rs st = (o : ℕ) → o < maxOperationConfs → operationIn (st .operations) o .calling ≡ isUnended (historyOf cfg rs) o
 
 -- any call that has no ending is the latest of its operation, which so has one open call at most ("The eighteen steps", Call)
-abbrev pub UnendedIsLatest : Config → List Step → State → Type 0
-UnendedIsLatest cfg rs st = (k o : ℕ) → Started rs k o → endsOf k (historyOf cfg rs .endings) ≡ 0 → k ≡ latestOn (historyOf cfg rs) o
+abbrev pub UnendedIsLatest : Config → List Step → Type 0
+UnendedIsLatest cfg rs = (k o : ℕ) → Started rs k o → endsOf k (historyOf cfg rs .endings) ≡ 0 → k ≡ latestOn (historyOf cfg rs) o
 
 -- the latest call of an operation, where it has one, was started on it ("How tight the contracts are", demand 3)
-abbrev pub LatestStarted : Config → List Step → State → Type 0
-LatestStarted cfg rs st = (o : ℕ) → o < maxOperationConfs → 0 < latestOn (historyOf cfg rs) o → Started rs (latestOn (historyOf cfg rs) o) o
+abbrev pub LatestStarted : Config → List Step → Type 0
+LatestStarted cfg rs = (o : ℕ) → o < maxOperationConfs → 0 < latestOn (historyOf cfg rs) o → Started rs (latestOn (historyOf cfg rs) o) o
 
 -- the count of an open operation is what is left of its timeout, by the waits since its latest call ("The eighteen steps", Call and Wait)
 abbrev pub CountIsRest : Config → List Step → State → Type 0
@@ -305,8 +309,8 @@ abbrev pub ServedFollowed : Config → List Step → State → Type 0
 ServedFollowed cfg rs st = (i : ℕ) → i < maxSlots → slotIn (st .slots) i .owed .serving ≡ true → Asks (slotIn (st .slots) i .owed .client) (takenBy (historyOf cfg rs) i)
 
 -- what waits at a server is all that was ever queued there, less the oldest, one for each spawn ("How tight the contracts are", demand 3)
-abbrev pub FirstInFirstOut : Config → List Step → State → Type 0
-FirstInFirstOut cfg rs st =
+abbrev pub FirstInFirstOut : Config → List Step → Type 0
+FirstInFirstOut cfg rs =
     (r : ℕ) → r < cfg .runnables .n → 0 < runnableConfIn (cfg .runnables) r .capacity → queuedAt (historyOf cfg rs) r ≡ drop (allSpawns r rs) (allQueued cfg r 0 rs)
 
 -- and so a spawn finds a request there, and the n-th one takes the n-th that was queued ("How tight the contracts are", demand 3)
@@ -327,12 +331,12 @@ pub record Followed (cfg : Config) (rs : List Step) (st : State) : Type 0 where
   pub bound : BoundFollowed cfg rs st
   pub number : NumberGoesRound cfg rs st
   pub unended : OpenIsUnended cfg rs st
-  pub newest : UnendedIsLatest cfg rs st
-  pub latest : LatestStarted cfg rs st
+  pub newest : UnendedIsLatest cfg rs
+  pub latest : LatestStarted cfg rs
   pub rest : CountIsRest cfg rs st
   pub queues : QueuesFollowed cfg rs st
   pub served : ServedFollowed cfg rs st
-  pub fifo : FirstInFirstOut cfg rs st
+  pub fifo : FirstInFirstOut cfg rs
 
 -- a moment: the steps so far, and the state that they reached ("How tight the contracts are", demand 3)
 pub record AtMoment (cfg : Config) (rs : List Step) (st : State) : Type 0 where
@@ -342,10 +346,10 @@ pub record AtMoment (cfg : Config) (rs : List Step) (st : State) : Type 0 where
   pub goes : FailedGoesOn cfg rs st
   pub requests : RequestsFit cfg rs st
   pub values : ValuesFit cfg rs st
-  pub once : EndsOnce cfg rs st
-  pub properly : EndsProperly cfg rs st
-  pub time : OpenInTime cfg rs st
-  pub timers : TimersInTime cfg rs st
+  pub once : EndsOnce cfg rs
+  pub properly : EndsProperly cfg rs
+  pub time : OpenInTime cfg rs
+  pub timers : TimersInTime cfg rs
   pub delivered : DoneIsDelivered cfg rs st
   pub done : DoneIsFinal cfg rs st
   pub failure : DoneIsFailure cfg rs st
@@ -366,6 +370,7 @@ pub record AtStep (cfg : Config) (before : List Step) (s : Step) (after : List S
   pub waiter : WaiterWaits cfg before s after
   pub answer : BackIsAnswered cfg before s after
   pub zero : TimeoutAtZero cfg before s after
+  pub ends : TimeoutEndsOpen cfg before s after
   pub timeout : TimeoutInTime cfg before s after
   pub back : BackInTime cfg before s after
   pub tick : TicksInTime cfg before s after
