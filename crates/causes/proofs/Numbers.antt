@@ -7,10 +7,11 @@ use mathlib.Core.Path.{_≡_, refl, sym, ap, _∙_, subst}
 use lib.Dec.{ltb, leb, eqb}
 use Rattle.laws.specs.Choice.{pick, both}
 use Rattle.laws.proofs.Choosing.{pick-has}
-use Rattle.numbers.specs.Refusals.{malformed, notThere, notOwn, barred, areaTaken, notOnTop, queueFull, numberBorne, stillOpen, notDue, noSlotFree, tooFar, notOver, areasHeld, wrongClient, otherAnswer}
+use Rattle.numbers.specs.Refusals.{malformed, stepGone, notThere, notOwn, barred, areaTaken, notOnTop, queueFull, numberBorne, stillOpen, notDue, noSlotFree, tooFar, notOver, areasHeld, wrongClient, otherAnswer}
 use Rattle.numbers.specs.Codes.{timeoutCode}
 use Rattle.values.specs.Values.{answerRefusal}
 use Rattle.faces.specs.Types.{Value, Step, Answer, Taken, Refused, Config, RunnableConf, Life, Runnable, Slots, State, Stepped}
+use Rattle.config.specs.Editions.{hasStep}
 use Rattle.config.specs.Tables.{runnableConfIn}
 use Rattle.entries.specs.Entries.{entryOf}
 use Rattle.state.specs.Tables.{maxSlots, runnableIn, operationIn, slotIn}
@@ -115,7 +116,7 @@ owed-number : (ss : Slots) (i : ℕ) → causeRefusal (owedCause ss i) ≡ wrong
 unfolding owedCause
 owed-number ss i = either-number (slotIn ss i .owed .serving) _ _ wrongClient refl refl
 
--- ---- by the number: 2 to 16 and 28 are all that a step before its claim can have
+-- ---- by the number: 2 to 16, 28 and 30 are all that a step before its claim can have
 
 module _ (cfg : Config) (st : State) (s : Step) where
   abbrev Named : ℕ → Type 0
@@ -124,6 +125,10 @@ module _ (cfg : Config) (st : State) (s : Step) where
   named-malformed : Named malformed
   unfolding whyOf
   named-malformed = code-number (rowOf (s .code)) s
+
+  named-step-gone : Named stepGone
+  unfolding whyOf
+  named-step-gone = refl
 
   named-not-there : Named notThere
   unfolding whyOf
@@ -191,20 +196,21 @@ module _ (cfg : Config) (st : State) (s : Step) where
 
   -- ---- the refusals that all share
 
-  shared-named : (a b c d : Bool) → (pick a (pick b (pick c (pick d 0 barred) notOwn) notThere) malformed ≡ 0 → ⊥) → Named (pick a (pick b (pick c (pick d 0 barred) notOwn) notThere) malformed)
-  shared-named true true true true e = absurd (e refl)
-  shared-named true true true false e = named-barred
-  shared-named true true false d e = named-not-own
-  shared-named true false c d e = named-not-there
-  shared-named false b c d e = named-malformed
+  shared-named : (a g b c d : Bool) → (pick a (pick g (pick b (pick c (pick d 0 barred) notOwn) notThere) stepGone) malformed ≡ 0 → ⊥) → Named (pick a (pick g (pick b (pick c (pick d 0 barred) notOwn) notThere) stepGone) malformed)
+  shared-named true true true true true e = absurd (e refl)
+  shared-named true true true true false e = named-barred
+  shared-named true true true false d e = named-not-own
+  shared-named true true false c d e = named-not-there
+  shared-named true false b c d e = named-step-gone
+  shared-named false g b c d e = named-malformed
 
   refusal-named : (r : Row) → (refusalBy cfg (st .slots) r s ≡ 0 → ⊥) → Named (refusalBy cfg (st .slots) r s)
   unfolding refusalBy instanceRefusal ownedRefusal schedulerRefusal
   refusal-named r = pick-has Good (eqb (r .who) aSlot) _ _
-      (λ e. shared-named (formed r (s .what) (s .argument)) (both (slotIn (st .slots) (s .who) .used) (partThere cfg (r .part) (s .what)))
+      (λ e. shared-named (formed r (s .what) (s .argument)) (hasStep (cfg .edition) (s .code)) (both (slotIn (st .slots) (s .who) .used) (partThere cfg (r .part) (s .what)))
       (partOwn cfg (componentOf cfg (slotIn (st .slots) (s .who) .life .runnable)) r (s .what)) (lifeLets cfg (slotIn (st .slots) (s .who) .life) (s .code) (s .what)))
       (λ e. pick-has Good (eqb (r .who) scheduler) _ _
-      (λ d. shared-named (both (eqb (s .who) 0) (formed r (s .what) (s .argument))) (partThere cfg (r .part) (s .what)) true true)
+      (λ d. shared-named (both (eqb (s .who) 0) (formed r (s .what) (s .argument))) true (partThere cfg (r .part) (s .what)) true true)
       (λ d n. named-malformed))
 
   -- ---- each way to be refused

@@ -1,2 +1,3 @@
 -- The promises from the bytes of two files on.
 pub mod Claims
+pub mod Editions

@@ -1,2 +1,3 @@
--- Document 01, "The parts, and how many": the tables of a configuration.
+-- Document 01, "The parts, and how many": the tables of a configuration, and what depends on its edition.
+pub mod Editions
 pub mod Tables

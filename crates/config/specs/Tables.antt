@@ -6,6 +6,7 @@ use mathlib.Core.Bool.{false}
 use lib.Dec.{ltb}
 use lib.ListN.{replicate, getD, set}
 use Rattle.laws.specs.Choice.{pick}
+use Rattle.config.specs.Editions.{firstEdition}
 use Rattle.config.specs.declared.RunnableConf.{RunnableConf}
 use Rattle.config.specs.declared.RunnableConfs.{RunnableConfs}
 use Rattle.config.specs.declared.VariableConf.{VariableConf}
@@ -252,6 +253,6 @@ returnEventIn t i = getD (t .at) i noReturnEvent
 unfoldable pub addReturnEvent : ReturnEvents → ReturnEvent → ReturnEvents
 addReturnEvent t x = pick (ltb (t .n) maxReturnEvents) (record { n = t .n + 1; at = set (t .at) (t .n) x }) t
 
--- a configuration with no part ("A sound state", unused places)
+-- a configuration with no part, of the first edition ("A sound state", unused places; W-208)
 unfoldable pub noConfig : Config
-noConfig = record { runnables = noRunnableConfs; variables = noVariableConfs; areas = noAreaConfs; required = noRequiredConfs; provided = noProvidedConfs; links = noLinks; operations = noOperationConfs; timers = noTimerConfs; devents = noDataEvents; revents = noReturnEvents }
+noConfig = record { edition = firstEdition; runnables = noRunnableConfs; variables = noVariableConfs; areas = noAreaConfs; required = noRequiredConfs; provided = noProvidedConfs; links = noLinks; operations = noOperationConfs; timers = noTimerConfs; devents = noDataEvents; revents = noReturnEvents }

@@ -1,5 +1,6 @@
 // The parts of a configuration at their real sizes. Each kind stands in a table of its own, and a table type says how many it holds.
 ghost use mathlib.Core.Path.{_≡_};
+ghost use Rattle.config.specs.Editions.{isEdition, marksInvalid, hasStep};
 ghost use Rattle.config.specs.Tables.{noRunnableConfs, noVariableConfs, noAreaConfs, noRequiredConfs, noProvidedConfs, noLinks, noOperationConfs, noTimerConfs, noDataEvents, noReturnEvents, runnableConfIn, variableConfIn, areaConfIn, requiredConfIn, providedConfIn, linkIn, operationConfIn, timerConfIn, dataEventIn, returnEventIn, addRunnableConf, addVariableConf, addAreaConf, addRequiredConf, addProvidedConf, addLink, addOperationConf, addTimerConf, addDataEvent, addReturnEvent, noConfig};
 
 // The top of a capacity, and so the places of a queue.
@@ -583,7 +584,7 @@ impl ReturnEvent {
     };
 }
 
-// A configuration: its ten kinds of parts.
+// A configuration: its ten kinds of parts, and its edition.
 pub struct Config {
     pub runnables: RunnableConfs,
     pub variables: VariableConfs,
@@ -595,10 +596,15 @@ pub struct Config {
     pub timers: TimerConfs,
     pub devents: DataEvents,
     pub revents: ReturnEvents,
+    pub edition: u8,
 }
 
 impl Config {
-    // No part of any kind.
+    pub const FIRST_EDITION: u8 = 1;
+
+    pub const LAST_EDITION: u8 = 2;
+
+    // No part of any kind, in the first edition.
     pub fn none() -> Config
         ensures { λ r. ⌜ r ≡ noConfig ⌝ }
     {
@@ -613,6 +619,28 @@ impl Config {
             timers: TimerConfs::none(),
             devents: DataEvents::none(),
             revents: ReturnEvents::none(),
+            edition: Config::FIRST_EDITION,
         }
     }
+}
+
+// 1 or 2.
+pub fn is_edition(e: u8) -> bool
+    ensures { λ r. ⌜ r ≡ isEdition e ⌝ }
+{
+    Config::FIRST_EDITION <= e && e <= Config::LAST_EDITION
+}
+
+// Elements can be marked invalid in the first edition alone.
+pub fn marks_invalid(e: u8) -> bool
+    ensures { λ r. ⌜ r ≡ marksInvalid e ⌝ }
+{
+    e == Config::FIRST_EDITION
+}
+
+// The edition has a step of this code.
+pub fn has_step(e: u8, code: u8) -> bool
+    ensures { λ r. ⌜ r ≡ hasStep e code ⌝ }
+{
+    code != numbers::CODE_INVALIDATE || marks_invalid(e)
 }

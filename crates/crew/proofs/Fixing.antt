@@ -69,7 +69,8 @@ placed-small cfg tag t b h =
     (λ _. pick-has Small (eqb tag 0x16) _ _ (λ _. record { each = h .each })
     (λ _. pick-has Small (eqb tag 0x17) _ _ (λ _. record { each = h .each })
     (λ _. pick-has Small (eqb tag 0x18) _ _ (λ _. record { each = h .each })
-    (λ _. pick-has Small (eqb tag 0x19) _ _ (λ _. record { each = h .each }) (λ _. h))))))))))
+    (λ _. pick-has Small (eqb tag 0x19) _ _ (λ _. record { each = h .each })
+    (λ _. pick-has Small (eqb tag 0x01) _ _ (λ _. record { each = h .each }) (λ _. h)))))))))))
 
 -- what a reading gives
 record Holds (r : Reading) : Type 0 where

@@ -169,7 +169,7 @@ module _ (cfg : Config) (c : configSound cfg ≡ true) (q : ℕ) (y : isQueued c
     places : length (x .queue .at) ≡ 16
     unfolding elementsSound elementSound valuesSound
     places =
-        let held = pick (both (ltb q (cfg .required .n)) (eqb room 0)) (isStored (x .value)) (both (isVoid (x .value)) (not (x .updated))) in
+        let held = pick (both (ltb q (cfg .required .n)) (eqb room 0)) (isStored (cfg .edition) (x .value)) (both (isVoid (x .value)) (not (x .updated))) in
         filled-length isPayload isVoid voidV 16 (x .queue .queued) (x .queue .at)
         (both-right (leb (x .queue .queued) room) _ (both-right held _ (all-at (λ (k : ℕ). elementSound cfg k (elementIn (st .elements) k)) 16 (g .elements) q small)))
 

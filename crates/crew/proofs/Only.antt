@@ -1,4 +1,4 @@
--- Two configurations of the same text have the same parts (`text-fixes`), and two lists of steps of the same text are the same (`steps-are-one`). A text is its edition, its fields one behind the other and the end
+-- Two configurations of the same text have the same edition (`edition-fixed`) and the same parts (`text-fixes`), and two lists of steps of the same text are the same (`steps-are-one`). A text is its edition, its fields one behind the other and the end
 -- (`text-runs`). The fields tell which parts they are of: each has its tag first, is as long as its tag says, and reads back as its entry (`runs-one`); and by their tags they give back each kind (`kind-of-fields`).
 -- Assumes nothing.
 use Prim.Native.Nat.{ℕ, zero, suc, _+_, _≤_, _<_, _^_}
@@ -139,12 +139,12 @@ module _ (cfg : Config) where
   unfolding kindFields kindBytes partBytes runs
   kind-runs tag = runs-gather (λ i. record { tag = tag; entry = entryOf cfg tag i } ∷ []) (countOf cfg tag) ∙ build-same _ _ (countOf cfg tag) (λ k l. append-nil (entryBytes tag (entryOf cfg tag k)))
 
-  text-runs : configText cfg ≡ editionBytes ++ runs endBytes fields
+  text-runs : configText cfg ≡ editionBytes (cfg .edition) ++ runs endBytes fields
   unfolding configText partsBytes blockOf fields
   text-runs =
-      append-assoc editionBytes (build (λ (j : ℕ). kindBytes cfg (0x10 + j)) 10) endBytes
-      ∙ ap (λ (l : List ℕ). editionBytes ++ (l ++ endBytes)) (sym (runs-gather (λ j. kindFields (0x10 + j)) 10 ∙ build-same _ _ 10 (λ k l. kind-runs (0x10 + k))))
-      ∙ ap (λ (l : List ℕ). editionBytes ++ l) (sym (runs-behind endBytes fields))
+      append-assoc (editionBytes (cfg .edition)) (build (λ (j : ℕ). kindBytes cfg (0x10 + j)) 10) endBytes
+      ∙ ap (λ (l : List ℕ). editionBytes (cfg .edition) ++ (l ++ endBytes)) (sym (runs-gather (λ j. kindFields (0x10 + j)) 10 ∙ build-same _ _ 10 (λ k l. kind-runs (0x10 + k))))
+      ∙ ap (λ (l : List ℕ). editionBytes (cfg .edition) ++ l) (sym (runs-behind endBytes fields))
 
   fields-say : Fixed cfg → EachSays fields
   unfolding fields kindFields EachSays
@@ -203,6 +203,9 @@ kind-of-fields cfg k low high =
 -- ---- the same text, the same parts
 
 module _ (a b : Config) (f : Fixed a) (g : Fixed b) (e : configText a ≡ configText b) where
+  pub edition-fixed : a .edition ≡ b .edition
+  edition-fixed = ap (λ (l : List ℕ). getD l 3 0) (sym (text-runs a) ∙ e ∙ text-runs b)
+
   same-fields : fields a ≡ fields b
   same-fields = runs-one (fields a) (fields b) (fields-say a f) (fields-say b g) (ap (drop 4) (sym (text-runs a) ∙ e ∙ text-runs b))
 

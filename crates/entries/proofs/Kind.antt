@@ -13,9 +13,10 @@ use Rattle.laws.specs.Loop.{allBelow}
 use Rattle.laws.proofs.Choosing.{both-left, both-right, both-no, pick-on}
 use Rattle.laws.proofs.Looping.{all-at, all-of, all-fails}
 use Rattle.config.specs.declared.Config.{Config}
+use Rattle.config.specs.Editions.{isEdition}
 use Rattle.entries.specs.declared.Entry.{Entry}
 use Rattle.entries.specs.Entries.{maxOf, countOf, placesOf, entryOf}
-use Rattle.entries.specs.Faults.{inRange, namesThere, pairsWell, entryFault, isNoEntry, placeSound, kindSound, configSound}
+use Rattle.entries.specs.Faults.{inRange, namesThere, pairsWell, entryFault, isNoEntry, placeSound, kindSound, partsSound, configSound}
 
 -- ---- an entry
 
@@ -89,15 +90,19 @@ kind-made cfg k f =
 
 -- ---- a configuration
 
-pub config-told : (cfg : Config) → configSound cfg ≡ true → (k : ℕ) → 0x10 ≤ k → k ≤ 0x19 → Kind cfg k
+pub edition-told : (cfg : Config) → configSound cfg ≡ true → isEdition (cfg .edition) ≡ true
 unfolding configSound
+edition-told cfg h = both-left (isEdition (cfg .edition)) _ h
+
+pub config-told : (cfg : Config) → configSound cfg ≡ true → (k : ℕ) → 0x10 ≤ k → k ≤ 0x19 → Kind cfg k
+unfolding configSound partsSound
 config-told cfg h k a b =
     let e : 0x10 + (k - 0x10) ≡ k = omega arith in
-    kind-told cfg k (rw e at (all-at (λ (j : ℕ). kindSound cfg (0x10 + j)) 10 h (k - 0x10) (omega arith)))
+    kind-told cfg k (rw e at (all-at (λ (j : ℕ). kindSound cfg (0x10 + j)) 10 (both-right (isEdition (cfg .edition)) _ h) (k - 0x10) (omega arith)))
 
-pub config-made : (cfg : Config) → ((k : ℕ) → 0x10 ≤ k → k ≤ 0x19 → Kind cfg k) → configSound cfg ≡ true
-unfolding configSound
-config-made cfg f = all-of (λ (j : ℕ). kindSound cfg (0x10 + j)) 10 (λ j l. kind-made cfg (0x10 + j) (f (0x10 + j) (omega arith) (omega arith)))
+pub config-made : (cfg : Config) → isEdition (cfg .edition) ≡ true → ((k : ℕ) → 0x10 ≤ k → k ≤ 0x19 → Kind cfg k) → configSound cfg ≡ true
+unfolding configSound partsSound
+config-made cfg e f = rw e (all-of (λ (j : ℕ). kindSound cfg (0x10 + j)) 10 (λ j l. kind-made cfg (0x10 + j) (f (0x10 + j) (omega arith) (omega arith))))
 
 -- ---- from what a loop finds
 

@@ -11,9 +11,10 @@ use Rattle.laws.specs.Choice.{pick}
 use Rattle.laws.specs.Loop.{allBelow}
 use Rattle.laws.proofs.Choosing.{pick-alike}
 use Rattle.config.specs.declared.Config.{Config}
+use Rattle.config.specs.Editions.{isEdition}
 use Rattle.config.specs.Tables.{noConfig, runnableConfIn, variableConfIn, areaConfIn, requiredConfIn, providedConfIn, linkIn, operationConfIn, timerConfIn, dataEventIn, returnEventIn}
 use Rattle.entries.specs.Entries.{noEntry, maxOf, countOf, placesOf, entryOf}
-use Rattle.entries.specs.Faults.{inRange, namesThere, pairsWell, entryFault, isNoEntry, placeSound, kindSound, configSound}
+use Rattle.entries.specs.Faults.{inRange, namesThere, pairsWell, entryFault, isNoEntry, placeSound, kindSound, partsSound, configSound}
 
 module _ (k : ℕ) (n : 0x10 ≤ k → k ≤ 0x19 → ⊥) where
   -- a choice by the ten tags comes to its last
@@ -62,5 +63,5 @@ unfolding countOf noConfig
 blank-none k = simp pick-alike
 
 pub blank-sound : configSound noConfig ≡ true
-unfolding configSound kindSound allBelow placeSound entryFault isNoEntry inRange namesThere pairsWell maxOf countOf placesOf entryOf noConfig runnableConfIn variableConfIn areaConfIn requiredConfIn providedConfIn linkIn operationConfIn timerConfIn dataEventIn returnEventIn
+unfolding configSound isEdition partsSound kindSound allBelow placeSound entryFault isNoEntry inRange namesThere pairsWell maxOf countOf placesOf entryOf noConfig runnableConfIn variableConfIn areaConfIn requiredConfIn providedConfIn linkIn operationConfIn timerConfIn dataEventIn returnEventIn
 blank-sound = refl

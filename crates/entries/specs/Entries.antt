@@ -4,7 +4,7 @@
 use Prim.Native.Nat.{ℕ, _+_, _*_, _%_}
 use lib.Dec.{ltb, eqb}
 use lib.ListN.{length}
-use Rattle.numbers.specs.Tags.{runnableTag, variableTag, areaTag, requiredTag, providedTag, linkTag, operationTag, timerTag, dataEventTag, returnEventTag}
+use Rattle.numbers.specs.Tags.{editionTag, runnableTag, variableTag, areaTag, requiredTag, providedTag, linkTag, operationTag, timerTag, dataEventTag, returnEventTag}
 use Rattle.laws.specs.Choice.{pick, bit}
 use Rattle.config.specs.declared.RunnableConf.{RunnableConf}
 use Rattle.config.specs.declared.RunnableConfs.{RunnableConfs}
@@ -174,47 +174,51 @@ entryOf cfg tag i =
     (pick (eqb tag returnEventTag) (returnEventEntry (returnEventIn (cfg .revents) i))
     noEntry)))))))))
 
+-- the configuration with another edition (W-208)
+abbrev pub withEdition : Config → ℕ → Config
+withEdition cfg e = record { edition = e; runnables = cfg .runnables; variables = cfg .variables; areas = cfg .areas; required = cfg .required; provided = cfg .provided; links = cfg .links; operations = cfg .operations; timers = cfg .timers; devents = cfg .devents; revents = cfg .revents }
+
 -- the configuration with another table of runnables ("The parts, and how many")
 abbrev pub withRunnableConfs : Config → RunnableConfs → Config
-withRunnableConfs cfg t = record { runnables = t; variables = cfg .variables; areas = cfg .areas; required = cfg .required; provided = cfg .provided; links = cfg .links; operations = cfg .operations; timers = cfg .timers; devents = cfg .devents; revents = cfg .revents }
+withRunnableConfs cfg t = record { edition = cfg .edition; runnables = t; variables = cfg .variables; areas = cfg .areas; required = cfg .required; provided = cfg .provided; links = cfg .links; operations = cfg .operations; timers = cfg .timers; devents = cfg .devents; revents = cfg .revents }
 
 -- the configuration with another table of variables ("The parts, and how many")
 abbrev pub withVariableConfs : Config → VariableConfs → Config
-withVariableConfs cfg t = record { runnables = cfg .runnables; variables = t; areas = cfg .areas; required = cfg .required; provided = cfg .provided; links = cfg .links; operations = cfg .operations; timers = cfg .timers; devents = cfg .devents; revents = cfg .revents }
+withVariableConfs cfg t = record { edition = cfg .edition; runnables = cfg .runnables; variables = t; areas = cfg .areas; required = cfg .required; provided = cfg .provided; links = cfg .links; operations = cfg .operations; timers = cfg .timers; devents = cfg .devents; revents = cfg .revents }
 
 -- the configuration with another table of areas ("The parts, and how many")
 abbrev pub withAreaConfs : Config → AreaConfs → Config
-withAreaConfs cfg t = record { runnables = cfg .runnables; variables = cfg .variables; areas = t; required = cfg .required; provided = cfg .provided; links = cfg .links; operations = cfg .operations; timers = cfg .timers; devents = cfg .devents; revents = cfg .revents }
+withAreaConfs cfg t = record { edition = cfg .edition; runnables = cfg .runnables; variables = cfg .variables; areas = t; required = cfg .required; provided = cfg .provided; links = cfg .links; operations = cfg .operations; timers = cfg .timers; devents = cfg .devents; revents = cfg .revents }
 
 -- the configuration with another table of required elements ("The parts, and how many")
 abbrev pub withRequiredConfs : Config → RequiredConfs → Config
-withRequiredConfs cfg t = record { runnables = cfg .runnables; variables = cfg .variables; areas = cfg .areas; required = t; provided = cfg .provided; links = cfg .links; operations = cfg .operations; timers = cfg .timers; devents = cfg .devents; revents = cfg .revents }
+withRequiredConfs cfg t = record { edition = cfg .edition; runnables = cfg .runnables; variables = cfg .variables; areas = cfg .areas; required = t; provided = cfg .provided; links = cfg .links; operations = cfg .operations; timers = cfg .timers; devents = cfg .devents; revents = cfg .revents }
 
 -- the configuration with another table of provided elements ("The parts, and how many")
 abbrev pub withProvidedConfs : Config → ProvidedConfs → Config
-withProvidedConfs cfg t = record { runnables = cfg .runnables; variables = cfg .variables; areas = cfg .areas; required = cfg .required; provided = t; links = cfg .links; operations = cfg .operations; timers = cfg .timers; devents = cfg .devents; revents = cfg .revents }
+withProvidedConfs cfg t = record { edition = cfg .edition; runnables = cfg .runnables; variables = cfg .variables; areas = cfg .areas; required = cfg .required; provided = t; links = cfg .links; operations = cfg .operations; timers = cfg .timers; devents = cfg .devents; revents = cfg .revents }
 
 -- the configuration with another table of links ("The parts, and how many")
 abbrev pub withLinks : Config → Links → Config
-withLinks cfg t = record { runnables = cfg .runnables; variables = cfg .variables; areas = cfg .areas; required = cfg .required; provided = cfg .provided; links = t; operations = cfg .operations; timers = cfg .timers; devents = cfg .devents; revents = cfg .revents }
+withLinks cfg t = record { edition = cfg .edition; runnables = cfg .runnables; variables = cfg .variables; areas = cfg .areas; required = cfg .required; provided = cfg .provided; links = t; operations = cfg .operations; timers = cfg .timers; devents = cfg .devents; revents = cfg .revents }
 
 -- the configuration with another table of operations ("The parts, and how many")
 abbrev pub withOperationConfs : Config → OperationConfs → Config
-withOperationConfs cfg t = record { runnables = cfg .runnables; variables = cfg .variables; areas = cfg .areas; required = cfg .required; provided = cfg .provided; links = cfg .links; operations = t; timers = cfg .timers; devents = cfg .devents; revents = cfg .revents }
+withOperationConfs cfg t = record { edition = cfg .edition; runnables = cfg .runnables; variables = cfg .variables; areas = cfg .areas; required = cfg .required; provided = cfg .provided; links = cfg .links; operations = t; timers = cfg .timers; devents = cfg .devents; revents = cfg .revents }
 
 -- the configuration with another table of timers ("The parts, and how many")
 abbrev pub withTimerConfs : Config → TimerConfs → Config
-withTimerConfs cfg t = record { runnables = cfg .runnables; variables = cfg .variables; areas = cfg .areas; required = cfg .required; provided = cfg .provided; links = cfg .links; operations = cfg .operations; timers = t; devents = cfg .devents; revents = cfg .revents }
+withTimerConfs cfg t = record { edition = cfg .edition; runnables = cfg .runnables; variables = cfg .variables; areas = cfg .areas; required = cfg .required; provided = cfg .provided; links = cfg .links; operations = cfg .operations; timers = t; devents = cfg .devents; revents = cfg .revents }
 
 -- the configuration with another table of data events ("The parts, and how many")
 abbrev pub withDataEvents : Config → DataEvents → Config
-withDataEvents cfg t = record { runnables = cfg .runnables; variables = cfg .variables; areas = cfg .areas; required = cfg .required; provided = cfg .provided; links = cfg .links; operations = cfg .operations; timers = cfg .timers; devents = t; revents = cfg .revents }
+withDataEvents cfg t = record { edition = cfg .edition; runnables = cfg .runnables; variables = cfg .variables; areas = cfg .areas; required = cfg .required; provided = cfg .provided; links = cfg .links; operations = cfg .operations; timers = cfg .timers; devents = t; revents = cfg .revents }
 
 -- the configuration with another table of return events ("The parts, and how many")
 abbrev pub withReturnEvents : Config → ReturnEvents → Config
-withReturnEvents cfg t = record { runnables = cfg .runnables; variables = cfg .variables; areas = cfg .areas; required = cfg .required; provided = cfg .provided; links = cfg .links; operations = cfg .operations; timers = cfg .timers; devents = cfg .devents; revents = t }
+withReturnEvents cfg t = record { edition = cfg .edition; runnables = cfg .runnables; variables = cfg .variables; areas = cfg .areas; required = cfg .required; provided = cfg .provided; links = cfg .links; operations = cfg .operations; timers = cfg .timers; devents = cfg .devents; revents = t }
 
--- the configuration with one part more of a kind, as the entry says ("The files", the table)
+-- the configuration with one part more of a kind, or its edition, as the entry says ("The files", the table; W-208)
 unfoldable pub placed : Config → ℕ → Entry → Config
 placed cfg tag e =
     pick (eqb tag runnableTag) (withRunnableConfs cfg (addRunnableConf (cfg .runnables) (runnablePart e)))
@@ -227,4 +231,5 @@ placed cfg tag e =
     (pick (eqb tag timerTag) (withTimerConfs cfg (addTimerConf (cfg .timers) (timerPart e)))
     (pick (eqb tag dataEventTag) (withDataEvents cfg (addDataEvent (cfg .devents) (dataEventPart e)))
     (pick (eqb tag returnEventTag) (withReturnEvents cfg (addReturnEvent (cfg .revents) (returnEventPart e)))
-    cfg)))))))))
+    (pick (eqb tag editionTag) (withEdition cfg (e .first))
+    cfg))))))))))

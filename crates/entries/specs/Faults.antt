@@ -10,6 +10,7 @@ use Rattle.laws.specs.Choice.{pick, both, either, alike}
 use Rattle.laws.specs.Loop.{allBelow}
 use Rattle.config.specs.declared.Config.{Config}
 use Rattle.config.specs.Tables.{maxCapacity, runnableConfIn, requiredConfIn, providedConfIn}
+use Rattle.config.specs.Editions.{isEdition}
 use Rattle.entries.specs.declared.Entry.{Entry}
 use Rattle.entries.specs.Entries.{maxOf, countOf, placesOf, entryOf}
 
@@ -102,6 +103,10 @@ unfoldable pub kindSound : Config → ℕ → Bool
 kindSound cfg tag =
     both (eqb (placesOf cfg tag) (maxOf tag)) (both (leb (countOf cfg tag) (maxOf tag)) (allBelow (placeSound cfg tag) (maxOf tag)))
 
--- a sound configuration: all ten kinds are sound, with the tags from 10 to 19 ("A sound state", first sentence)
+-- all ten kinds are sound, with the tags from 10 to 19 ("A sound state", first sentence)
+unfoldable pub partsSound : Config → Bool
+partsSound cfg = allBelow (λ (j : ℕ). kindSound cfg (runnableTag + j)) partKinds
+
+-- a sound configuration: its edition is one that there is, and its parts are sound ("A sound state", first sentence; W-208)
 unfoldable pub configSound : Config → Bool
-configSound cfg = allBelow (λ (j : ℕ). kindSound cfg (runnableTag + j)) partKinds
+configSound cfg = both (isEdition (cfg .edition)) (partsSound cfg)

@@ -4,8 +4,8 @@ ghost use mathlib.Core.Bool.{not};
 ghost use lib.Dec.{leb, ltb, eqb};
 ghost use Rattle.laws.specs.Choice.{both, either, alike, bit};
 ghost use Rattle.config.specs.Tables.{addRunnableConf, addVariableConf, addAreaConf, addRequiredConf, addProvidedConf, addLink, addOperationConf, addTimerConf, addDataEvent, addReturnEvent, maxCapacity, providedConfIn};
-ghost use Rattle.entries.specs.Entries.{maxOf, countOf, entryOf, placed, runnableEntry, variableEntry, areaEntry, requiredEntry, providedEntry, linkEntry, operationEntry, timerEntry, dataEventEntry, returnEventEntry, runnablePart, variablePart, areaPart, requiredPart, providedPart, linkPart, operationPart, timerPart, dataEventPart, returnEventPart, withRunnableConfs, withVariableConfs, withAreaConfs, withRequiredConfs, withProvidedConfs, withLinks, withOperationConfs, withTimerConfs, withDataEvents, withReturnEvents};
-ghost use Rattle.entries.specs.Faults.{maxComponent, maxTime, isTime, inRange, namesThere, isServer, isQueued, rises, risesAt, pairsWell, entryFault, isNoEntry, placeSound, kindSound, configSound};
+ghost use Rattle.entries.specs.Entries.{maxOf, countOf, entryOf, placed, runnableEntry, variableEntry, areaEntry, requiredEntry, providedEntry, linkEntry, operationEntry, timerEntry, dataEventEntry, returnEventEntry, runnablePart, variablePart, areaPart, requiredPart, providedPart, linkPart, operationPart, timerPart, dataEventPart, returnEventPart, withRunnableConfs, withVariableConfs, withAreaConfs, withRequiredConfs, withProvidedConfs, withLinks, withOperationConfs, withTimerConfs, withDataEvents, withReturnEvents, withEdition};
+ghost use Rattle.entries.specs.Faults.{maxComponent, maxTime, isTime, inRange, namesThere, isServer, isQueued, rises, risesAt, pairsWell, entryFault, isNoEntry, placeSound, kindSound, partsSound, configSound};
 use config::AreaConf;
 use config::AreaConfs;
 use config::Config;
@@ -448,6 +448,14 @@ fn place_return_event(cfg: Config, e: Entry) -> Config
     next
 }
 
+fn place_edition(cfg: Config, e: Entry) -> Config
+    ensures { λ r. ⌜ r ≡ withEdition cfg (e .first) ⌝ }
+{
+    let mut next = cfg;
+    next.edition = e.first;
+    next
+}
+
 pub fn placed(cfg: Config, tag: u8, e: Entry) -> Config
     ensures { λ r. ⌜ r ≡ placed cfg tag e ⌝ }
 {
@@ -462,6 +470,7 @@ pub fn placed(cfg: Config, tag: u8, e: Entry) -> Config
         numbers::TAG_TIMER => place_timer(cfg, e),
         numbers::TAG_DATA_EVENT => place_data_event(cfg, e),
         numbers::TAG_RETURN_EVENT => place_return_event(cfg, e),
+        numbers::TAG_EDITION => place_edition(cfg, e),
         _ => cfg,
     }
 }
@@ -726,9 +735,9 @@ pub fn kind_sound(cfg: Config, tag: u8) -> bool
     true
 }
 
-// 1, of a configuration: every place of all ten kinds.
-pub fn config_sound(cfg: Config) -> bool
-    ensures { λ r. ⌜ r ≡ configSound cfg ⌝ }
+// Every place of all ten kinds.
+fn parts_sound(cfg: Config) -> bool
+    ensures { λ r. ⌜ r ≡ partsSound cfg ⌝ }
 {
     let mut j: u8 = 0;
     while j < 10 {
@@ -739,4 +748,11 @@ pub fn config_sound(cfg: Config) -> bool
         }
     }
     true
+}
+
+// 1, of a configuration: its edition, and every place of all ten kinds.
+pub fn config_sound(cfg: Config) -> bool
+    ensures { λ r. ⌜ r ≡ configSound cfg ⌝ }
+{
+    config::is_edition(cfg.edition) && parts_sound(cfg)
 }

@@ -11,13 +11,14 @@ use Rattle.laws.specs.Loop.{allBelow, anyBelow, sumBelow, firstBelow}
 use Rattle.laws.specs.Mask.{maskBelow}
 use Rattle.laws.specs.Row.{eachBelow, shifted, placeFilled, filled}
 use Rattle.values.specs.Values.{isVoid, isPayload, isKind, isMask, isGood, sameValue, numberV}
+use Rattle.config.specs.Editions.{isEdition, marksInvalid, hasStep}
 use Rattle.config.specs.Tables.{runnableConfIn, addRunnableConf, variableConfIn, addVariableConf, areaConfIn, addAreaConf, requiredConfIn, addRequiredConf, providedConfIn, addProvidedConf, linkIn, addLink, operationConfIn, addOperationConf, timerConfIn, addTimerConf, dataEventIn, addDataEvent, returnEventIn, addReturnEvent, noConfig}
 use Rattle.state.specs.Parts.{noRequests, noRunnable, noValues, noElement, noStack, noSlot}
 use Rattle.state.specs.Tables.{noRunnables, runnableIn, withRunnable, noVariables, variableIn, withVariable, noAreas, areaIn, withArea, noElements, elementIn, withElement, noOperations, operationIn, withOperation, noTimers, timerIn, withTimer, noSlots, slotIn, withSlot}
 use Rattle.state.specs.Queues.{pushRequest, firstRequest, restRequests, pushValue, firstValue, restValues, pushArea, topArea, popArea}
 use Rattle.state.specs.Start.{startVariable, startElement, startRunnables, startVariables, startElements, startOf}
 use Rattle.entries.specs.Entries.{maxOf, countOf, placesOf, entryOf, placed}
-use Rattle.entries.specs.Faults.{inRange, namesThere, isServer, isQueued, rises, risesAt, pairsWell, entryFault, isNoEntry, placeSound, kindSound, configSound}
+use Rattle.entries.specs.Faults.{inRange, namesThere, isServer, isQueued, rises, risesAt, pairsWell, entryFault, isNoEntry, placeSound, kindSound, configSound, partsSound}
 use Rattle.rules.specs.Sound.{isNoClient, clientFits, requestsSound, valuesSound, runnableSound, variableSound, isStored, elementSound, isOutcome, callingSound, doneSound, operationSound, timerSound, waitsWell, lifeSound, owedSound, areaFits, stackSound, isNoSlot, slotSound, ofRunnable, slotsOf, countSound, timesIn, holders, areaSound, isClient, queuedAs, servedAs, clientsAs, clientSound, queuedSound, servedSound, calledSound, waitsOn, waitersOf, waiterSound, runnablesSound, variablesSound, elementsSound, operationsSound, timersSound, slotsSound, countsSound, areasSound, clientsSound, waitersSound, shaped, soundOf}
 use Rattle.rules.specs.Rows.{rows, rowOf}
 use Rattle.rules.specs.Refusals.{argues, formed, partThere, queuesAs, partOwn, asksSynchronous, finishedLets, failedLets, lifeLets, ownedRefusal, instanceRefusal, schedulerRefusal, refusalBy, refusalOf}
@@ -29,7 +30,7 @@ use Rattle.reading.specs.Reading.{sizeOf, entryRead, inOrder, headOf, bodyFault
 use Rattle.judging.specs.Judging.{judgeFrom, judgeOf, restOf}
 use Rattle.judging.specs.Line.{judgedLine, readLine, lineOf}
 use Rattle.judging.specs.declared.Line.{Line}
-use Rattle.judging.specs.declared.Line.the-variants.{Accepted, Refused}
+use Rattle.judging.specs.declared.Line.the-variants.{Accepted, Refused, Configuration}
 use Rattle.history.specs.History.{noRequest, byTimeout, byInstance, byFailure, History, nothing, observe, historyFrom, historyOf, timeOf, timeIn, timeSince}
 
 -- ---- the fields, byte by byte
@@ -319,7 +320,7 @@ pub table : List Row
 table = late ∷ falseClaim ∷ waitTooLong ∷ inTime ∷ noCall ∷ callTwice ∷ exitBelow ∷ sendThird ∷ []
 
 pub late-plans : map (λ (x : Row). lineOf (x .config) (x .recording)) table ≡ map (λ (x : Row). x .line) table
-unfolding allOf allBelow anyBelow sumBelow maskBelow firstBelow eachBelow shifted placeFilled filled isVoid isPayload isKind isMask isGood sameValue runnableConfIn addRunnableConf variableConfIn addVariableConf areaConfIn addAreaConf requiredConfIn addRequiredConf providedConfIn addProvidedConf linkIn addLink operationConfIn addOperationConf timerConfIn addTimerConf dataEventIn addDataEvent returnEventIn addReturnEvent noConfig noRequests noRunnable noValues noElement noStack noSlot noRunnables runnableIn withRunnable noVariables variableIn withVariable noAreas areaIn withArea noElements elementIn withElement noOperations operationIn withOperation noTimers timerIn withTimer noSlots slotIn withSlot pushRequest firstRequest restRequests pushValue firstValue restValues pushArea topArea popArea startVariable startElement startRunnables startVariables startElements startOf maxOf countOf placesOf entryOf placed inRange namesThere isServer isQueued rises risesAt pairsWell entryFault isNoEntry placeSound kindSound configSound isNoClient clientFits requestsSound valuesSound runnableSound variableSound isStored elementSound isOutcome callingSound doneSound operationSound timerSound waitsWell lifeSound owedSound areaFits stackSound isNoSlot slotSound ofRunnable slotsOf countSound timesIn holders areaSound isClient queuedAs servedAs clientsAs clientSound queuedSound servedSound calledSound waitsOn waitersOf waiterSound runnablesSound variablesSound elementsSound operationsSound timersSound slotsSound countsSound areasSound clientsSound waitersSound shaped soundOf rows rowOf argues formed partThere queuesAs partOwn asksSynchronous finishedLets failedLets lifeLets ownedRefusal instanceRefusal schedulerRefusal refusalBy refusalOf readVariableOf writeVariableOf enterOf onTop exitOf readOf updatedOf linked accepts fedElement fedElements feeds isFed fedRunnables fed writeOf invalidateOf isFull fullMask sentOf sendOf receiveOf requestsFull callerAfter called callOf pollOf collectOf resultOf closing returns isReturned returnedRunnables closed answers handBackOf timeoutOf endOf isDue maySpawn starting instanceOf isEmptyAt lowestEmpty foundEmpty spawned spawnOf tickOf operationLets timerLets operationsLet timersLet operationAfter operationsAfter timersAfter runnablesAfter allLet waited waitOf failOf actOf possibleOf agrees claimedOf innerOf stepOf valuesGood tested stepIn endIn fieldOf sizeOf entryRead inOrder headOf bodyFault refusedAt readFrom configOf judgeFrom judgeOf restOf judgedLine readLine lineOf firstField lastField client server operation area queue sender link spawnClient spawnServer callSeven callAgain waitFifty waitLonger timesOut backLate backInTime askTimeout askNine askVoid enterFirst enterSecond exitFirst sendOne sendTwo sendThree receiveOne receiveTwo receiveNone joined file lateConfig areasConfig queueConfig late falseClaim waitTooLong inTime noCall callTwice exitBelow sendThird table
+unfolding allOf allBelow anyBelow sumBelow maskBelow firstBelow eachBelow shifted placeFilled filled isVoid isPayload isKind isMask isGood sameValue runnableConfIn addRunnableConf variableConfIn addVariableConf areaConfIn addAreaConf requiredConfIn addRequiredConf providedConfIn addProvidedConf linkIn addLink operationConfIn addOperationConf timerConfIn addTimerConf dataEventIn addDataEvent returnEventIn addReturnEvent noConfig noRequests noRunnable noValues noElement noStack noSlot noRunnables runnableIn withRunnable noVariables variableIn withVariable noAreas areaIn withArea noElements elementIn withElement noOperations operationIn withOperation noTimers timerIn withTimer noSlots slotIn withSlot pushRequest firstRequest restRequests pushValue firstValue restValues pushArea topArea popArea startVariable startElement startRunnables startVariables startElements startOf maxOf countOf placesOf entryOf placed inRange namesThere isServer isQueued rises risesAt pairsWell entryFault isNoEntry placeSound kindSound configSound isNoClient clientFits requestsSound valuesSound runnableSound variableSound isStored elementSound isOutcome callingSound doneSound operationSound timerSound waitsWell lifeSound owedSound areaFits stackSound isNoSlot slotSound ofRunnable slotsOf countSound timesIn holders areaSound isClient queuedAs servedAs clientsAs clientSound queuedSound servedSound calledSound waitsOn waitersOf waiterSound runnablesSound variablesSound elementsSound operationsSound timersSound slotsSound countsSound areasSound clientsSound waitersSound shaped soundOf rows rowOf argues formed partThere queuesAs partOwn asksSynchronous finishedLets failedLets lifeLets ownedRefusal instanceRefusal schedulerRefusal refusalBy refusalOf readVariableOf writeVariableOf enterOf onTop exitOf readOf updatedOf linked accepts fedElement fedElements feeds isFed fedRunnables fed writeOf invalidateOf isFull fullMask sentOf sendOf receiveOf requestsFull callerAfter called callOf pollOf collectOf resultOf closing returns isReturned returnedRunnables closed answers handBackOf timeoutOf endOf isDue maySpawn starting instanceOf isEmptyAt lowestEmpty foundEmpty spawned spawnOf tickOf operationLets timerLets operationsLet timersLet operationAfter operationsAfter timersAfter runnablesAfter allLet waited waitOf failOf actOf possibleOf agrees claimedOf innerOf stepOf valuesGood tested stepIn endIn fieldOf sizeOf entryRead inOrder headOf bodyFault refusedAt readFrom configOf judgeFrom judgeOf restOf judgedLine readLine lineOf firstField lastField client server operation area queue sender link spawnClient spawnServer callSeven callAgain waitFifty waitLonger timesOut backLate backInTime askTimeout askNine askVoid enterFirst enterSecond exitFirst sendOne sendTwo sendThree receiveOne receiveTwo receiveNone joined file lateConfig areasConfig queueConfig late falseClaim waitTooLong inTime noCall callTwice exitBelow sendThird table isEdition partsSound hasStep marksInvalid
 late-plans = refl
 
 -- ---- the calls of two rows, followed
@@ -347,12 +348,12 @@ pub histories : map followed (late ∷ inTime ∷ []) ≡
       endings = record { on = 0; call = 2; at = 4; how = byInstance 2 (numberV 9) } ∷ [];
     }
     ∷ []
-unfolding allOf allBelow anyBelow sumBelow maskBelow firstBelow eachBelow shifted placeFilled filled isVoid isPayload isKind isMask isGood sameValue runnableConfIn addRunnableConf variableConfIn addVariableConf areaConfIn addAreaConf requiredConfIn addRequiredConf providedConfIn addProvidedConf linkIn addLink operationConfIn addOperationConf timerConfIn addTimerConf dataEventIn addDataEvent returnEventIn addReturnEvent noConfig noRequests noRunnable noValues noElement noStack noSlot noRunnables runnableIn withRunnable noVariables variableIn withVariable noAreas areaIn withArea noElements elementIn withElement noOperations operationIn withOperation noTimers timerIn withTimer noSlots slotIn withSlot pushRequest firstRequest restRequests pushValue firstValue restValues pushArea topArea popArea startVariable startElement startRunnables startVariables startElements startOf maxOf countOf placesOf entryOf placed inRange namesThere isServer isQueued rises risesAt pairsWell entryFault isNoEntry placeSound kindSound configSound isNoClient clientFits requestsSound valuesSound runnableSound variableSound isStored elementSound isOutcome callingSound doneSound operationSound timerSound waitsWell lifeSound owedSound areaFits stackSound isNoSlot slotSound ofRunnable slotsOf countSound timesIn holders areaSound isClient queuedAs servedAs clientsAs clientSound queuedSound servedSound calledSound waitsOn waitersOf waiterSound runnablesSound variablesSound elementsSound operationsSound timersSound slotsSound countsSound areasSound clientsSound waitersSound shaped soundOf rows rowOf argues formed partThere queuesAs partOwn asksSynchronous finishedLets failedLets lifeLets ownedRefusal instanceRefusal schedulerRefusal refusalBy refusalOf readVariableOf writeVariableOf enterOf onTop exitOf readOf updatedOf linked accepts fedElement fedElements feeds isFed fedRunnables fed writeOf invalidateOf isFull fullMask sentOf sendOf receiveOf requestsFull callerAfter called callOf pollOf collectOf resultOf closing returns isReturned returnedRunnables closed answers handBackOf timeoutOf endOf isDue maySpawn starting instanceOf isEmptyAt lowestEmpty foundEmpty spawned spawnOf tickOf operationLets timerLets operationsLet timersLet operationAfter operationsAfter timersAfter runnablesAfter allLet waited waitOf failOf actOf possibleOf agrees claimedOf innerOf stepOf valuesGood tested stepIn endIn fieldOf sizeOf entryRead inOrder headOf bodyFault refusedAt readFrom configOf judgeFrom judgeOf restOf judgedLine readLine lineOf firstField lastField client server operation area queue sender link spawnClient spawnServer callSeven callAgain waitFifty waitLonger timesOut backLate backInTime askTimeout askNine askVoid enterFirst enterSecond exitFirst sendOne sendTwo sendThree receiveOne receiveTwo receiveNone joined file lateConfig areasConfig queueConfig late falseClaim waitTooLong inTime noCall callTwice exitBelow sendThird table wholeFrom wholeOf nothing observe historyFrom historyOf followed
+unfolding allOf allBelow anyBelow sumBelow maskBelow firstBelow eachBelow shifted placeFilled filled isVoid isPayload isKind isMask isGood sameValue runnableConfIn addRunnableConf variableConfIn addVariableConf areaConfIn addAreaConf requiredConfIn addRequiredConf providedConfIn addProvidedConf linkIn addLink operationConfIn addOperationConf timerConfIn addTimerConf dataEventIn addDataEvent returnEventIn addReturnEvent noConfig noRequests noRunnable noValues noElement noStack noSlot noRunnables runnableIn withRunnable noVariables variableIn withVariable noAreas areaIn withArea noElements elementIn withElement noOperations operationIn withOperation noTimers timerIn withTimer noSlots slotIn withSlot pushRequest firstRequest restRequests pushValue firstValue restValues pushArea topArea popArea startVariable startElement startRunnables startVariables startElements startOf maxOf countOf placesOf entryOf placed inRange namesThere isServer isQueued rises risesAt pairsWell entryFault isNoEntry placeSound kindSound configSound isNoClient clientFits requestsSound valuesSound runnableSound variableSound isStored elementSound isOutcome callingSound doneSound operationSound timerSound waitsWell lifeSound owedSound areaFits stackSound isNoSlot slotSound ofRunnable slotsOf countSound timesIn holders areaSound isClient queuedAs servedAs clientsAs clientSound queuedSound servedSound calledSound waitsOn waitersOf waiterSound runnablesSound variablesSound elementsSound operationsSound timersSound slotsSound countsSound areasSound clientsSound waitersSound shaped soundOf rows rowOf argues formed partThere queuesAs partOwn asksSynchronous finishedLets failedLets lifeLets ownedRefusal instanceRefusal schedulerRefusal refusalBy refusalOf readVariableOf writeVariableOf enterOf onTop exitOf readOf updatedOf linked accepts fedElement fedElements feeds isFed fedRunnables fed writeOf invalidateOf isFull fullMask sentOf sendOf receiveOf requestsFull callerAfter called callOf pollOf collectOf resultOf closing returns isReturned returnedRunnables closed answers handBackOf timeoutOf endOf isDue maySpawn starting instanceOf isEmptyAt lowestEmpty foundEmpty spawned spawnOf tickOf operationLets timerLets operationsLet timersLet operationAfter operationsAfter timersAfter runnablesAfter allLet waited waitOf failOf actOf possibleOf agrees claimedOf innerOf stepOf valuesGood tested stepIn endIn fieldOf sizeOf entryRead inOrder headOf bodyFault refusedAt readFrom configOf judgeFrom judgeOf restOf judgedLine readLine lineOf firstField lastField client server operation area queue sender link spawnClient spawnServer callSeven callAgain waitFifty waitLonger timesOut backLate backInTime askTimeout askNine askVoid enterFirst enterSecond exitFirst sendOne sendTwo sendThree receiveOne receiveTwo receiveNone joined file lateConfig areasConfig queueConfig late falseClaim waitTooLong inTime noCall callTwice exitBelow sendThird table wholeFrom wholeOf nothing observe historyFrom historyOf followed isEdition partsSound hasStep marksInvalid
 histories = refl
 
 -- (a) the waits from the call at place 2 to the timeout add up to 50
 pub fifty-waited : timeSince 2 (take 4 (stepsIn (late .recording))) ≡ 50
-unfolding allOf allBelow anyBelow sumBelow maskBelow firstBelow eachBelow shifted placeFilled filled isVoid isPayload isKind isMask isGood sameValue runnableConfIn addRunnableConf variableConfIn addVariableConf areaConfIn addAreaConf requiredConfIn addRequiredConf providedConfIn addProvidedConf linkIn addLink operationConfIn addOperationConf timerConfIn addTimerConf dataEventIn addDataEvent returnEventIn addReturnEvent noConfig noRequests noRunnable noValues noElement noStack noSlot noRunnables runnableIn withRunnable noVariables variableIn withVariable noAreas areaIn withArea noElements elementIn withElement noOperations operationIn withOperation noTimers timerIn withTimer noSlots slotIn withSlot pushRequest firstRequest restRequests pushValue firstValue restValues pushArea topArea popArea startVariable startElement startRunnables startVariables startElements startOf maxOf countOf placesOf entryOf placed inRange namesThere isServer isQueued rises risesAt pairsWell entryFault isNoEntry placeSound kindSound configSound isNoClient clientFits requestsSound valuesSound runnableSound variableSound isStored elementSound isOutcome callingSound doneSound operationSound timerSound waitsWell lifeSound owedSound areaFits stackSound isNoSlot slotSound ofRunnable slotsOf countSound timesIn holders areaSound isClient queuedAs servedAs clientsAs clientSound queuedSound servedSound calledSound waitsOn waitersOf waiterSound runnablesSound variablesSound elementsSound operationsSound timersSound slotsSound countsSound areasSound clientsSound waitersSound shaped soundOf rows rowOf argues formed partThere queuesAs partOwn asksSynchronous finishedLets failedLets lifeLets ownedRefusal instanceRefusal schedulerRefusal refusalBy refusalOf readVariableOf writeVariableOf enterOf onTop exitOf readOf updatedOf linked accepts fedElement fedElements feeds isFed fedRunnables fed writeOf invalidateOf isFull fullMask sentOf sendOf receiveOf requestsFull callerAfter called callOf pollOf collectOf resultOf closing returns isReturned returnedRunnables closed answers handBackOf timeoutOf endOf isDue maySpawn starting instanceOf isEmptyAt lowestEmpty foundEmpty spawned spawnOf tickOf operationLets timerLets operationsLet timersLet operationAfter operationsAfter timersAfter runnablesAfter allLet waited waitOf failOf actOf possibleOf agrees claimedOf innerOf stepOf valuesGood tested stepIn endIn fieldOf sizeOf entryRead inOrder headOf bodyFault refusedAt readFrom configOf judgeFrom judgeOf restOf judgedLine readLine lineOf firstField lastField client server operation area queue sender link spawnClient spawnServer callSeven callAgain waitFifty waitLonger timesOut backLate backInTime askTimeout askNine askVoid enterFirst enterSecond exitFirst sendOne sendTwo sendThree receiveOne receiveTwo receiveNone joined file lateConfig areasConfig queueConfig late falseClaim waitTooLong inTime noCall callTwice exitBelow sendThird table wholeFrom wholeOf timeOf timeIn
+unfolding allOf allBelow anyBelow sumBelow maskBelow firstBelow eachBelow shifted placeFilled filled isVoid isPayload isKind isMask isGood sameValue runnableConfIn addRunnableConf variableConfIn addVariableConf areaConfIn addAreaConf requiredConfIn addRequiredConf providedConfIn addProvidedConf linkIn addLink operationConfIn addOperationConf timerConfIn addTimerConf dataEventIn addDataEvent returnEventIn addReturnEvent noConfig noRequests noRunnable noValues noElement noStack noSlot noRunnables runnableIn withRunnable noVariables variableIn withVariable noAreas areaIn withArea noElements elementIn withElement noOperations operationIn withOperation noTimers timerIn withTimer noSlots slotIn withSlot pushRequest firstRequest restRequests pushValue firstValue restValues pushArea topArea popArea startVariable startElement startRunnables startVariables startElements startOf maxOf countOf placesOf entryOf placed inRange namesThere isServer isQueued rises risesAt pairsWell entryFault isNoEntry placeSound kindSound configSound isNoClient clientFits requestsSound valuesSound runnableSound variableSound isStored elementSound isOutcome callingSound doneSound operationSound timerSound waitsWell lifeSound owedSound areaFits stackSound isNoSlot slotSound ofRunnable slotsOf countSound timesIn holders areaSound isClient queuedAs servedAs clientsAs clientSound queuedSound servedSound calledSound waitsOn waitersOf waiterSound runnablesSound variablesSound elementsSound operationsSound timersSound slotsSound countsSound areasSound clientsSound waitersSound shaped soundOf rows rowOf argues formed partThere queuesAs partOwn asksSynchronous finishedLets failedLets lifeLets ownedRefusal instanceRefusal schedulerRefusal refusalBy refusalOf readVariableOf writeVariableOf enterOf onTop exitOf readOf updatedOf linked accepts fedElement fedElements feeds isFed fedRunnables fed writeOf invalidateOf isFull fullMask sentOf sendOf receiveOf requestsFull callerAfter called callOf pollOf collectOf resultOf closing returns isReturned returnedRunnables closed answers handBackOf timeoutOf endOf isDue maySpawn starting instanceOf isEmptyAt lowestEmpty foundEmpty spawned spawnOf tickOf operationLets timerLets operationsLet timersLet operationAfter operationsAfter timersAfter runnablesAfter allLet waited waitOf failOf actOf possibleOf agrees claimedOf innerOf stepOf valuesGood tested stepIn endIn fieldOf sizeOf entryRead inOrder headOf bodyFault refusedAt readFrom configOf judgeFrom judgeOf restOf judgedLine readLine lineOf firstField lastField client server operation area queue sender link spawnClient spawnServer callSeven callAgain waitFifty waitLonger timesOut backLate backInTime askTimeout askNine askVoid enterFirst enterSecond exitFirst sendOne sendTwo sendThree receiveOne receiveTwo receiveNone joined file lateConfig areasConfig queueConfig late falseClaim waitTooLong inTime noCall callTwice exitBelow sendThird table wholeFrom wholeOf timeOf timeIn isEdition partsSound hasStep marksInvalid
 fifty-waited = refl
 
 -- ---- full queues (W-201)
@@ -392,8 +393,51 @@ pub fullTable : List Row
 fullTable = sendThird ∷ sendOlder ∷ sendWrong ∷ sendBare ∷ sendHigh ∷ sendSoon ∷ callWrong ∷ sendFour ∷ []
 
 pub full-queues : map (λ (x : Row). lineOf (x .config) (x .recording)) fullTable ≡ map (λ (x : Row). x .line) fullTable
-unfolding allOf allBelow anyBelow sumBelow maskBelow firstBelow eachBelow shifted placeFilled filled isVoid isPayload isKind isMask isGood sameValue runnableConfIn addRunnableConf variableConfIn addVariableConf areaConfIn addAreaConf requiredConfIn addRequiredConf providedConfIn addProvidedConf linkIn addLink operationConfIn addOperationConf timerConfIn addTimerConf dataEventIn addDataEvent returnEventIn addReturnEvent noConfig noRequests noRunnable noValues noElement noStack noSlot noRunnables runnableIn withRunnable noVariables variableIn withVariable noAreas areaIn withArea noElements elementIn withElement noOperations operationIn withOperation noTimers timerIn withTimer noSlots slotIn withSlot pushRequest firstRequest restRequests pushValue firstValue restValues pushArea topArea popArea startVariable startElement startRunnables startVariables startElements startOf maxOf countOf placesOf entryOf placed inRange namesThere isServer isQueued rises risesAt pairsWell entryFault isNoEntry placeSound kindSound configSound isNoClient clientFits requestsSound valuesSound runnableSound variableSound isStored elementSound isOutcome callingSound doneSound operationSound timerSound waitsWell lifeSound owedSound areaFits stackSound isNoSlot slotSound ofRunnable slotsOf countSound timesIn holders areaSound isClient queuedAs servedAs clientsAs clientSound queuedSound servedSound calledSound waitsOn waitersOf waiterSound runnablesSound variablesSound elementsSound operationsSound timersSound slotsSound countsSound areasSound clientsSound waitersSound shaped soundOf rows rowOf argues formed partThere queuesAs partOwn asksSynchronous finishedLets failedLets lifeLets ownedRefusal instanceRefusal schedulerRefusal refusalBy refusalOf readVariableOf writeVariableOf enterOf onTop exitOf readOf updatedOf linked accepts fedElement fedElements feeds isFed fedRunnables fed writeOf invalidateOf isFull fullMask sentOf sendOf receiveOf requestsFull callerAfter called callOf pollOf collectOf resultOf closing returns isReturned returnedRunnables closed answers handBackOf timeoutOf endOf isDue maySpawn starting instanceOf isEmptyAt lowestEmpty foundEmpty spawned spawnOf tickOf operationLets timerLets operationsLet timersLet operationAfter operationsAfter timersAfter runnablesAfter allLet waited waitOf failOf actOf possibleOf agrees claimedOf innerOf stepOf valuesGood tested stepIn endIn fieldOf sizeOf entryRead inOrder headOf bodyFault refusedAt readFrom configOf judgeFrom judgeOf restOf judgedLine readLine lineOf firstField lastField client server operation queue sender link scale linkSecond linkFourth linkThird spawnClient callSeven callFull sendOne sendTwo sendThree sendLimit sendOther sendNothing sendBeyond sendEarly sendAside sendAll takeSecond sendAgain takeAgain receiveOne receiveTwo receiveNone joined file lateConfig queueConfig scalesConfig sendThird sendOlder sendWrong sendBare sendHigh sendSoon callWrong sendFour fullTable
+unfolding allOf allBelow anyBelow sumBelow maskBelow firstBelow eachBelow shifted placeFilled filled isVoid isPayload isKind isMask isGood sameValue runnableConfIn addRunnableConf variableConfIn addVariableConf areaConfIn addAreaConf requiredConfIn addRequiredConf providedConfIn addProvidedConf linkIn addLink operationConfIn addOperationConf timerConfIn addTimerConf dataEventIn addDataEvent returnEventIn addReturnEvent noConfig noRequests noRunnable noValues noElement noStack noSlot noRunnables runnableIn withRunnable noVariables variableIn withVariable noAreas areaIn withArea noElements elementIn withElement noOperations operationIn withOperation noTimers timerIn withTimer noSlots slotIn withSlot pushRequest firstRequest restRequests pushValue firstValue restValues pushArea topArea popArea startVariable startElement startRunnables startVariables startElements startOf maxOf countOf placesOf entryOf placed inRange namesThere isServer isQueued rises risesAt pairsWell entryFault isNoEntry placeSound kindSound configSound isNoClient clientFits requestsSound valuesSound runnableSound variableSound isStored elementSound isOutcome callingSound doneSound operationSound timerSound waitsWell lifeSound owedSound areaFits stackSound isNoSlot slotSound ofRunnable slotsOf countSound timesIn holders areaSound isClient queuedAs servedAs clientsAs clientSound queuedSound servedSound calledSound waitsOn waitersOf waiterSound runnablesSound variablesSound elementsSound operationsSound timersSound slotsSound countsSound areasSound clientsSound waitersSound shaped soundOf rows rowOf argues formed partThere queuesAs partOwn asksSynchronous finishedLets failedLets lifeLets ownedRefusal instanceRefusal schedulerRefusal refusalBy refusalOf readVariableOf writeVariableOf enterOf onTop exitOf readOf updatedOf linked accepts fedElement fedElements feeds isFed fedRunnables fed writeOf invalidateOf isFull fullMask sentOf sendOf receiveOf requestsFull callerAfter called callOf pollOf collectOf resultOf closing returns isReturned returnedRunnables closed answers handBackOf timeoutOf endOf isDue maySpawn starting instanceOf isEmptyAt lowestEmpty foundEmpty spawned spawnOf tickOf operationLets timerLets operationsLet timersLet operationAfter operationsAfter timersAfter runnablesAfter allLet waited waitOf failOf actOf possibleOf agrees claimedOf innerOf stepOf valuesGood tested stepIn endIn fieldOf sizeOf entryRead inOrder headOf bodyFault refusedAt readFrom configOf judgeFrom judgeOf restOf judgedLine readLine lineOf firstField lastField client server operation queue sender link scale linkSecond linkFourth linkThird spawnClient callSeven callFull sendOne sendTwo sendThree sendLimit sendOther sendNothing sendBeyond sendEarly sendAside sendAll takeSecond sendAgain takeAgain receiveOne receiveTwo receiveNone joined file lateConfig queueConfig scalesConfig sendThird sendOlder sendWrong sendBare sendHigh sendSoon callWrong sendFour fullTable isEdition partsSound hasStep marksInvalid
 full-queues = refl
+
+-- ---- the two editions
+
+-- an unqueued required element of component 0, an unqueued provided one, and a link between them
+board : List ℕ
+board = 0x13 ∷ 0x00 ∷ 0x02 ∷ 0x00 ∷ 0x00 ∷ []
+
+painter : List ℕ
+painter = 0x14 ∷ 0x00 ∷ 0x02 ∷ 0x00 ∷ 0x00 ∷ []
+
+-- the configuration of the client with these, of an edition
+editionConfig : ℕ → List ℕ
+editionConfig e = (0x01 ∷ 0x00 ∷ 0x01 ∷ e ∷ []) ++ (client ++ (board ++ (painter ++ (link ++ lastField))))
+
+-- slot 0 invalidates the provided element 0; reads the required element 0, and claims Invalid; names the provided element 1, which is not there; hands over a Number
+marks : List ℕ
+marks = 0x40 ∷ 0x00 ∷ 0x0d ∷ 0x08 ∷ 0x00 ∷ 0x00 ∷ 0x00 ∷ 0x00 ∷ 0x00 ∷ 0x00 ∷ 0x00 ∷ 0x00 ∷ 0x00 ∷ 0x00 ∷ 0x00 ∷ 0x00 ∷ []
+
+readsInvalid : List ℕ
+readsInvalid = 0x40 ∷ 0x00 ∷ 0x0d ∷ 0x05 ∷ 0x00 ∷ 0x00 ∷ 0x00 ∷ 0x00 ∷ 0x00 ∷ 0x00 ∷ 0x00 ∷ 0x07 ∷ 0x00 ∷ 0x00 ∷ 0x00 ∷ 0x00 ∷ []
+
+marksNothing : List ℕ
+marksNothing = 0x40 ∷ 0x00 ∷ 0x0d ∷ 0x08 ∷ 0x00 ∷ 0x01 ∷ 0x00 ∷ 0x00 ∷ 0x00 ∷ 0x00 ∷ 0x00 ∷ 0x00 ∷ 0x00 ∷ 0x00 ∷ 0x00 ∷ 0x00 ∷ []
+
+marksWith : List ℕ
+marksWith = 0x40 ∷ 0x00 ∷ 0x0d ∷ 0x08 ∷ 0x00 ∷ 0x00 ∷ 0x01 ∷ 0x00 ∷ 0x00 ∷ 0x00 ∷ 0x00 ∷ 0x00 ∷ 0x00 ∷ 0x00 ∷ 0x00 ∷ 0x00 ∷ []
+
+-- under edition 1 an element is marked, and reads Invalid; under edition 2 there is no such step, 30, behind 2 and before 3; a claim of Invalid is still read, and another answer; and there is no edition 3
+pub editionTable : List Row
+editionTable =
+    record { config = editionConfig 1; recording = file (spawnClient ∷ marks ∷ readsInvalid ∷ []); line = Accepted 3 }
+    ∷ record { config = editionConfig 2; recording = file (spawnClient ∷ marks ∷ readsInvalid ∷ []); line = Refused 2 30 }
+    ∷ record { config = editionConfig 2; recording = file (spawnClient ∷ marksWith ∷ []); line = Refused 2 2 }
+    ∷ record { config = editionConfig 2; recording = file (spawnClient ∷ marksNothing ∷ []); line = Refused 2 30 }
+    ∷ record { config = editionConfig 1; recording = file (spawnClient ∷ marksNothing ∷ []); line = Refused 2 3 }
+    ∷ record { config = editionConfig 2; recording = file (spawnClient ∷ readsInvalid ∷ []); line = Refused 2 17 }
+    ∷ record { config = editionConfig 0; recording = file (spawnClient ∷ []); line = Configuration 1 24 }
+    ∷ record { config = editionConfig 3; recording = file (spawnClient ∷ []); line = Configuration 1 24 }
+    ∷ []
+
+pub both-editions : map (λ (x : Row). lineOf (x .config) (x .recording)) editionTable ≡ map (λ (x : Row). x .line) editionTable
+unfolding allOf allBelow anyBelow sumBelow maskBelow firstBelow eachBelow shifted placeFilled filled isVoid isPayload isKind isMask isGood sameValue runnableConfIn addRunnableConf variableConfIn addVariableConf areaConfIn addAreaConf requiredConfIn addRequiredConf providedConfIn addProvidedConf linkIn addLink operationConfIn addOperationConf timerConfIn addTimerConf dataEventIn addDataEvent returnEventIn addReturnEvent noConfig noRequests noRunnable noValues noElement noStack noSlot noRunnables runnableIn withRunnable noVariables variableIn withVariable noAreas areaIn withArea noElements elementIn withElement noOperations operationIn withOperation noTimers timerIn withTimer noSlots slotIn withSlot pushRequest firstRequest restRequests pushValue firstValue restValues pushArea topArea popArea startVariable startElement startRunnables startVariables startElements startOf maxOf countOf placesOf entryOf placed inRange namesThere isServer isQueued rises risesAt pairsWell entryFault isNoEntry placeSound kindSound configSound isNoClient clientFits requestsSound valuesSound runnableSound variableSound isStored elementSound isOutcome callingSound doneSound operationSound timerSound waitsWell lifeSound owedSound areaFits stackSound isNoSlot slotSound ofRunnable slotsOf countSound timesIn holders areaSound isClient queuedAs servedAs clientsAs clientSound queuedSound servedSound calledSound waitsOn waitersOf waiterSound runnablesSound variablesSound elementsSound operationsSound timersSound slotsSound countsSound areasSound clientsSound waitersSound shaped soundOf rows rowOf argues formed partThere queuesAs partOwn asksSynchronous finishedLets failedLets lifeLets ownedRefusal instanceRefusal schedulerRefusal refusalBy refusalOf readVariableOf writeVariableOf enterOf onTop exitOf readOf updatedOf linked accepts fedElement fedElements feeds isFed fedRunnables fed writeOf invalidateOf isFull fullMask sentOf sendOf receiveOf requestsFull callerAfter called callOf pollOf collectOf resultOf closing returns isReturned returnedRunnables closed answers handBackOf timeoutOf endOf isDue maySpawn starting instanceOf isEmptyAt lowestEmpty foundEmpty spawned spawnOf tickOf operationLets timerLets operationsLet timersLet operationAfter operationsAfter timersAfter runnablesAfter allLet waited waitOf failOf actOf possibleOf agrees claimedOf innerOf stepOf valuesGood tested stepIn endIn fieldOf sizeOf entryRead inOrder headOf bodyFault refusedAt readFrom configOf judgeFrom judgeOf restOf judgedLine readLine lineOf firstField lastField client server operation queue sender link scale linkSecond linkFourth linkThird spawnClient callSeven callFull sendOne sendTwo sendThree sendLimit sendOther sendNothing sendBeyond sendEarly sendAside sendAll takeSecond sendAgain takeAgain receiveOne receiveTwo receiveNone joined file lateConfig queueConfig scalesConfig sendThird sendOlder sendWrong sendBare sendHigh sendSoon callWrong sendFour fullTable isEdition partsSound hasStep marksInvalid board painter editionConfig marks readsInvalid marksNothing marksWith editionTable
+both-editions = refl
 
 -- ---- a crane that fails
 
@@ -425,7 +469,7 @@ pub craneTable : List Row
 craneTable = craneInTime ∷ craneTooLate ∷ craneNumber ∷ craneEntersFailed ∷ []
 
 pub failing-cranes : map (λ (x : Row). lineOf (x .config) (x .recording)) craneTable ≡ map (λ (x : Row). x .line) craneTable
-unfolding allOf allBelow anyBelow sumBelow maskBelow firstBelow eachBelow shifted placeFilled filled isVoid isPayload isKind isMask isGood sameValue runnableConfIn addRunnableConf variableConfIn addVariableConf areaConfIn addAreaConf requiredConfIn addRequiredConf providedConfIn addProvidedConf linkIn addLink operationConfIn addOperationConf timerConfIn addTimerConf dataEventIn addDataEvent returnEventIn addReturnEvent noConfig noRequests noRunnable noValues noElement noStack noSlot noRunnables runnableIn withRunnable noVariables variableIn withVariable noAreas areaIn withArea noElements elementIn withElement noOperations operationIn withOperation noTimers timerIn withTimer noSlots slotIn withSlot pushRequest firstRequest restRequests pushValue firstValue restValues pushArea topArea popArea startVariable startElement startRunnables startVariables startElements startOf maxOf countOf placesOf entryOf placed inRange namesThere isServer isQueued rises risesAt pairsWell entryFault isNoEntry placeSound kindSound configSound isNoClient clientFits requestsSound valuesSound runnableSound variableSound isStored elementSound isOutcome callingSound doneSound operationSound timerSound waitsWell lifeSound owedSound areaFits stackSound isNoSlot slotSound ofRunnable slotsOf countSound timesIn holders areaSound isClient queuedAs servedAs clientsAs clientSound queuedSound servedSound calledSound waitsOn waitersOf waiterSound runnablesSound variablesSound elementsSound operationsSound timersSound slotsSound countsSound areasSound clientsSound waitersSound shaped soundOf rows rowOf argues formed partThere queuesAs partOwn asksSynchronous finishedLets failedLets lifeLets ownedRefusal instanceRefusal schedulerRefusal refusalBy refusalOf readVariableOf writeVariableOf enterOf onTop exitOf readOf updatedOf linked accepts fedElement fedElements feeds isFed fedRunnables fed writeOf invalidateOf isFull fullMask sentOf sendOf receiveOf requestsFull callerAfter called callOf pollOf collectOf resultOf closing returns isReturned returnedRunnables closed answers handBackOf timeoutOf endOf isDue maySpawn starting instanceOf isEmptyAt lowestEmpty foundEmpty spawned spawnOf tickOf operationLets timerLets operationsLet timersLet operationAfter operationsAfter timersAfter runnablesAfter allLet waited waitOf failOf actOf possibleOf agrees claimedOf innerOf stepOf valuesGood tested stepIn endIn fieldOf sizeOf entryRead inOrder headOf bodyFault refusedAt readFrom configOf judgeFrom judgeOf restOf judgedLine readLine lineOf firstField lastField client server operation area queue sender link spawnClient spawnServer callSeven callAgain waitFifty waitLonger timesOut backLate backInTime askTimeout askNine askVoid enterFirst enterSecond exitFirst sendOne sendTwo sendThree receiveOne receiveTwo receiveNone craneArea craneEntersFirst craneEntersSecond craneFails craneBack craneBackLate craneExitsSecond craneExitsFirst craneEnds askServerErr joined file lateConfig areasConfig queueConfig craneConfig craneInTime craneTooLate craneNumber craneEntersFailed craneTable
+unfolding allOf allBelow anyBelow sumBelow maskBelow firstBelow eachBelow shifted placeFilled filled isVoid isPayload isKind isMask isGood sameValue runnableConfIn addRunnableConf variableConfIn addVariableConf areaConfIn addAreaConf requiredConfIn addRequiredConf providedConfIn addProvidedConf linkIn addLink operationConfIn addOperationConf timerConfIn addTimerConf dataEventIn addDataEvent returnEventIn addReturnEvent noConfig noRequests noRunnable noValues noElement noStack noSlot noRunnables runnableIn withRunnable noVariables variableIn withVariable noAreas areaIn withArea noElements elementIn withElement noOperations operationIn withOperation noTimers timerIn withTimer noSlots slotIn withSlot pushRequest firstRequest restRequests pushValue firstValue restValues pushArea topArea popArea startVariable startElement startRunnables startVariables startElements startOf maxOf countOf placesOf entryOf placed inRange namesThere isServer isQueued rises risesAt pairsWell entryFault isNoEntry placeSound kindSound configSound isNoClient clientFits requestsSound valuesSound runnableSound variableSound isStored elementSound isOutcome callingSound doneSound operationSound timerSound waitsWell lifeSound owedSound areaFits stackSound isNoSlot slotSound ofRunnable slotsOf countSound timesIn holders areaSound isClient queuedAs servedAs clientsAs clientSound queuedSound servedSound calledSound waitsOn waitersOf waiterSound runnablesSound variablesSound elementsSound operationsSound timersSound slotsSound countsSound areasSound clientsSound waitersSound shaped soundOf rows rowOf argues formed partThere queuesAs partOwn asksSynchronous finishedLets failedLets lifeLets ownedRefusal instanceRefusal schedulerRefusal refusalBy refusalOf readVariableOf writeVariableOf enterOf onTop exitOf readOf updatedOf linked accepts fedElement fedElements feeds isFed fedRunnables fed writeOf invalidateOf isFull fullMask sentOf sendOf receiveOf requestsFull callerAfter called callOf pollOf collectOf resultOf closing returns isReturned returnedRunnables closed answers handBackOf timeoutOf endOf isDue maySpawn starting instanceOf isEmptyAt lowestEmpty foundEmpty spawned spawnOf tickOf operationLets timerLets operationsLet timersLet operationAfter operationsAfter timersAfter runnablesAfter allLet waited waitOf failOf actOf possibleOf agrees claimedOf innerOf stepOf valuesGood tested stepIn endIn fieldOf sizeOf entryRead inOrder headOf bodyFault refusedAt readFrom configOf judgeFrom judgeOf restOf judgedLine readLine lineOf firstField lastField client server operation area queue sender link spawnClient spawnServer callSeven callAgain waitFifty waitLonger timesOut backLate backInTime askTimeout askNine askVoid enterFirst enterSecond exitFirst sendOne sendTwo sendThree receiveOne receiveTwo receiveNone craneArea craneEntersFirst craneEntersSecond craneFails craneBack craneBackLate craneExitsSecond craneExitsFirst craneEnds askServerErr joined file lateConfig areasConfig queueConfig craneConfig craneInTime craneTooLate craneNumber craneEntersFailed craneTable isEdition partsSound hasStep marksInvalid
 failing-cranes = refl
 
 -- (i) the call at place 2 was ended at place 7 by the failure of the instance spawned for it. (j) it was ended by the timeout at place 8, and by nothing else
@@ -447,5 +491,5 @@ pub failing-histories : map followed (craneInTime ∷ craneTooLate ∷ []) ≡
       endings = record { on = 0; call = 2; at = 8; how = byTimeout } ∷ [];
     }
     ∷ []
-unfolding allOf allBelow anyBelow sumBelow maskBelow firstBelow eachBelow shifted placeFilled filled isVoid isPayload isKind isMask isGood sameValue runnableConfIn addRunnableConf variableConfIn addVariableConf areaConfIn addAreaConf requiredConfIn addRequiredConf providedConfIn addProvidedConf linkIn addLink operationConfIn addOperationConf timerConfIn addTimerConf dataEventIn addDataEvent returnEventIn addReturnEvent noConfig noRequests noRunnable noValues noElement noStack noSlot noRunnables runnableIn withRunnable noVariables variableIn withVariable noAreas areaIn withArea noElements elementIn withElement noOperations operationIn withOperation noTimers timerIn withTimer noSlots slotIn withSlot pushRequest firstRequest restRequests pushValue firstValue restValues pushArea topArea popArea startVariable startElement startRunnables startVariables startElements startOf maxOf countOf placesOf entryOf placed inRange namesThere isServer isQueued rises risesAt pairsWell entryFault isNoEntry placeSound kindSound configSound isNoClient clientFits requestsSound valuesSound runnableSound variableSound isStored elementSound isOutcome callingSound doneSound operationSound timerSound waitsWell lifeSound owedSound areaFits stackSound isNoSlot slotSound ofRunnable slotsOf countSound timesIn holders areaSound isClient queuedAs servedAs clientsAs clientSound queuedSound servedSound calledSound waitsOn waitersOf waiterSound runnablesSound variablesSound elementsSound operationsSound timersSound slotsSound countsSound areasSound clientsSound waitersSound shaped soundOf rows rowOf argues formed partThere queuesAs partOwn asksSynchronous finishedLets failedLets lifeLets ownedRefusal instanceRefusal schedulerRefusal refusalBy refusalOf readVariableOf writeVariableOf enterOf onTop exitOf readOf updatedOf linked accepts fedElement fedElements feeds isFed fedRunnables fed writeOf invalidateOf isFull fullMask sentOf sendOf receiveOf requestsFull callerAfter called callOf pollOf collectOf resultOf closing returns isReturned returnedRunnables closed answers handBackOf timeoutOf endOf isDue maySpawn starting instanceOf isEmptyAt lowestEmpty foundEmpty spawned spawnOf tickOf operationLets timerLets operationsLet timersLet operationAfter operationsAfter timersAfter runnablesAfter allLet waited waitOf failOf actOf possibleOf agrees claimedOf innerOf stepOf valuesGood tested stepIn endIn fieldOf sizeOf entryRead inOrder headOf bodyFault refusedAt readFrom configOf judgeFrom judgeOf restOf judgedLine readLine lineOf firstField lastField client server operation area queue sender link spawnClient spawnServer callSeven callAgain waitFifty waitLonger timesOut backLate backInTime askTimeout askNine askVoid enterFirst enterSecond exitFirst sendOne sendTwo sendThree receiveOne receiveTwo receiveNone craneArea craneEntersFirst craneEntersSecond craneFails craneBack craneBackLate craneExitsSecond craneExitsFirst craneEnds askServerErr joined file lateConfig areasConfig queueConfig craneConfig craneInTime craneTooLate craneNumber craneEntersFailed craneTable wholeFrom wholeOf nothing observe historyFrom historyOf followed
+unfolding allOf allBelow anyBelow sumBelow maskBelow firstBelow eachBelow shifted placeFilled filled isVoid isPayload isKind isMask isGood sameValue runnableConfIn addRunnableConf variableConfIn addVariableConf areaConfIn addAreaConf requiredConfIn addRequiredConf providedConfIn addProvidedConf linkIn addLink operationConfIn addOperationConf timerConfIn addTimerConf dataEventIn addDataEvent returnEventIn addReturnEvent noConfig noRequests noRunnable noValues noElement noStack noSlot noRunnables runnableIn withRunnable noVariables variableIn withVariable noAreas areaIn withArea noElements elementIn withElement noOperations operationIn withOperation noTimers timerIn withTimer noSlots slotIn withSlot pushRequest firstRequest restRequests pushValue firstValue restValues pushArea topArea popArea startVariable startElement startRunnables startVariables startElements startOf maxOf countOf placesOf entryOf placed inRange namesThere isServer isQueued rises risesAt pairsWell entryFault isNoEntry placeSound kindSound configSound isNoClient clientFits requestsSound valuesSound runnableSound variableSound isStored elementSound isOutcome callingSound doneSound operationSound timerSound waitsWell lifeSound owedSound areaFits stackSound isNoSlot slotSound ofRunnable slotsOf countSound timesIn holders areaSound isClient queuedAs servedAs clientsAs clientSound queuedSound servedSound calledSound waitsOn waitersOf waiterSound runnablesSound variablesSound elementsSound operationsSound timersSound slotsSound countsSound areasSound clientsSound waitersSound shaped soundOf rows rowOf argues formed partThere queuesAs partOwn asksSynchronous finishedLets failedLets lifeLets ownedRefusal instanceRefusal schedulerRefusal refusalBy refusalOf readVariableOf writeVariableOf enterOf onTop exitOf readOf updatedOf linked accepts fedElement fedElements feeds isFed fedRunnables fed writeOf invalidateOf isFull fullMask sentOf sendOf receiveOf requestsFull callerAfter called callOf pollOf collectOf resultOf closing returns isReturned returnedRunnables closed answers handBackOf timeoutOf endOf isDue maySpawn starting instanceOf isEmptyAt lowestEmpty foundEmpty spawned spawnOf tickOf operationLets timerLets operationsLet timersLet operationAfter operationsAfter timersAfter runnablesAfter allLet waited waitOf failOf actOf possibleOf agrees claimedOf innerOf stepOf valuesGood tested stepIn endIn fieldOf sizeOf entryRead inOrder headOf bodyFault refusedAt readFrom configOf judgeFrom judgeOf restOf judgedLine readLine lineOf firstField lastField client server operation area queue sender link spawnClient spawnServer callSeven callAgain waitFifty waitLonger timesOut backLate backInTime askTimeout askNine askVoid enterFirst enterSecond exitFirst sendOne sendTwo sendThree receiveOne receiveTwo receiveNone craneArea craneEntersFirst craneEntersSecond craneFails craneBack craneBackLate craneExitsSecond craneExitsFirst craneEnds askServerErr joined file lateConfig areasConfig queueConfig craneConfig craneInTime craneTooLate craneNumber craneEntersFailed craneTable wholeFrom wholeOf nothing observe historyFrom historyOf followed isEdition partsSound hasStep marksInvalid
 failing-histories = refl

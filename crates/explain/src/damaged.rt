@@ -190,7 +190,7 @@ fn next_field(s: &[u8], at: usize) -> usize {
 // What each kind of field holds.
 fn put_form(out: &mut [u8], at: usize, tag: u8) -> usize {
     match tag {
-        0x01 => put(out, at, b"01 edition: 1 byte, 1"),
+        0x01 => put(out, at, b"01 edition: 1 byte, 1 or 2"),
         0x10 => put(
             out,
             at,
@@ -333,6 +333,12 @@ fn put_time(out: &mut [u8], at: usize, name: &[u8], n: u32) -> usize {
     put_high(out, at, name, n, 3600000)
 }
 
+// An edition that there is not.
+fn put_edition(out: &mut [u8], at: usize, e: u32) -> usize {
+    let a = put_with(out, at, b" It is ", e as u64);
+    put(out, a, b", and there are 1 and 2.")
+}
+
 // 24: the numbers that are out of range.
 fn put_range(out: &mut [u8], at: usize, s: &[u8], from: usize) -> usize {
     if 4096 < from {
@@ -342,7 +348,7 @@ fn put_range(out: &mut [u8], at: usize, s: &[u8], from: usize) -> usize {
     let second = byte_at(s, from + 4) as u32;
     let tag = byte_at(s, from);
     if tag == 0x01 {
-        return put_high(out, at, b"edition", first, 1);
+        return put_edition(out, at, first);
     }
     if tag == 0x17 {
         return put_time(out, at, b"period", byte_number(s, from + 4));

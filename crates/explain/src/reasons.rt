@@ -33,6 +33,7 @@ pub(crate) fn put_rule(out: &mut [u8], at: usize, k: u8) -> usize {
         17 => put(out, at, b"a false answer"),
         18 => put(out, at, b"a damaged field"),
         28 => put(out, at, b"its number is still in use"),
+        30 => put(out, at, b"a step that this edition does not have"),
         _ => put(out, at, b"refused"),
     }
 }
@@ -97,6 +98,16 @@ fn put_hands_number(out: &mut [u8], at: usize, s: Step) -> usize {
     );
     let d = put_value(out, c, s.argument);
     put(out, d, b".")
+}
+
+// 30: what the edition of the configuration does not have.
+fn put_step_gone(out: &mut [u8], at: usize, e: u8) -> usize {
+    let a = put_with(out, at, b"the configuration is of edition ", e as u64);
+    put(
+        out,
+        a,
+        b", whose units mark no element invalid: this step is there in edition 1 alone.",
+    )
 }
 
 // 3: what is not there.
@@ -383,6 +394,7 @@ fn put_first(out: &mut [u8], at: usize, names: &[u8], s: Step, c: Cause) -> usiz
         Cause::HasWhat => put_what_filled(out, at, s),
         Cause::BadArgument(k) => put_argued(out, at, k, s),
         Cause::HandsNumber => put_hands_number(out, at, s),
+        Cause::StepGone(e) => put_step_gone(out, at, e),
         Cause::NoSlot => put_no_slot(out, at, s),
         Cause::EmptySlot => put_empty_slot(out, at, s),
         Cause::NoPart(n) => put_no_part(out, at, n, s),

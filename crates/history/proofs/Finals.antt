@@ -70,7 +70,7 @@ unfolding elementsSound elementSound valuesSound
 values-told cfg st q g b =
     let x = elementIn (st .elements) q in
     let c = requiredConfIn (cfg .required) q .capacity in
-    let held = pick (both (ltb q (cfg .required .n)) (eqb c 0)) (isStored (x .value)) (both (isVoid (x .value)) (not (x .updated))) in
+    let held = pick (both (ltb q (cfg .required .n)) (eqb c 0)) (isStored (cfg .edition) (x .value)) (both (isVoid (x .value)) (not (x .updated))) in
     leb-true _ _ (both-left (leb (x .queue .queued) c) _ (both-right held _ (all-at (λ (q : ℕ). elementSound cfg q (elementIn (st .elements) q)) 16 (g .elements) q b)))
 
 -- ---- open calls

@@ -14,6 +14,7 @@ use Rattle.laws.proofs.Choosing.{clash, both-left, both-right, either-more, pic
 use Rattle.laws.proofs.Places.{filled-good}
 use Rattle.faces.specs.Types.{Config, Stack, State, Stepped}
 use Rattle.values.specs.Values.{voidV, isVoid, isPayload, answerRefusal}
+use Rattle.config.specs.Editions.{marksInvalid, hasStep}
 use Rattle.config.specs.Tables.{maxAreaConfs, areaConfIn}
 use Rattle.entries.specs.Entries.{countOf, entryOf}
 use Rattle.entries.specs.Faults.{isServer}
@@ -50,13 +51,13 @@ module _ (cfg : Config) (st : State) (g : Sound cfg st) (i : ℕ) (b : i < maxSl
       not-true _ (both-right (isServer cfg (x .life .runnable)) _ (sym (owed-when cfg (x .life) (x .owed) (it .owed)) ∙ e))
 
   pub back-open : slotIn (st .slots) i .owed .serving ≡ true → Possible cfg st handBackCode i 0
-  unfolding refusalOf refusalBy instanceRefusal ownedRefusal rowOf rows formed argues partThere partOwn asksSynchronous finishedLets failedLets lifeLets allOf isPayload isVoid handBackOf
+  unfolding refusalOf refusalBy instanceRefusal ownedRefusal rowOf rows formed argues partThere partOwn asksSynchronous finishedLets failedLets lifeLets allOf isPayload isVoid handBackOf hasStep marksInvalid
   back-open e =
       rw (possible-by cfg st (record { code = handBackCode; who = i; what = 0; argument = voidV; claim = voidV }) handBack refl (rw (used, r, f, unfinished e)), f, e)
       (pick-has (λ (y : Stepped). answerRefusal (y .answer) ≡ 0) (answers (st .operations) (clientOf st i)) _ _ (λ q. refl) (λ q. refl))
 
   pub exit-open : 0 < slotIn (st .slots) i .stack .held → Possible cfg st exitCode i (topArea (slotIn (st .slots) i .stack))
-  unfolding refusalOf refusalBy instanceRefusal ownedRefusal rowOf rows formed argues partThere partOwn queuesAs countOf entryOf asksSynchronous finishedLets failedLets lifeLets allOf isVoid exitOf onTop areaFits topArea
+  unfolding refusalOf refusalBy instanceRefusal ownedRefusal rowOf rows formed argues partThere partOwn queuesAs countOf entryOf asksSynchronous finishedLets failedLets lifeLets allOf isVoid exitOf onTop areaFits topArea hasStep marksInvalid
   exit-open p =
       rw (possible-by cfg st (record { code = exitCode; who = i; what = topArea k; argument = voidV; claim = voidV }) exit refl (rw (used, r, f, either-more (not (slotIn (st .slots) i .life .finished)) true refl, both-left (ltb (topArea k) (cfg .areas .n)) _ top, both-right (ltb (topArea k) (cfg .areas .n)) _ top)), lt-ltb 0 (k .held) p, eq-eqb (topArea k) (topArea k) refl)
     where
@@ -69,5 +70,5 @@ module _ (cfg : Config) (st : State) (g : Sound cfg st) (i : ℕ) (b : i < maxSl
           (omega (arith, stack-most cfg (slotIn (st .slots) i .life) k (it .stack), p)) (omega (arith, p))
 
   pub end-open : slotIn (st .slots) i .owed .serving ≡ false → slotIn (st .slots) i .stack .held ≡ 0 → Possible cfg st endCode i 0
-  unfolding refusalOf refusalBy instanceRefusal ownedRefusal rowOf rows formed argues partThere partOwn asksSynchronous finishedLets failedLets lifeLets allOf isVoid endOf
+  unfolding refusalOf refusalBy instanceRefusal ownedRefusal rowOf rows formed argues partThere partOwn asksSynchronous finishedLets failedLets lifeLets allOf isVoid endOf hasStep marksInvalid
   end-open e h = rw (possible-by cfg st (record { code = endCode; who = i; what = 0; argument = voidV; claim = voidV }) end refl (rw (used, r, f, either-more (not (slotIn (st .slots) i .life .finished)) true refl)), e, h)

@@ -25,5 +25,6 @@ pub mod Goes
 pub mod Reached
 pub mod Proofs
 pub mod Sends
+pub mod Editions
 pub mod Together
 pub mod Refuted

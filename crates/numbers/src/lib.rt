@@ -39,6 +39,9 @@ pub const BAD_FIELD: u8 = 18;
 // In the place of 9, which has been retired.
 pub const NUMBER_BORNE: u8 = 28;
 
+// The edition of the configuration has no such step.
+pub const STEP_GONE: u8 = 30;
+
 // Refusals in reading and writing files, and in mending.
 pub const BAD_FRAME: u8 = 21;
 

@@ -144,6 +144,15 @@ config-ReturnEvents-add κs a x y s t = same
 pub config-Config-none : One Rattle.config.proofs.Config.none.Kinds.ps Rattle.config.proofs.Config.none.Kinds.r Rattle.config.proofs.Config.none.Reads.Post
 config-Config-none κs a x y s t = same
 
+pub config-is-edition : One Rattle.config.proofs.is_edition.Kinds.ps Rattle.config.proofs.is_edition.Kinds.r Rattle.config.proofs.is_edition.Reads.Post
+config-is-edition κs a x y s t = same
+
+pub config-marks-invalid : One Rattle.config.proofs.marks_invalid.Kinds.ps Rattle.config.proofs.marks_invalid.Kinds.r Rattle.config.proofs.marks_invalid.Reads.Post
+config-marks-invalid κs a x y s t = same
+
+pub config-has-step : One Rattle.config.proofs.has_step.Kinds.ps Rattle.config.proofs.has_step.Kinds.r Rattle.config.proofs.has_step.Reads.Post
+config-has-step κs a x y s t = same
+
 -- ---- state
 
 pub state-Requests-get : One Rattle.state.proofs.Requests.get.Kinds.ps Rattle.state.proofs.Requests.get.Kinds.r Rattle.state.proofs.Requests.get.Reads.Post

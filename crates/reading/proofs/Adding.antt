@@ -51,6 +51,7 @@ backOf tag e =
 
 -- cfg′ has one part more of a kind, with the entry e, and is otherwise as cfg
 pub record Adds (cfg cfg′ : Config) (tag : ℕ) (e : Entry) : Type 0 where
+  pub edition : cfg′ .edition ≡ cfg .edition
   pub own : countOf cfg′ tag ≡ countOf cfg tag + 1
   pub counts : (k : ℕ) → (k ≡ tag → ⊥) → countOf cfg′ k ≡ countOf cfg k
   pub places : (k : ℕ) → placesOf cfg′ k ≡ placesOf cfg k
@@ -62,8 +63,9 @@ pub record Adds (cfg cfg′ : Config) (tag : ℕ) (e : Entry) : Type 0 where
 row-adds : {A : Type 0} {cfg cfg′ : Config} {tag : ℕ} (entry : A → Entry) (d x : A) (l : List A) (n : ℕ) → n < length l → countOf cfg tag ≡ n → countOf cfg′ tag ≡ n + 1
     → ((i : ℕ) → entryOf cfg tag i ≡ entry (getD l i d)) → ((i : ℕ) → entryOf cfg′ tag i ≡ entry (getD (set l n x) i d))
     → (length (set l n x) ≡ length l → (k : ℕ) → placesOf cfg′ k ≡ placesOf cfg k)
-    → ((k : ℕ) → (k ≡ tag → ⊥) → (countOf cfg′ k ≡ countOf cfg k) × ((i : ℕ) → entryOf cfg′ k i ≡ entryOf cfg k i)) → Adds cfg cfg′ tag (entry x)
-row-adds {A} {cfg} {cfg′} {tag} entry d x l n b own more was now places rest = record {
+    → ((k : ℕ) → (k ≡ tag → ⊥) → (countOf cfg′ k ≡ countOf cfg k) × ((i : ℕ) → entryOf cfg′ k i ≡ entryOf cfg k i)) → cfg′ .edition ≡ cfg .edition → Adds cfg cfg′ tag (entry x)
+row-adds {A} {cfg} {cfg′} {tag} entry d x l n b own more was now places rest same = record {
+  edition = same;
   own = more ∙ ap (λ (m : ℕ). m + 1) (sym own);
   counts = λ k q. rest k q .0;
   places = places (length-set l n x);
@@ -77,16 +79,16 @@ pub adds : (cfg : Config) (e : Entry) (tag : ℕ) → 0x10 ≤ tag → tag ≤ 0
 unfolding countOf maxOf placesOf placed entryOf backOf runnableConfIn addRunnableConf variableConfIn addVariableConf areaConfIn addAreaConf requiredConfIn addRequiredConf providedConfIn addProvidedConf linkIn addLink operationConfIn addOperationConf timerConfIn addTimerConf dataEventIn addDataEvent returnEventIn addReturnEvent
 adds cfg e =
     each-kind (λ tag. countOf cfg tag < maxOf tag → placesOf cfg tag ≡ maxOf tag → Adds cfg (placed cfg tag e) tag (backOf tag e))
-    (λ h l. rw (lt-ltb (cfg .runnables .n) 16 h) (row-adds runnableEntry noRunnableConf (runnablePart e) (cfg .runnables .at) (cfg .runnables .n) (omega arith) refl refl (λ i. refl) (λ i. refl) (λ q k. rw q) (λ k n. rw (ne-eqb k 0x10 n) (refl, λ i. refl))))
-    (λ h l. rw (lt-ltb (cfg .variables .n) 16 h) (row-adds variableEntry noVariableConf (variablePart e) (cfg .variables .at) (cfg .variables .n) (omega arith) refl refl (λ i. refl) (λ i. refl) (λ q k. rw q) (λ k n. rw (ne-eqb k 0x11 n) (refl, λ i. refl))))
-    (λ h l. rw (lt-ltb (cfg .areas .n) 16 h) (row-adds areaEntry noAreaConf (areaPart e) (cfg .areas .at) (cfg .areas .n) (omega arith) refl refl (λ i. refl) (λ i. refl) (λ q k. rw q) (λ k n. rw (ne-eqb k 0x12 n) (refl, λ i. refl))))
-    (λ h l. rw (lt-ltb (cfg .required .n) 16 h) (row-adds requiredEntry noRequiredConf (requiredPart e) (cfg .required .at) (cfg .required .n) (omega arith) refl refl (λ i. refl) (λ i. refl) (λ q k. rw q) (λ k n. rw (ne-eqb k 0x13 n) (refl, λ i. refl))))
-    (λ h l. rw (lt-ltb (cfg .provided .n) 16 h) (row-adds providedEntry noProvidedConf (providedPart e) (cfg .provided .at) (cfg .provided .n) (omega arith) refl refl (λ i. refl) (λ i. refl) (λ q k. rw q) (λ k n. rw (ne-eqb k 0x14 n) (refl, λ i. refl))))
-    (λ h l. rw (lt-ltb (cfg .links .n) 32 h) (row-adds linkEntry noLink (linkPart e) (cfg .links .at) (cfg .links .n) (omega arith) refl refl (λ i. refl) (λ i. refl) (λ q k. rw q) (λ k n. rw (ne-eqb k 0x15 n) (refl, λ i. refl))))
-    (λ h l. rw (lt-ltb (cfg .operations .n) 8 h) (row-adds operationEntry noOperationConf (operationPart e) (cfg .operations .at) (cfg .operations .n) (omega arith) refl refl (λ i. refl) (λ i. refl) (λ q k. rw q) (λ k n. rw (ne-eqb k 0x16 n) (refl, λ i. refl))))
-    (λ h l. rw (lt-ltb (cfg .timers .n) 8 h) (row-adds timerEntry noTimerConf (timerPart e) (cfg .timers .at) (cfg .timers .n) (omega arith) refl refl (λ i. refl) (λ i. refl) (λ q k. rw q) (λ k n. rw (ne-eqb k 0x17 n) (refl, λ i. refl))))
-    (λ h l. rw (lt-ltb (cfg .devents .n) 32 h) (row-adds dataEventEntry noDataEvent (dataEventPart e) (cfg .devents .at) (cfg .devents .n) (omega arith) refl refl (λ i. refl) (λ i. refl) (λ q k. rw q) (λ k n. rw (ne-eqb k 0x18 n) (refl, λ i. refl))))
-    (λ h l. rw (lt-ltb (cfg .revents .n) 16 h) (row-adds returnEventEntry noReturnEvent (returnEventPart e) (cfg .revents .at) (cfg .revents .n) (omega arith) refl refl (λ i. refl) (λ i. refl) (λ q k. rw q) (λ k n. rw (ne-eqb k 0x19 n) (refl, λ i. refl))))
+    (λ h l. rw (lt-ltb (cfg .runnables .n) 16 h) (row-adds runnableEntry noRunnableConf (runnablePart e) (cfg .runnables .at) (cfg .runnables .n) (omega arith) refl refl (λ i. refl) (λ i. refl) (λ q k. rw q) (λ k n. rw (ne-eqb k 0x10 n) (refl, λ i. refl)) refl))
+    (λ h l. rw (lt-ltb (cfg .variables .n) 16 h) (row-adds variableEntry noVariableConf (variablePart e) (cfg .variables .at) (cfg .variables .n) (omega arith) refl refl (λ i. refl) (λ i. refl) (λ q k. rw q) (λ k n. rw (ne-eqb k 0x11 n) (refl, λ i. refl)) refl))
+    (λ h l. rw (lt-ltb (cfg .areas .n) 16 h) (row-adds areaEntry noAreaConf (areaPart e) (cfg .areas .at) (cfg .areas .n) (omega arith) refl refl (λ i. refl) (λ i. refl) (λ q k. rw q) (λ k n. rw (ne-eqb k 0x12 n) (refl, λ i. refl)) refl))
+    (λ h l. rw (lt-ltb (cfg .required .n) 16 h) (row-adds requiredEntry noRequiredConf (requiredPart e) (cfg .required .at) (cfg .required .n) (omega arith) refl refl (λ i. refl) (λ i. refl) (λ q k. rw q) (λ k n. rw (ne-eqb k 0x13 n) (refl, λ i. refl)) refl))
+    (λ h l. rw (lt-ltb (cfg .provided .n) 16 h) (row-adds providedEntry noProvidedConf (providedPart e) (cfg .provided .at) (cfg .provided .n) (omega arith) refl refl (λ i. refl) (λ i. refl) (λ q k. rw q) (λ k n. rw (ne-eqb k 0x14 n) (refl, λ i. refl)) refl))
+    (λ h l. rw (lt-ltb (cfg .links .n) 32 h) (row-adds linkEntry noLink (linkPart e) (cfg .links .at) (cfg .links .n) (omega arith) refl refl (λ i. refl) (λ i. refl) (λ q k. rw q) (λ k n. rw (ne-eqb k 0x15 n) (refl, λ i. refl)) refl))
+    (λ h l. rw (lt-ltb (cfg .operations .n) 8 h) (row-adds operationEntry noOperationConf (operationPart e) (cfg .operations .at) (cfg .operations .n) (omega arith) refl refl (λ i. refl) (λ i. refl) (λ q k. rw q) (λ k n. rw (ne-eqb k 0x16 n) (refl, λ i. refl)) refl))
+    (λ h l. rw (lt-ltb (cfg .timers .n) 8 h) (row-adds timerEntry noTimerConf (timerPart e) (cfg .timers .at) (cfg .timers .n) (omega arith) refl refl (λ i. refl) (λ i. refl) (λ q k. rw q) (λ k n. rw (ne-eqb k 0x17 n) (refl, λ i. refl)) refl))
+    (λ h l. rw (lt-ltb (cfg .devents .n) 32 h) (row-adds dataEventEntry noDataEvent (dataEventPart e) (cfg .devents .at) (cfg .devents .n) (omega arith) refl refl (λ i. refl) (λ i. refl) (λ q k. rw q) (λ k n. rw (ne-eqb k 0x18 n) (refl, λ i. refl)) refl))
+    (λ h l. rw (lt-ltb (cfg .revents .n) 16 h) (row-adds returnEventEntry noReturnEvent (returnEventPart e) (cfg .revents .at) (cfg .revents .n) (omega arith) refl refl (λ i. refl) (λ i. refl) (λ q k. rw q) (λ k n. rw (ne-eqb k 0x19 n) (refl, λ i. refl)) refl))
 
 -- ---- the entry of a part that was read is the entry that the bytes say
 

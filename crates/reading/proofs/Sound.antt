@@ -11,13 +11,16 @@ use native.Mathlib.Omega.{arith}
 use lib.Dec.{ltb, eqb, leb}
 use lib.ListN.{length, getD, drop}
 use borrow.Author.Tests.{ne-eqb, eqb-true, eqb-false, leb-true}
-use Rattle.laws.proofs.Choosing.{both-left, pick-has}
+use Rattle.laws.specs.Choice.{pick}
+use Rattle.laws.proofs.Choosing.{both-left, pick-on, pick-has}
 use Rattle.config.specs.declared.Config.{Config}
+use Rattle.config.specs.Editions.{isEdition}
 use Rattle.config.specs.Tables.{noConfig}
 use Rattle.entries.specs.declared.Entry.{Entry}
 use Rattle.entries.specs.Entries.{countOf, entryOf, placed}
 use Rattle.entries.specs.Faults.{entryFault, configSound}
-use Rattle.entries.proofs.Kind.{fault-told, Kind, config-told, config-made}
+use Rattle.entries.proofs.Kind.{fault-told, Kind, edition-told, config-told, config-made}
+use Rattle.entries.proofs.Editions.{edition-count, edition-kind}
 use Rattle.entries.proofs.Tags.{kind-tag, blank-none, blank-sound}
 use Rattle.wire.specs.Bytes.{lengthOf}
 use Rattle.reading.specs.Reading.{outcomeRefusal, sizeOf, entryRead, inOrder, headOf, bodyFault, wholeOf, refusedAt, onHead, readFrom, configOf}
@@ -33,11 +36,12 @@ use Rattle.reading.proofs.Kept.{fault-kept}
 
 -- what stands behind a field with the tag last: sound, with no part of a higher kind
 pub record Sofar (cfg : Config) (last : ℕ) : Type 0 where
+  pub edition : isEdition (cfg .edition) ≡ true
   pub kinds : (k : ℕ) → 0x10 ≤ k → k ≤ 0x19 → Kind cfg k
   pub above : (k : ℕ) → last < k → countOf cfg k ≡ 0
 
 sofar-starts : Sofar noConfig 0
-sofar-starts = record { kinds = config-told noConfig blank-sound; above = λ k l. blank-none k }
+sofar-starts = record { edition = edition-told noConfig blank-sound; kinds = config-told noConfig blank-sound; above = λ k l. blank-none k }
 
 -- one part more, of the last kind or a higher one, that was tested without fault
 module _ (cfg cfg′ : Config) (last tag : ℕ) (e : Entry) (f : Sofar cfg last) (a : Adds cfg cfg′ tag e) (up : last ≤ tag) (h : entryFault cfg tag (countOf cfg tag) e ≡ 0) where
@@ -88,6 +92,7 @@ module _ (cfg cfg′ : Config) (last tag : ℕ) (e : Entry) (f : Sofar cfg last)
   sofar-grows : 0x10 ≤ tag → tag ≤ 0x19 → Sofar cfg′ tag
   sofar-grows low high =
       record {
+        edition = rw (a .edition) (f .edition);
         kinds = λ k b c. which k (f .kinds k b c) (ℕ-discrete k tag) (decLt tag k);
         above = λ k l. a .counts k (λ q. omega (arith, l, q)) ∙ f .above k (omega arith);
       }
@@ -114,13 +119,17 @@ sofar-part cfg last tag t f up h =
     let a = adds cfg (entryRead tag t) tag (k .0) (k .1) (r .room) (f .kinds tag (k .0) (k .1) .places) in
     sofar-grows cfg (placed cfg tag (entryRead tag t)) last tag (entryRead tag t) f (rw (back-read tag (k .0) (k .1) t (r .range)) at a) up h (k .0) (k .1)
 
+-- an edition without fault
+is-one : (e : ℕ) → pick {A = ℕ} (isEdition e) 0 24 ≡ 0 → isEdition e ≡ true
+is-one e g = pick-on (isEdition e) 0 24 0 g (λ y. omega (arith, y)) .0
+
 -- a field without fault, the edition or a part
 sofar-field : (cfg : Config) (last tag : ℕ) (t : List ℕ) → Sofar cfg last → last ≤ tag → bodyFault cfg tag t ≡ 0 → Sofar (placed cfg tag (entryRead tag t)) tag
-unfolding bodyFault placed
+unfolding bodyFault placed entryRead
 sofar-field cfg last tag t f up h = go (ℕ-discrete tag 0x01)
   where
     go : Dec (tag ≡ 0x01) → Sofar (placed cfg tag (entryRead tag t)) tag
-    go (yes q) = rw q (record { kinds = f .kinds; above = λ k l. f .above k (omega (arith, q, up, l)) })
+    go (yes q) = rw q (record { edition = is-one (getD t 3 0) (rw q at h); kinds = λ k l b. edition-kind cfg (getD t 3 0) k (f .kinds k l b); above = λ k l. edition-count cfg (getD t 3 0) k ∙ f .above k (omega (arith, q, up, l)) })
     go (no n) = sofar-part cfg last tag t f up (rw (ne-eqb tag 0x01 n) at h)
 
 -- ---- the whole text
@@ -166,7 +175,7 @@ given-from (suc fuel) t cfg last place f = go (λ tag size g. given-from fuel (d
     go rest (Bad number) e = given-refused number place (bad-number t last number e)
     go rest End e =
         pick-has Given (eqb (length t) 3) (wholeOf cfg) (refusedAt (place + 1) 21)
-        (λ _. record { sound = config-made cfg (f .kinds); blank = λ n. absurd (n refl); number = λ _. refl })
+        (λ _. record { sound = config-made cfg (f .edition) (f .kinds); blank = λ n. absurd (n refl); number = λ _. refl })
         (λ _. given-refused 21 (place + 1) (λ z. omega (arith, z)))
     go rest (Field tag size) e =
         pick-has Given (eqb (bodyFault cfg tag t) 0) (next tag size) (refusedAt place (bodyFault cfg tag t))

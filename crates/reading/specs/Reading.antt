@@ -10,6 +10,7 @@ use Rattle.numbers.specs.Refusals.{badOrder, badFrame, outOfRange}
 use Rattle.numbers.specs.Tags.{editionTag, runnableTag, variableTag, areaTag, requiredTag, providedTag, linkTag, operationTag, timerTag, dataEventTag, returnEventTag, endTag, editionLength, runnableLength, variableLength, areaLength, requiredLength, providedLength, linkLength, operationLength, timerLength, dataEventLength, returnEventLength, endLength, noLength}
 use Rattle.laws.specs.Choice.{pick, both}
 use Rattle.config.specs.declared.Config.{Config}
+use Rattle.config.specs.Editions.{isEdition}
 use Rattle.config.specs.Tables.{noConfig}
 use Rattle.wire.specs.Bytes.{lengthOf, numberOf}
 use Rattle.entries.specs.declared.Entry.{Entry}
@@ -107,10 +108,10 @@ headOf t last =
     pick (ltb (length t) 3) (Bad badFrame)
     (headWith (getD t 0 0) (lengthOf (getD t 1 0) (getD t 2 0)) (sizeOf (getD t 0 0)) (length t - 3) (inOrder last (getD t 0 0)))
 
--- the first fault of a field's body: an edition other than 1, or a fault of the part's entry; 0 for none ("Numbers of refusal", 23 to 26)
+-- the first fault of a field's body: an edition that there is not, or a fault of the part's entry; 0 for none ("Numbers of refusal", 23 to 26; W-208)
 unfoldable pub bodyFault : Config → ℕ → List ℕ → ℕ
 bodyFault cfg tag t =
-    pick (eqb tag editionTag) (pick (eqb (getD t 3 0) 1) 0 outOfRange) (entryFault cfg tag (countOf cfg tag) (entryRead tag t))
+    pick (eqb tag editionTag) (pick (isEdition (getD t 3 0)) 0 outOfRange) (entryFault cfg tag (countOf cfg tag) (entryRead tag t))
 
 -- a whole configuration ("Numbers of refusal", reading a configuration)
 abbrev pub wholeOf : Config → Reading

@@ -201,7 +201,7 @@ fn body_fault(cfg: Config, tag: u8, t: &[u8]) -> u8
     ensures { λ r. ⌜ r ≡ bodyFault cfg tag (now (t .entry)) ⌝ }
 {
     if tag == numbers::TAG_EDITION {
-        if byte_at(t, 3) == 1 {
+        if config::is_edition(byte_at(t, 3)) {
             return 0;
         }
         return numbers::OUT_OF_RANGE;

@@ -1,4 +1,4 @@
-// Refusals 2 to 5; a slot's steps have all four, the scheduler's steps have refusals 2 and 3 only. What a code's entries are to be, whether the parts are there, whose they are, and what an instance may do as it lives.
+// Refusals 2 to 5, and 30 behind 2; a slot's steps have all of them, the scheduler's steps have refusals 2 and 3 only. What a code's entries are to be, whether the edition has it, whether the parts are there, whose they are, and what an instance may do as it lives.
 ghost use mathlib.Core.Path.{_≡_};
 ghost use mathlib.Core.Bool.{not};
 ghost use lib.Dec.{eqb};
@@ -210,15 +210,18 @@ pub fn instance_refusal(cfg: Config, slots: Slots, s: Step) -> u8
     let what = s.what;
     let row = row_of(code);
     if formed(row, what, s.argument) {
-        let x = slots.get(s.who);
-        let l = x.life;
-        if x.used {
-            if part_there(cfg, row.part, what) {
-                return owned_refusal(cfg, l, row, code, what);
+        if config::has_step(cfg.edition, code) {
+            let x = slots.get(s.who);
+            let l = x.life;
+            if x.used {
+                if part_there(cfg, row.part, what) {
+                    return owned_refusal(cfg, l, row, code, what);
+                }
+                return numbers::NOT_THERE;
             }
             return numbers::NOT_THERE;
         }
-        return numbers::NOT_THERE;
+        return numbers::STEP_GONE;
     }
     numbers::MALFORMED
 }

@@ -20,9 +20,10 @@ use Rattle.wire.specs.declared.Wrote.{Wrote}
 use Rattle.wire.specs.declared.Wrote.the-variants.{Refused as NotWritten}
 use Rattle.wire.proofs.Laws.{Bytes, front-read, build-same}
 use Rattle.entries.specs.declared.Entry.{Entry}
-use Rattle.entries.specs.Entries.{maxOf, countOf, placesOf, placed}
+use Rattle.entries.specs.Entries.{maxOf, countOf, placesOf, placed, withEdition}
 use Rattle.entries.specs.Faults.{entryFault}
 use Rattle.entries.proofs.Kind.{fault-told, config-told}
+use Rattle.entries.proofs.Editions.{edition-count, edition-places}
 use Rattle.entries.proofs.Tags.{kind-tag, blank-none, blank-sound}
 use Rattle.reading.specs.Reading.{sizeOf, entryRead, inOrder, headOf, bodyFault, wholeOf, refusedAt, onHead, readFrom, configOf}
 use Rattle.reading.specs.declared.Outcome.{Outcome}
@@ -59,7 +60,7 @@ tidy-grows cfg cfg′ last tag e a up f = record {
 
 -- what was read: nothing yet, or the edition and the fields of the parts that stand
 abbrev before : Config → ℕ → List ℕ
-before cfg last = pick (eqb last 0) [] (editionBytes ++ partsBytes cfg)
+before cfg last = pick (eqb last 0) [] (editionBytes (cfg .edition) ++ partsBytes cfg)
 
 -- nothing stands before the first field
 no-parts : (cfg : Config) → Tidy cfg 0 → partsBytes cfg ≡ []
@@ -86,29 +87,30 @@ module _ (t : List ℕ) (h : Bytes t) (cfg : Config) (last tag size : ℕ) (fr :
     text : before (placed cfg tag (entryRead tag t)) tag ++ drop (3 + size) t ≡ before cfg last ++ t
 
   edition-step : tag ≡ 0x01 → last ≡ 0 → Step
-  unfolding placed bodyFault sizeOf
+  unfolding placed bodyFault sizeOf entryRead
   edition-step q z =
-      let c : placed cfg tag (entryRead tag t) ≡ cfg = rw q refl in
-      let one : getD t 3 0 ≡ 1 = edition-one (getD t 3 0) (rw q at fault) in
+      let e : ℕ = getD t 3 0 in
+      let c : placed cfg tag (entryRead tag t) ≡ withEdition cfg e = rw q refl in
       let s : size ≡ 1 = sym (fr .kind) ∙ ap sizeOf q in
-      let front : t ≡ editionBytes ++ drop 4 t = edition-front one (fr .first ∙ q) (fr .said ∙ s) (omega (arith, fr .room, s)) in
-      let b₁ : before (placed cfg tag (entryRead tag t)) tag ≡ editionBytes = ap₂ before c q ∙ ap (λ (x : List ℕ). editionBytes ++ x) (no-parts cfg (subst (Tidy cfg) z f)) in
+      let front : t ≡ editionBytes e ++ drop 4 t = edition-front (fr .first ∙ q) (fr .said ∙ s) (omega (arith, fr .room, s)) in
+      let f′ : Tidy (withEdition cfg e) 0 = record {
+        places = λ k l b. edition-places cfg e k ∙ f .places k l b;
+        above = λ k l b d. edition-count cfg e k ∙ f .above k l b (omega (arith, d, z));
+      } in
+      let b₁ : before (placed cfg tag (entryRead tag t)) tag ≡ editionBytes e = ap₂ before c q ∙ ap (λ (x : List ℕ). editionBytes e ++ x) (no-parts (withEdition cfg e) f′) in
       record {
         tidy = record {
-          places = λ k l b. ap (λ (x : Config). placesOf x k) c ∙ f .places k l b;
-          above = λ k l b d. ap (λ (x : Config). countOf x k) c ∙ f .above k l b (omega (arith, d, q, z));
+          places = λ k l b. ap (λ (x : Config). placesOf x k) c ∙ f′ .places k l b;
+          above = λ k l b d. ap (λ (x : Config). countOf x k) c ∙ f′ .above k l b (omega (arith, d, q));
         };
         text = ap₂ (λ (x : List ℕ) (k : ℕ). x ++ drop (3 + k) t) b₁ s ∙ sym front ∙ ap (λ (x : List ℕ). x ++ t) (sym (ap (before cfg) z));
       }
     where
-      edition-one : (b : ℕ) → pick {A = ℕ} (eqb b 1) 0 24 ≡ 0 → b ≡ 1
-      edition-one b g = eqb-true b 1 (pick-on (eqb b 1) 0 24 0 g (λ y. omega (arith, y)) .0)
-
-      edition-front : getD t 3 0 ≡ 1 → getD t 0 0 ≡ 0x01 → lengthOf (getD t 1 0) (getD t 2 0) ≡ 1 → 4 ≤ length t → t ≡ editionBytes ++ drop 4 t
-      edition-front one first said room =
+      edition-front : getD t 0 0 ≡ 0x01 → lengthOf (getD t 1 0) (getD t 2 0) ≡ 1 → 4 ≤ length t → t ≡ editionBytes (getD t 3 0) ++ drop 4 t
+      edition-front first said room =
           let high : getD t 1 0 ≡ 0 = omega (arith, h 1, h 2) in
           let low : getD t 2 0 ≡ 1 = omega (arith, h 1, h 2) in
-          front-read 4 t editionBytes room (cc)
+          front-read 4 t (editionBytes (getD t 3 0)) room (cc)
 
   part-step : (tag ≡ 0x01 → ⊥) → (last ≡ 0 → ⊥) → Step
   unfolding bodyFault
@@ -127,11 +129,11 @@ module _ (t : List ℕ) (h : Bytes t) (cfg : Config) (last tag size : ℕ) (fr :
       record {
         tidy = tidy-grows cfg (placed cfg tag (entryRead tag t)) last tag (entryRead tag t) a up f;
         text =
-            ap (λ (x : Bool). pick x [] (editionBytes ++ partsBytes (placed cfg tag (entryRead tag t))) ++ drop (3 + size) t) zt
-            ∙ ap₂ (λ (x : List ℕ) (j : ℕ). (editionBytes ++ x) ++ drop (3 + j) t) grow (sym (fr .kind))
-            ∙ regroup (editionBytes) (partsBytes cfg) (entryBytes tag (entryRead tag t)) (drop (3 + sizeOf tag) t)
-            ∙ ap (λ (x : List ℕ). (editionBytes ++ partsBytes cfg) ++ x) (sym front)
-            ∙ ap (λ (x : Bool). pick x [] (editionBytes ++ partsBytes cfg) ++ t) (sym zl);
+            ap₂ (λ (x : Bool) (e : ℕ). pick x [] (editionBytes e ++ partsBytes (placed cfg tag (entryRead tag t))) ++ drop (3 + size) t) zt (a .edition)
+            ∙ ap₂ (λ (x : List ℕ) (j : ℕ). (editionBytes (cfg .edition) ++ x) ++ drop (3 + j) t) grow (sym (fr .kind))
+            ∙ regroup (editionBytes (cfg .edition)) (partsBytes cfg) (entryBytes tag (entryRead tag t)) (drop (3 + sizeOf tag) t)
+            ∙ ap (λ (x : List ℕ). (editionBytes (cfg .edition) ++ partsBytes cfg) ++ x) (sym front)
+            ∙ ap (λ (x : Bool). pick x [] (editionBytes (cfg .edition) ++ partsBytes cfg) ++ t) (sym zl);
       }
     where
       regroup : (a b c d : List ℕ) → (a ++ (b ++ c)) ++ d ≡ (a ++ b) ++ (c ++ d)
@@ -184,7 +186,7 @@ end-text t cfg last e l =
     let low : getD t 2 0 ≡ 0 = omega (arith, f .said) in
     let d : drop 3 t ≡ [] = drop-of-length-le t {i = 3} (omega arith) in
     let w : t ≡ endBytes = front-read 3 t endBytes (omega arith) (cc) ∙ ap (λ (x : List ℕ). endBytes ++ x) d in
-    ap (λ (x : List ℕ). (editionBytes ++ partsBytes cfg) ++ x) (sym w) ∙ ap (λ (x : Bool). pick x [] (editionBytes ++ partsBytes cfg) ++ t) (sym (ne-eqb last 0 (f .later)))
+    ap (λ (x : List ℕ). (editionBytes (cfg .edition) ++ partsBytes cfg) ++ x) (sym w) ∙ ap (λ (x : Bool). pick x [] (editionBytes (cfg .edition) ++ partsBytes cfg) ++ t) (sym (ne-eqb last 0 (f .later)))
 
 -- ---- the whole text
 

@@ -5,7 +5,7 @@
 use Prim.Native.Nat.{ℕ, zero, suc, _+_, _-_, _<_, _≤_, _^_}
 use mathlib.Core.Bool.{Bool, true, false}
 use mathlib.Core.List.{List, _++_, append-assoc}
-use mathlib.Core.Path.{_≡_, refl, sym, ap, ap₂, subst, _∙_}
+use mathlib.Core.Path.{_≡_, sym, ap, ap₂, subst, _∙_}
 use native.Mathlib.Nat.{not-suc-le-zero}
 use native.Mathlib.Numerals.{add-one}
 use native.Mathlib.Omega.{arith}
@@ -16,14 +16,15 @@ use borrow.Author.Tests.{eq-eqb, ne-eqb, le-leb, le-ltb}
 use Rattle.laws.specs.Choice.{pick}
 use Rattle.laws.proofs.Choosing.{pick-on}
 use Rattle.config.specs.declared.Config.{Config}
+use Rattle.config.specs.Editions.{isEdition}
 use Rattle.config.specs.Tables.{noConfig, noVariableConf}
 use Rattle.wire.specs.Bytes.{endBytes, putAt, wroteTo, build}
 use Rattle.wire.specs.declared.Wrote.{Wrote}
 use Rattle.wire.specs.declared.Wrote.the-variants.{To, Refused as NotWritten}
 use Rattle.entries.specs.declared.Entry.{Entry}
-use Rattle.entries.specs.Entries.{countOf, entryOf, placed}
+use Rattle.entries.specs.Entries.{countOf, entryOf, placed, withEdition}
 use Rattle.entries.specs.Faults.{entryFault, configSound}
-use Rattle.entries.proofs.Kind.{fault-told, config-told}
+use Rattle.entries.proofs.Kind.{fault-told, edition-told, config-told}
 use Rattle.reading.specs.Reading.{sizeOf, entryRead, inOrder, headOf, bodyFault, wholeOf, refusedAt, onHead, readFrom, configOf}
 use Rattle.reading.specs.declared.Head.{Head}
 use Rattle.reading.specs.declared.Head.the-variants.{Field}
@@ -52,13 +53,13 @@ turn fuel t p last place tag size e z =
     ap (λ (x : Head). onHead x t p place (λ (k m : ℕ). readFrom fuel (drop (3 + m) t) (placed p k (entryRead k t)) k (place + 1))) e
     ∙ ap (λ (b : Bool). pick b (readFrom fuel (drop (3 + size) t) (placed p tag (entryRead tag t)) tag (place + 1)) (refusedAt place (bodyFault p tag t))) (eq-eqb (bodyFault p tag t) 0 z)
 
--- the edition comes first, and places nothing
-first : (rest : List ℕ) (fuel : ℕ) → readFrom (suc fuel) (editionBytes ++ rest) noConfig 0 1 ≡ readFrom fuel rest noConfig 0x01 2
-unfolding headOf sizeOf inOrder bodyFault placed
-first rest fuel =
-    let l : ltb (length (editionBytes ++ rest)) 3 ≡ false = le-ltb (length (editionBytes ++ rest)) 3 (omega arith) in
-    let m : leb 1 (length (editionBytes ++ rest) - 3) ≡ true = le-leb 1 (length (editionBytes ++ rest) - 3) (omega arith) in
-    turn fuel (editionBytes ++ rest) noConfig 0 1 0x01 1 (rw (l, m)) refl
+-- the edition comes first, and places no part
+first : (e : ℕ) → isEdition e ≡ true → (rest : List ℕ) (fuel : ℕ) → readFrom (suc fuel) (editionBytes e ++ rest) noConfig 0 1 ≡ readFrom fuel rest (withEdition noConfig e) 0x01 2
+unfolding headOf sizeOf inOrder bodyFault placed entryRead
+first e one rest fuel =
+    let l : ltb (length (editionBytes e ++ rest)) 3 ≡ false = le-ltb (length (editionBytes e ++ rest)) 3 (omega arith) in
+    let m : leb 1 (length (editionBytes e ++ rest) - 3) ≡ true = le-leb 1 (length (editionBytes e ++ rest) - 3) (omega arith) in
+    turn fuel (editionBytes e ++ rest) noConfig 0 1 0x01 1 (rw (l, m)) (rw one)
 
 module _ (cfg : Config) (s : configSound cfg ≡ true) (v : (i : ℕ) → getD (cfg .variables .at) i noVariableConf .initial < 2 ^ 32) where
   module _ (tag i : ℕ) (low : 0x10 ≤ tag) (high : tag ≤ 0x19) (l : i < countOf cfg tag) (p : Config) (f : Stands cfg p tag i) (u : List ℕ) where
@@ -137,15 +138,15 @@ module _ (cfg : Config) (s : configSound cfg ≡ true) (v : (i : ℕ) → getD (
       let o = in-order last 0x7f n (omega arith) (λ q. omega (arith, q)) in
       rw o (ap wholeOf (stands-all cfg p s f))
 
-  -- the edition, which changes nothing
+  -- the edition, and then all parts
   pub text-back : configOf (textOf cfg) ≡ wholeOf cfg
   unfolding configOf textOf partsBytes Reads
   text-back =
       let rest : List ℕ = build (blockOf cfg) 10 ++ endBytes in
       let r : (fuel : ℕ) (p : Config) (last place : ℕ) → length rest < fuel → Stands cfg p 0x10 0 → (last ≡ 0 → ⊥) → last ≤ 0x10 → readFrom fuel rest p last place ≡ wholeOf cfg =
       kinds-read 10 (omega arith) endBytes end-reads in
-      first rest (length (editionBytes ++ rest))
-      ∙ r (length (editionBytes ++ rest)) noConfig 0x01 2 (omega arith) (stands-start cfg) (λ q. omega (arith, q)) (omega arith)
+      first (cfg .edition) (edition-told cfg s) rest (length (editionBytes (cfg .edition) ++ rest))
+      ∙ r (length (editionBytes (cfg .edition) ++ rest)) (withEdition noConfig (cfg .edition)) 0x01 2 (omega arith) (stands-start cfg) (λ q. omega (arith, q)) (omega arith)
 
 -- ---- written and read back, from the contracts of the writer and the reader
 

@@ -126,19 +126,19 @@ module _ (p q : Config) where
   same-return-events a =
       ap₂ (λ (n : ℕ) (l : List ReturnEvent). record { n = n; at = l }) (a .counts) (same-rows returnEventEntry returnEventPart (λ x. refl) noReturnEvent (p .revents .at) (q .revents .at) (a .places) (a .entries))
 
--- a configuration of its ten tables
-configOfTables : RunnableConfs → VariableConfs → AreaConfs → RequiredConfs → ProvidedConfs → Links → OperationConfs → TimerConfs → DataEvents → ReturnEvents → Config
-configOfTables a b c d e f g h i j =
-    record { runnables = a; variables = b; areas = c; required = d; provided = e; links = f; operations = g; timers = h; devents = i; revents = j }
+-- a configuration of its edition and its ten tables
+configOfTables : ℕ → RunnableConfs → VariableConfs → AreaConfs → RequiredConfs → ProvidedConfs → Links → OperationConfs → TimerConfs → DataEvents → ReturnEvents → Config
+configOfTables n a b c d e f g h i j =
+    record { edition = n; runnables = a; variables = b; areas = c; required = d; provided = e; links = f; operations = g; timers = h; devents = i; revents = j }
 
--- tables that are the same make the same configuration
-joined : (p q : Config) → p .runnables ≡ q .runnables → p .variables ≡ q .variables → p .areas ≡ q .areas → p .required ≡ q .required → p .provided ≡ q .provided → p .links ≡ q .links → p .operations ≡ q .operations → p .timers ≡ q .timers → p .devents ≡ q .devents → p .revents ≡ q .revents → configOfTables (p .runnables) (p .variables) (p .areas) (p .required) (p .provided) (p .links) (p .operations) (p .timers) (p .devents) (p .revents) ≡ configOfTables (q .runnables) (q .variables) (q .areas) (q .required) (q .provided) (q .links) (q .operations) (q .timers) (q .devents) (q .revents)
-joined p q a b c d e f g h i j = rw (a, b, c, d, e, f, g, h, i, j)
+-- an edition and tables that are the same make the same configuration
+joined : (p q : Config) → p .edition ≡ q .edition → p .runnables ≡ q .runnables → p .variables ≡ q .variables → p .areas ≡ q .areas → p .required ≡ q .required → p .provided ≡ q .provided → p .links ≡ q .links → p .operations ≡ q .operations → p .timers ≡ q .timers → p .devents ≡ q .devents → p .revents ≡ q .revents → configOfTables (p .edition) (p .runnables) (p .variables) (p .areas) (p .required) (p .provided) (p .links) (p .operations) (p .timers) (p .devents) (p .revents) ≡ configOfTables (q .edition) (q .runnables) (q .variables) (q .areas) (q .required) (q .provided) (q .links) (q .operations) (q .timers) (q .devents) (q .revents)
+joined p q n a b c d e f g h i j = rw (n, a, b, c, d, e, f, g, h, i, j)
 
-pub same-config : (p q : Config) → ((k : ℕ) → 0x10 ≤ k → k ≤ 0x19 → Agree p q k) → p ≡ q
+pub same-config : (p q : Config) → p .edition ≡ q .edition → ((k : ℕ) → 0x10 ≤ k → k ≤ 0x19 → Agree p q k) → p ≡ q
 unfolding configOfTables
-same-config p q f =
-    joined p q
+same-config p q n f =
+    joined p q n
     (same-runnables p q (f 0x10 (omega arith) (omega arith)))
     (same-variables p q (f 0x11 (omega arith) (omega arith)))
     (same-areas p q (f 0x12 (omega arith) (omega arith)))

@@ -2,14 +2,15 @@
 -- Assumes nothing.
 use Prim.Native.Nat.{ℕ, _+_, _<_, _≤_}
 use mathlib.Core.Bool.{true}
-use mathlib.Core.Path.{_≡_, sym, ap, _∙_}
+use mathlib.Core.Path.{_≡_, refl, sym, ap, _∙_}
 use native.Mathlib.Decide.{ℕ-discrete, decLt}
 use native.Mathlib.Omega.{arith}
 use Rattle.config.specs.declared.Config.{Config}
 use Rattle.config.specs.Tables.{noConfig}
-use Rattle.entries.specs.Entries.{noEntry, maxOf, countOf, placesOf, entryOf}
+use Rattle.entries.specs.Entries.{noEntry, maxOf, countOf, placesOf, entryOf, withEdition}
 use Rattle.entries.specs.Faults.{configSound}
 use Rattle.entries.proofs.Kind.{config-told}
+use Rattle.entries.proofs.Editions.{edition-count, edition-places, edition-entry}
 use Rattle.entries.proofs.Tags.{no-kind-count, no-kind-entry, blank-none, blank-sound}
 use Rattle.reading.proofs.Adding.{Adds}
 use Rattle.round_trips.proofs.Sameness.{same-config, no-more}
@@ -18,6 +19,7 @@ use Rattle.round_trips.proofs.Sameness.{same-config, no-more}
 
 pub record Stands (cfg p : Config) (tag i : ℕ) : Type 0 where
   pub counts : (k : ℕ) → k < tag → countOf p k ≡ countOf cfg k
+  pub edition : p .edition ≡ cfg .edition
   pub own : countOf p tag ≡ i
   pub above : (k : ℕ) → tag < k → countOf p k ≡ 0
   pub places : (k : ℕ) → 0x10 ≤ k → k ≤ 0x19 → placesOf p k ≡ maxOf k
@@ -25,20 +27,23 @@ pub record Stands (cfg p : Config) (tag i : ℕ) : Type 0 where
   pub same : (n : ℕ) → n < i → entryOf p tag n ≡ entryOf cfg tag n
   pub blank : (k n : ℕ) → tag ≤ k → k ≤ 0x19 → countOf p k ≤ n → entryOf p k n ≡ noEntry
 
-pub stands-start : (cfg : Config) → Stands cfg noConfig 0x10 0
+-- a configuration with nothing but its edition
+pub stands-start : (cfg : Config) → Stands cfg (withEdition noConfig (cfg .edition)) 0x10 0
 stands-start cfg = record {
-  counts = λ k h. blank-none k ∙ sym (no-kind-count k (λ l _. omega arith) cfg);
-  own = blank-none 0x10;
-  above = λ k l. blank-none k;
-  places = λ k l h. config-told noConfig blank-sound k l h .places;
-  lower = λ k n h. no-kind-entry k (λ l _. omega arith) noConfig n ∙ sym (no-kind-entry k (λ l _. omega arith) cfg n);
+  edition = refl;
+  counts = λ k h. edition-count noConfig (cfg .edition) k ∙ blank-none k ∙ sym (no-kind-count k (λ l _. omega arith) cfg);
+  own = edition-count noConfig (cfg .edition) 0x10 ∙ blank-none 0x10;
+  above = λ k l. edition-count noConfig (cfg .edition) k ∙ blank-none k;
+  places = λ k l h. edition-places noConfig (cfg .edition) k ∙ config-told noConfig blank-sound k l h .places;
+  lower = λ k n h. no-kind-entry k (λ l _. omega arith) (withEdition noConfig (cfg .edition)) n ∙ sym (no-kind-entry k (λ l _. omega arith) cfg n);
   same = λ n l. absurd (omega arith);
-  blank = λ k n l h b. no-more noConfig blank-sound k l h n b;
+  blank = λ k n l h b. edition-entry noConfig (cfg .edition) k n ∙ no-more noConfig blank-sound k l h n (omega (arith, b, edition-count noConfig (cfg .edition) k));
 }
 
 -- one part more
 pub stands-grow : (cfg p p′ : Config) (tag i : ℕ) → Stands cfg p tag i → Adds p p′ tag (entryOf cfg tag i) → Stands cfg p′ tag (i + 1)
 stands-grow cfg p p′ tag i f a = record {
+  edition = a .edition ∙ f .edition;
   counts = λ k h. a .counts k (λ q. omega (arith, q, h)) ∙ f .counts k h;
   own = a .own ∙ ap (λ (n : ℕ). n + 1) (f .own);
   above = λ k l. a .counts k (λ q. omega (arith, q, l)) ∙ f .above k l;
@@ -61,6 +66,7 @@ stands-grow cfg p p′ tag i f a = record {
 -- all of a kind stands
 pub stands-next : (cfg p : Config) (tag : ℕ) → configSound cfg ≡ true → 0x10 ≤ tag → tag ≤ 0x19 → Stands cfg p tag (countOf cfg tag) → Stands cfg p (tag + 1) 0
 stands-next cfg p tag s low high f = record {
+  edition = f .edition;
   counts = λ k h. count k h (ℕ-discrete k tag);
   own = f .above (tag + 1) (omega arith);
   above = λ k l. f .above k (omega arith);
@@ -84,7 +90,7 @@ stands-next cfg p tag s low high f = record {
 -- all ten stand: it is the configuration
 pub stands-all : (cfg p : Config) → configSound cfg ≡ true → Stands cfg p 0x1a 0 → p ≡ cfg
 stands-all cfg p s f =
-    same-config p cfg (λ k l h. record {
+    same-config p cfg (f .edition) (λ k l h. record {
       counts = f .counts k (omega arith);
       places = f .places k l h ∙ sym (config-told cfg s k l h .places);
       entries = λ i b. f .lower k i (omega arith);

@@ -1,14 +1,15 @@
--- Refusals 2 to 5, in their order, by the row of a step's code; a slot's steps have all four, the scheduler's 2 and 3 only. The 2 that comes after 5 stands with hand back, in crate effects ("Numbers of refusal"; W-205).
+-- Refusals 2 to 5, in their order, and 30 behind 2, by the row of a step's code; a slot's steps have all four, the scheduler's 2 and 3 only. The 2 that comes after 5 stands with hand back, in crate effects ("Numbers of refusal"; W-205; W-208).
 -- Assumes nothing.
 use Prim.Native.Nat.{ℕ}
 use mathlib.Core.Bool.{Bool, not}
 use mathlib.Core.List.{[], _∷_}
 use lib.Dec.{ltb, eqb}
-use Rattle.numbers.specs.Refusals.{malformed, notThere, notOwn, barred}
+use Rattle.numbers.specs.Refusals.{malformed, notThere, notOwn, barred, stepGone}
 use Rattle.numbers.specs.Codes.{exitCode, resultCode, handBackCode, endCode}
 use Rattle.laws.specs.Choice.{pick, both, either, alike, allOf}
 use Rattle.values.specs.Values.{isVoid, isNumber, isPayload}
 use Rattle.faces.specs.Types.{Value, Step, Config, Life, Slots}
+use Rattle.config.specs.Editions.{hasStep}
 use Rattle.config.specs.Tables.{operationConfIn}
 use Rattle.entries.specs.Entries.{countOf, entryOf}
 use Rattle.state.specs.Tables.{slotIn}
@@ -74,13 +75,15 @@ unfoldable pub ownedRefusal : Config → Life → Row → ℕ → ℕ → ℕ
 ownedRefusal cfg l r code what =
     pick (partOwn cfg (componentOf cfg (l .runnable)) r what) (pick (lifeLets cfg l code what) 0 barred) notOwn
 
--- the first of the four that a slot's step falls under, or 0 ("Numbers of refusal", 2 to 5)
+-- the first of the five that a slot's step falls under, or 0 ("Numbers of refusal", 2 to 5; 30 of W-208)
 unfoldable pub instanceRefusal : Config → Slots → Row → Step → ℕ
 instanceRefusal cfg ss r s =
     pick (formed r (s .what) (s .argument))
+    (pick (hasStep (cfg .edition) (s .code))
     (pick (both (slotIn ss (s .who) .used) (partThere cfg (r .part) (s .what)))
     (ownedRefusal cfg (slotIn ss (s .who) .life) r (s .code) (s .what))
     notThere)
+    stepGone)
     malformed
 
 -- the first of the two that a step of the scheduler falls under, or 0; its who is unused ("Numbers of refusal", 2 and 3)
@@ -92,13 +95,13 @@ schedulerRefusal cfg r s =
     notThere)
     malformed
 
--- the first of 2 to 5 that a step falls under by its row, or 0; 2 for a code without one ("Numbers of refusal", 2 to 5)
+-- the first of 2, 30 and 3 to 5 that a step falls under by its row, or 0; 2 for a code without one ("Numbers of refusal", 2 to 5; W-208)
 unfoldable pub refusalBy : Config → Slots → Row → Step → ℕ
 refusalBy cfg ss r s =
     pick (eqb (r .who) aSlot) (instanceRefusal cfg ss r s)
     (pick (eqb (r .who) scheduler) (schedulerRefusal cfg r s)
     malformed)
 
--- the same by its code ("Numbers of refusal", 2 to 5)
+-- the same by its code ("Numbers of refusal", 2 to 5; W-208)
 unfoldable pub refusalOf : Config → Slots → Step → ℕ
 refusalOf cfg ss s = refusalBy cfg ss (rowOf (s .code)) s

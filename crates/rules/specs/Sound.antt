@@ -11,6 +11,7 @@ use Rattle.laws.specs.Loop.{allBelow, sumBelow, countBelow}
 use Rattle.laws.specs.Row.{filled}
 use Rattle.values.specs.Values.{voidV, timeoutV, serverErrV, neverReceivedV, invalidV, isVoid, isPayload}
 use Rattle.faces.specs.Types.{Value, Config, Client, Requests, Runnable, Runnables, Variable, Variables, Areas, Element, Elements, Operation, Operations, Timer, Timers, Life, Owed, Stack, Slot, Slots, State}
+use Rattle.config.specs.Editions.{marksInvalid}
 use Rattle.config.specs.Tables.{maxRunnableConfs, maxVariableConfs, maxAreaConfs, maxRequiredConfs, maxOperationConfs, maxTimerConfs, runnableConfIn, areaConfIn, requiredConfIn, operationConfIn, timerConfIn}
 use Rattle.entries.specs.Faults.{isServer, configSound}
 use Rattle.state.specs.Parts.{lastNumber, noClient, maxRequests, maxValues}
@@ -57,16 +58,17 @@ runnableSound cfg r x =
 unfoldable pub variableSound : Config → ℕ → Variable → Bool
 variableSound cfg v x = pick (ltb v (cfg .variables .n)) (isPayload (x .value)) (isVoid (x .value))
 
--- what an unqueued element may hold: a payload, NeverReceived or Invalid ("A sound state", stored values)
-unfoldable pub isStored : Value → Bool
-isStored v = either (isPayload v) (both (either (eqb (v .kind) (neverReceivedV .kind)) (eqb (v .kind) (invalidV .kind))) (eqb (v .number) 0))
+-- what an unqueued element may hold: a payload, NeverReceived, or Invalid in an edition that marks so ("A sound state", stored values; W-208)
+unfoldable pub isStored : ℕ → Value → Bool
+isStored e v =
+    either (isPayload v) (both (either (eqb (v .kind) (neverReceivedV .kind)) (both (marksInvalid e) (eqb (v .kind) (invalidV .kind)))) (eqb (v .number) 0))
 
 -- an element: an unqueued one holds what it may and has no queue; a queued one, or one that isn't there, holds no value and has its flag off ("A sound state", stored values and unused places)
 unfoldable pub elementSound : Config → ℕ → Element → Bool
 elementSound cfg q x =
     both
     (pick (both (ltb q (cfg .required .n)) (eqb (requiredConfIn (cfg .required) q .capacity) 0))
-    (isStored (x .value))
+    (isStored (cfg .edition) (x .value))
     (both (isVoid (x .value)) (not (x .updated))))
     (valuesSound (requiredConfIn (cfg .required) q .capacity) (x .queue .queued) (x .queue .at))
 

@@ -11,7 +11,7 @@ pub variables-only : (cfg : Config) (t : Variables) → variablesSound (onlyVari
 unfolding variablesSound variableSound onlyVariables
 variables-only cfg t = refl
 
-pub elements-only : (cfg : Config) (t : Elements) → elementsSound (onlyRequired (cfg .required)) t ≡ elementsSound cfg t
+pub elements-only : (cfg : Config) (t : Elements) → elementsSound (onlyRequired (cfg .edition) (cfg .required)) t ≡ elementsSound cfg t
 unfolding elementsSound elementSound onlyRequired
 elements-only cfg t = refl
 

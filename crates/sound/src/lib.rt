@@ -221,9 +221,9 @@ fn variable_sound(t: VariableConfs, v: u8, x: Variable) -> bool
     w.is_void()
 }
 
-// A payload, NeverReceived or Invalid.
-fn is_stored(v: Value) -> bool
-    ensures { λ b. ⌜ b ≡ isStored v ⌝ }
+// A payload, NeverReceived, or Invalid where the edition marks so.
+fn is_stored(e: u8, v: Value) -> bool
+    ensures { λ b. ⌜ b ≡ isStored e v ⌝ }
 {
     if v.is_payload() {
         return true;
@@ -231,8 +231,11 @@ fn is_stored(v: Value) -> bool
     if v.kind == 6 {
         return v.number == 0;
     }
-    if v.kind == 7 {
-        return v.number == 0;
+    if config::marks_invalid(e) {
+        if v.kind == 7 {
+            return v.number == 0;
+        }
+        return false;
     }
     false
 }
@@ -248,12 +251,12 @@ fn is_unqueued(t: RequiredConfs, q: u8) -> bool
 }
 
 // What an element holds beside its queue.
-fn element_holds(t: RequiredConfs, q: u8, x: Element) -> bool
-    ensures { λ b. ⌜ b ≡ pick (both (ltb q (t .n)) (eqb (requiredConfIn t q .capacity) 0)) (isStored (x .value)) (both (isVoid (x .value)) (not (x .updated))) ⌝ }
+fn element_holds(e: u8, t: RequiredConfs, q: u8, x: Element) -> bool
+    ensures { λ b. ⌜ b ≡ pick (both (ltb q (t .n)) (eqb (requiredConfIn t q .capacity) 0)) (isStored e (x .value)) (both (isVoid (x .value)) (not (x .updated))) ⌝ }
 {
     let v = x.value;
     if is_unqueued(t, q) {
-        return is_stored(v);
+        return is_stored(e, v);
     }
     if v.is_void() {
         return !x.updated;
@@ -261,10 +264,10 @@ fn element_holds(t: RequiredConfs, q: u8, x: Element) -> bool
     false
 }
 
-fn element_sound(t: RequiredConfs, q: u8, x: Element) -> bool
-    ensures { λ b. ⌜ b ≡ elementSound (onlyRequired t) q x ⌝ }
+fn element_sound(e: u8, t: RequiredConfs, q: u8, x: Element) -> bool
+    ensures { λ b. ⌜ b ≡ elementSound (onlyRequired e t) q x ⌝ }
 {
-    if element_holds(t, q, x) {
+    if element_holds(e, t, q, x) {
         let conf = t.get(q);
         let queue = x.queue;
         return values_sound(conf.capacity, queue);
@@ -893,13 +896,13 @@ fn variables_sound(confs: VariableConfs, t: Variables) -> bool
     true
 }
 
-fn elements_sound(confs: RequiredConfs, t: Elements) -> bool
-    ensures { λ b. ⌜ b ≡ elementsSound (onlyRequired confs) t ⌝ }
+fn elements_sound(e: u8, confs: RequiredConfs, t: Elements) -> bool
+    ensures { λ b. ⌜ b ≡ elementsSound (onlyRequired e confs) t ⌝ }
 {
     let mut k: usize = 0;
     while k < RequiredConfs::MAX {
         let x = t.at[k];
-        if element_sound(confs, k as u8, x) {
+        if element_sound(e, confs, k as u8, x) {
             k = k + 1;
         } else {
             return false;
@@ -970,7 +973,7 @@ fn rest_sound(cfg: Config, st: State, y: Tally) -> bool
         return false;
     }
     let elements = st.elements;
-    if !elements_sound(cfg.required, elements) {
+    if !elements_sound(cfg.edition, cfg.required, elements) {
         return false;
     }
     if !operations_tallied(cfg.operations, runnables, y, operations) {

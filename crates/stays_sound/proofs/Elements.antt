@@ -15,6 +15,7 @@ use Rattle.laws.proofs.Looping.{all-at, any-find}
 use Rattle.laws.proofs.Places.{all-put, all-each, filled-push, filled-shift}
 use Rattle.values.specs.Values.{voidV, invalidV, isVoid, isPayload}
 use Rattle.faces.specs.Types.{Value, Config, Values, Element, Elements, State}
+use Rattle.config.specs.Editions.{marksInvalid}
 use Rattle.config.specs.Tables.{maxRequiredConfs, requiredConfIn, providedConfIn, linkIn}
 use Rattle.entries.specs.Faults.{isQueued, configSound}
 use Rattle.state.specs.Parts.{noElement, maxValues}
@@ -57,7 +58,7 @@ module _ (c : ℕ) (q : Values) (m : c ≤ 16) (h : valuesSound c (q .queued) (q
 
 -- what an element holds beside its queue
 abbrev holds : Config → ℕ → Value → Bool → Bool
-holds cfg q v u = pick (both (ltb q (cfg .required .n)) (eqb (requiredConfIn (cfg .required) q .capacity) 0)) (isStored v) (both (isVoid v) (not u))
+holds cfg q v u = pick (both (ltb q (cfg .required .n)) (eqb (requiredConfIn (cfg .required) q .capacity) 0)) (isStored (cfg .edition) v) (both (isVoid v) (not u))
 
 -- its tests as facts
 record Stands (cfg : Config) (q : ℕ) (x : Element) : Type 0 where
@@ -76,14 +77,14 @@ stands-made cfg q x h = both-make _ _ (h .value) (h .queue)
 seen-sound : (cfg : Config) (q : ℕ) (x : Element) → elementSound cfg q x ≡ true → elementSound cfg q (seen x) ≡ true
 seen-sound cfg q x h =
     let t = stands-told cfg q x h in
-    stands-made cfg q (seen x) (record { value = off (both (ltb q (cfg .required .n)) (eqb (requiredConfIn (cfg .required) q .capacity) 0)) (isStored (x .value)) (isVoid (x .value)) (x .updated) (t .value); queue = t .queue })
+    stands-made cfg q (seen x) (record { value = off (both (ltb q (cfg .required .n)) (eqb (requiredConfIn (cfg .required) q .capacity) 0)) (isStored (cfg .edition) (x .value)) (isVoid (x .value)) (x .updated) (t .value); queue = t .queue })
   where
     off : (b s v u : Bool) → pick b s (both v (not u)) ≡ true → pick b s (both v true) ≡ true
     off true s v u h = h
     off false s v u h = both-make _ _ (both-left v (not u) h) refl
 
--- an unqueued element that is there may hold a payload, and Invalid
-store-sound : (cfg : Config) (q : ℕ) (x : Element) (v : Value) → q < cfg .required .n → isQueued cfg q ≡ false → isStored v ≡ true → elementSound cfg q x ≡ true → elementSound cfg q (storing v x) ≡ true
+-- an unqueued element that is there may hold what is stored in its edition
+store-sound : (cfg : Config) (q : ℕ) (x : Element) (v : Value) → q < cfg .required .n → isQueued cfg q ≡ false → isStored (cfg .edition) v ≡ true → elementSound cfg q x ≡ true → elementSound cfg q (storing v x) ≡ true
 unfolding isQueued
 store-sound cfg q x v b n g h =
     let z : requiredConfIn (cfg .required) q .capacity ≡ 0 = omega (arith, ltb-false 0 (requiredConfIn (cfg .required) q .capacity) n) in
@@ -95,13 +96,18 @@ queue-sound cfg k q x v b g h =
     let t = stands-told cfg q x h in
     stands-made cfg q (queueing v x) (record { value = t .value; queue = push-sound (requiredConfIn (cfg .required) q .capacity) (x .queue) (length-most cfg k q) (t .queue) v b g })
 
-payload-stored : (v : Value) → isPayload v ≡ true → isStored v ≡ true
+payload-stored : (e : ℕ) (v : Value) → isPayload v ≡ true → isStored e v ≡ true
 unfolding isStored
-payload-stored v h = rw h
+payload-stored e v h = rw h
+
+-- Invalid is stored in an edition that marks so
+invalid-stored : (e : ℕ) → marksInvalid e ≡ true → isStored e invalidV ≡ true
+unfolding isStored isPayload isVoid
+invalid-stored e h = rw h
 
 -- ---- a value handed over: an element that takes it and is queued takes a payload
 
-module _ (cfg : Config) (k : configSound cfg ≡ true) (p : ℕ) (v : Value) (g : isStored v ≡ true) (pay : (q : ℕ) → linked cfg p q ≡ true → isQueued cfg q ≡ true → isPayload v ≡ true) where
+module _ (cfg : Config) (k : configSound cfg ≡ true) (p : ℕ) (v : Value) (g : isStored (cfg .edition) v ≡ true) (pay : (q : ℕ) → linked cfg p q ≡ true → isQueued cfg q ≡ true → isPayload v ≡ true) where
   fed-one : (q : ℕ) (x : Element) → q < cfg .required .n → elementSound cfg q x ≡ true → elementSound cfg q (fedElement cfg p v q x) ≡ true
   unfolding fedElement accepts
   fed-one q x b h = pick-has (λ y. elementSound cfg q y ≡ true) (both (linked cfg p q) (accepts cfg q x)) (pick (isQueued cfg q) (queueing v x) (storing v x)) x (λ e. takes e) (λ e. h)
@@ -147,12 +153,11 @@ module _ (cfg : Config) (st : State) where
 
   pub feed-keeps-elements : (i p : ℕ) (v : Value) → Sound cfg st → CanFeed cfg st i p v → elementsSound cfg (fed cfg st p v .elements) ≡ true
   unfolding fed
-  feed-keeps-elements i p v s z = fed-sound cfg (s .config) p v (payload-stored v (z .payload)) (λ q l e. z .payload) (st .elements) (s .elements)
+  feed-keeps-elements i p v s z = fed-sound cfg (s .config) p v (payload-stored (cfg .edition) v (z .payload)) (λ q l e. z .payload) (st .elements) (s .elements)
 
   pub invalidate-keeps-elements : (i p : ℕ) → Sound cfg st → CanInvalidate cfg st i p → elementsSound cfg (invalidated cfg st p .elements) ≡ true
-  unfolding isStored isPayload isVoid
   invalidate-keeps-elements i p s z =
-      fed-sound cfg (s .config) p invalidV refl (λ q l e. absurd (clash (isQueued cfg q) e (sym (linked-alike cfg (s .config) p q l) ∙ z .unqueued))) (st .elements) (s .elements)
+      fed-sound cfg (s .config) p invalidV (invalid-stored (cfg .edition) (z .marks)) (λ q l e. absurd (clash (isQueued cfg q) e (sym (linked-alike cfg (s .config) p q l) ∙ z .unqueued))) (st .elements) (s .elements)
 
   pub receive-keeps-elements : (i q : ℕ) → Sound cfg st → CanReceive cfg st i q → elementsSound cfg (received st q .elements) ≡ true
   receive-keeps-elements i q s z =

@@ -6,11 +6,12 @@ use mathlib.Core.Path.{_≡_, refl}
 use native.Mathlib.Omega.{arith}
 use lib.Dec.{ltb, eqb}
 use borrow.Author.Tests.{ltb-true, ltb-false, leb-false, eqb-true, eqb-false, eq-eqb, ne-eqb}
-use Rattle.numbers.specs.Refusals.{malformed, notThere, notOwn, barred}
+use Rattle.numbers.specs.Refusals.{malformed, notThere, notOwn, barred, stepGone}
 use Rattle.numbers.specs.Codes.{writeVariableCode, enterCode, exitCode, readCode, writeCode, invalidateCode, receiveCode, sendCode, callCode, resultCode, handBackCode, endCode, spawnCode, timeoutCode, tickCode, failCode}
 use Rattle.laws.specs.Choice.{both, either, bit}
 use Rattle.laws.proofs.Choosing.{clash, both-left, both-right, both-no, alike-is, all-told, pick-on}
 use Rattle.faces.specs.Types.{Value, Step, Config, State}
+use Rattle.config.specs.Editions.{hasStep}
 use Rattle.config.specs.Tables.{runnableConfIn, areaConfIn, requiredConfIn, operationConfIn, providedConfIn}
 use Rattle.entries.specs.Entries.{countOf, entryOf}
 use Rattle.entries.specs.Faults.{isQueued}
@@ -26,6 +27,7 @@ use Rattle.stays_sound.specs.Facts.{Acts, CanWriteVariable, CanEnter, Ca
 -- a slot's step that they let through
 pub record Let (cfg : Config) (st : State) (code i k : ℕ) (v : Value) : Type 0 where
   pub form : formed (rowOf code) k v ≡ true
+  pub has : hasStep (cfg .edition) code ≡ true
   pub used : slotIn (st .slots) i .used ≡ true
   pub part : partThere cfg (rowOf code .part) k ≡ true
   pub own : partOwn cfg (componentOf cfg (slotIn (st .slots) i .life .runnable)) (rowOf code) k ≡ true
@@ -44,10 +46,11 @@ module _ (cfg : Config) (st : State) (s : Step) {n : ℕ} (c : s .code ≡ n) (h
       let x = slotIn (st .slots) (s .who) in
       let r = rowOf n in
       let a = pick-on (formed r (s .what) (s .argument)) _ malformed 0 (rw (c, eq-eqb (r .who) aSlot w) at h) (λ q. omega (arith, q)) in
-      let b = pick-on (both (x .used) (partThere cfg (r .part) (s .what))) _ notThere 0 (a .1) (λ q. omega (arith, q)) in
+      let e = pick-on (hasStep (cfg .edition) n) _ stepGone 0 (a .1) (λ q. omega (arith, q)) in
+      let b = pick-on (both (x .used) (partThere cfg (r .part) (s .what))) _ notThere 0 (e .1) (λ q. omega (arith, q)) in
       let c = pick-on (partOwn cfg (componentOf cfg (x .life .runnable)) r (s .what)) _ notOwn 0 (b .1) (λ q. omega (arith, q)) in
       let d = pick-on (lifeLets cfg (x .life) n (s .what)) _ barred 0 (c .1) (λ q. omega (arith, q)) in
-      record { form = a .0; used = both-left (x .used) _ (b .0); part = both-right (x .used) _ (b .0); own = c .0; life = d .0 }
+      record { form = a .0; has = e .0; used = both-left (x .used) _ (b .0); part = both-right (x .used) _ (b .0); own = c .0; life = d .0 }
 
   pub run-told : rowOf n .who ≡ scheduler → LetRun cfg n (s .who) (s .what) (s .argument)
   unfolding refusalOf refusalBy schedulerRefusal
@@ -114,9 +117,10 @@ module _ (cfg : Config) (st : State) (i k : ℕ) (v : Value) where
   says-write z = record { who = acts cfg st writeCode i k v z refl refl refl; inside = ltb-true _ _ (z .part); payload = z .form }
 
   pub says-invalidate : Let cfg st invalidateCode i k v → CanInvalidate cfg st i k
-  unfolding partThere rowOf rows countOf partOwn queuesAs entryOf
+  unfolding partThere rowOf rows countOf partOwn queuesAs entryOf hasStep
   says-invalidate z = record {
     who = acts cfg st invalidateCode i k v z refl refl refl;
+    marks = z .has;
     inside = ltb-true _ _ (z .part);
     unqueued = off (providedConfIn (cfg .provided) k .queued) (alike-is (ltb 0 (bit (providedConfIn (cfg .provided) k .queued))) false (both-right (eqb (providedConfIn (cfg .provided) k .component) (componentOf cfg (slotIn (st .slots) i .life .runnable))) _ (z .own)));
   }

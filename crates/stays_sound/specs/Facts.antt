@@ -7,6 +7,7 @@ use lib.Dec.{eqb}
 use Rattle.laws.specs.Choice.{either, bit}
 use Rattle.values.specs.Values.{isPayload}
 use Rattle.faces.specs.Types.{Value, Config, Runnables, Areas, Operations, Slots, State}
+use Rattle.config.specs.Editions.{marksInvalid}
 use Rattle.config.specs.Tables.{maxRunnableConfs, maxAreaConfs, maxOperationConfs, runnableConfIn, areaConfIn, providedConfIn, operationConfIn}
 use Rattle.entries.specs.Faults.{isQueued, configSound}
 use Rattle.state.specs.Tables.{maxSlots, runnableIn, areaIn, elementIn, operationIn, timerIn, slotIn}
@@ -114,9 +115,10 @@ pub record CanFeed (cfg : Config) (st : State) (i p : ℕ) (v : Value) : Type 0 
   pub inside : p < cfg .provided .n
   pub payload : isPayload v ≡ true
 
--- a provided element that is unqueued
+-- a provided element that is unqueued, in an edition that marks elements invalid
 pub record CanInvalidate (cfg : Config) (st : State) (i p : ℕ) : Type 0 where
   pub who : Acts st i
+  pub marks : marksInvalid (cfg .edition) ≡ true
   pub inside : p < cfg .provided .n
   pub unqueued : providedConfIn (cfg .provided) p .queued ≡ false
 

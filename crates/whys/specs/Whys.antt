@@ -6,7 +6,7 @@ use lib.Dec.{ltb, leb, eqb}
 use lib.ListN.{getD}
 use Rattle.laws.specs.Choice.{pick, both}
 use Rattle.laws.specs.Loop.{anyBelow, firstBelow}
-use Rattle.numbers.specs.Refusals.{malformed, notThere, notOwn, barred, areaTaken, notOnTop, queueFull, numberBorne, stillOpen, notDue, noSlotFree, tooFar, notOver, areasHeld, wrongClient, otherAnswer}
+use Rattle.numbers.specs.Refusals.{malformed, stepGone, notThere, notOwn, barred, areaTaken, notOnTop, queueFull, numberBorne, stillOpen, notDue, noSlotFree, tooFar, notOver, areasHeld, wrongClient, otherAnswer}
 use Rattle.numbers.specs.Codes.{resultCode, timeoutCode}
 use Rattle.numbers.specs.Tags.{operationTag, timerTag}
 use Rattle.faces.specs.Types.{Step, Config, RunnableConf, Life, Owed, Stack, Runnable, Slots, State}
@@ -19,7 +19,7 @@ use Rattle.rules.specs.Sound.{componentOf, isClient}
 use Rattle.rules.specs.Rows.{aSlot, scheduler, noPart, rowOf}
 use Rattle.rules.specs.Refusals.{formed}
 use Rattle.whys.specs.declared.Cause.{Cause}
-use Rattle.whys.specs.declared.Cause.the-variants.{NoCause, NoCode, HasWho, HasWhat, BadArgument, HandsNumber, NoSlot, EmptySlot, NoPart, Foreign, IsQueued, NotQueued, WaitsOn, IsFinished, HasFailed, FailedBack, NotWaiting, HeldBy, NoneHeld, OnTop, QueueFull, StillServed, StillQueued, CallOpen, InInterval, Runs, NotPending, NoRequest, NoRoom, Stops, NotOpen, CallRuns, TimerRuns, StillHeld, NoClient, HasClient, Differs}
+use Rattle.whys.specs.declared.Cause.the-variants.{NoCause, NoCode, HasWho, HasWhat, BadArgument, HandsNumber, StepGone, NoSlot, EmptySlot, NoPart, Foreign, IsQueued, NotQueued, WaitsOn, IsFinished, HasFailed, FailedBack, NotWaiting, HeldBy, NoneHeld, OnTop, QueueFull, StillServed, StillQueued, CallOpen, InInterval, Runs, NotPending, NoRequest, NoRoom, Stops, NotOpen, CallRuns, TimerRuns, StillHeld, NoClient, HasClient, Differs}
 use Rattle.passing.specs.Passing.{passesOf, operationStop, timerStop}
 
 -- the number of refusal that a cause stands for; 0 for none ("Numbers of refusal")
@@ -30,6 +30,7 @@ causeRefusal HasWho = malformed
 causeRefusal HasWhat = malformed
 causeRefusal (BadArgument k) = malformed
 causeRefusal HandsNumber = malformed
+causeRefusal (StepGone e) = stepGone
 causeRefusal NoSlot = notThere
 causeRefusal EmptySlot = notThere
 causeRefusal (NoPart n) = notThere
@@ -195,7 +196,7 @@ owedCause ss i = pick (slotIn ss i .owed .serving) (HasClient (slotIn ss i .owed
 
 -- ---- all of them
 
--- the cause of a refusal with the number n ("Numbers of refusal", 2 to 16; W-206)
+-- the cause of a refusal with the number n ("Numbers of refusal", 2 to 16; W-206; W-208)
 unfoldable pub whyOf : Config → State → Step → ℕ → Cause
 whyOf cfg st s n =
     pick (eqb n malformed) (codeCause (rowOf (s .code)) s)
@@ -212,4 +213,5 @@ whyOf cfg st s n =
     (pick (eqb n tooFar) (stopCause cfg st (passesOf cfg st (s .argument .number)))
     (pick (eqb n notOver) (earlyCause st s)
     (pick (eqb n areasHeld) (stillCause (st .slots) (s .who))
-    (owedCause (st .slots) (s .who)))))))))))))))
+    (pick (eqb n stepGone) (StepGone (cfg .edition))
+    (owedCause (st .slots) (s .who))))))))))))))))

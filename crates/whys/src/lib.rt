@@ -27,6 +27,8 @@ pub enum Cause {
     HasWhat,
     BadArgument(u8),
     HandsNumber,
+    // (30) the configuration is of this edition, which has no such step
+    StepGone(u8),
     // (3) there is no such slot; nothing is in it; there are only so many parts of the kind
     NoSlot,
     EmptySlot,
@@ -417,6 +419,7 @@ pub fn why(cfg: Config, st: State, s: Step, n: u8) -> Cause
         numbers::TOO_FAR => stop_cause(cfg, st, passing::passes(cfg, st, v.number)),
         numbers::NOT_OVER => early_cause(st, s),
         numbers::AREAS_HELD => still_cause(slots, s.who),
+        numbers::STEP_GONE => Cause::StepGone(cfg.edition),
         _ => owed_cause(slots, s.who),
     }
 }

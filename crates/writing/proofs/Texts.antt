@@ -61,7 +61,7 @@ parts-size cfg =
 
 pub text-size : (cfg : Config) → length (textOf cfg) ≡ partsSize cfg + 7
 unfolding textOf
-text-size cfg = omega (arith, parts-size cfg, length-append (editionBytes ++ partsBytes cfg) endBytes, length-append editionBytes (partsBytes cfg))
+text-size cfg = omega (arith, parts-size cfg, length-append (editionBytes (cfg .edition) ++ partsBytes cfg) endBytes, length-append (editionBytes (cfg .edition)) (partsBytes cfg))
 
 pub small-product : (a b : ℕ) → a < 256 → b < 256 → a * b < 65536
 small-product a b h k = let m : a * b ≤ 255 * 255 = mul-le-mul {n₂ = 255} {m₂ = 255} (omega arith) (omega arith) in omega arith
@@ -88,27 +88,27 @@ module _ (b xs : List ℕ) (at k : ℕ) (size : length xs ≡ k) where
 -- ---- edition, parts and end
 
 module _ (cfg : Config) (b b₁ b₂ b₃ : List ℕ) (r₁ r₂ r : Wrote) (k : ℕ) (size : k ≡ partsSize cfg) (room : k + 7 ≤ length b)
-    (w₁ : Written b 0 editionBytes r₁ b₁) (w₂ : Written b₁ 4 (partsBytes cfg) r₂ b₂) (w₃ : Written b₂ (k + 4) endBytes r b₃) (sound : configSound cfg ≡ true) where
-  first : Put b 0 editionBytes 4 b₁
-  first = put-more b b [] 0 0 (put-none b 0) (omega arith) b₁ editionBytes 4 (omega arith) (w₁ .bytes) refl
+    (w₁ : Written b 0 (editionBytes (cfg .edition)) r₁ b₁) (w₂ : Written b₁ 4 (partsBytes cfg) r₂ b₂) (w₃ : Written b₂ (k + 4) endBytes r b₃) (sound : configSound cfg ≡ true) where
+  first : Put b 0 (editionBytes (cfg .edition)) 4 b₁
+  first = put-more b b [] 0 0 (put-none b 0) (omega arith) b₁ (editionBytes (cfg .edition)) 4 (omega arith) (w₁ .bytes) refl
 
-  second : Put b 0 (editionBytes ++ partsBytes cfg) (k + 4) b₂
+  second : Put b 0 (editionBytes (cfg .edition) ++ partsBytes cfg) (k + 4) b₂
   second =
       let l = parts-size cfg in
-      put-more b b₁ editionBytes 0 4 first (omega arith) b₂ (partsBytes cfg) (k + 4) (omega (arith, length-append editionBytes (partsBytes cfg))) (w₂ .bytes) (omega arith)
+      put-more b b₁ (editionBytes (cfg .edition)) 0 4 first (omega arith) b₂ (partsBytes cfg) (k + 4) (omega (arith, length-append (editionBytes (cfg .edition)) (partsBytes cfg))) (w₂ .bytes) (omega arith)
 
-  fitted : 0 + length (editionBytes ++ partsBytes cfg) + 3 ≤ length b
-  fitted = omega (arith, parts-size cfg, length-append editionBytes (partsBytes cfg))
+  fitted : 0 + length (editionBytes (cfg .edition) ++ partsBytes cfg) + 3 ≤ length b
+  fitted = omega (arith, parts-size cfg, length-append (editionBytes (cfg .edition)) (partsBytes cfg))
 
   third : Put b 0 (textOf cfg) (k + 7) b₃
   unfolding textOf
   third =
       let f = fitted in
-      put-more b b₂ (editionBytes ++ partsBytes cfg) 0 (k + 4) second (omega arith) b₃ endBytes (k + 7) (omega (arith, length-append (editionBytes ++ partsBytes cfg) endBytes)) (w₃ .bytes) (omega arith)
+      put-more b b₂ (editionBytes (cfg .edition) ++ partsBytes cfg) 0 (k + 4) second (omega arith) b₃ endBytes (k + 7) (omega (arith, length-append (editionBytes (cfg .edition) ++ partsBytes cfg) endBytes)) (w₃ .bytes) (omega arith)
 
   ended : r ≡ To (k + 7)
   ended =
-      let s = put-same b b₂ (editionBytes ++ partsBytes cfg) 0 (k + 4) second (omega (arith, fitted)) in
+      let s = put-same b b₂ (editionBytes (cfg .edition) ++ partsBytes cfg) 0 (k + 4) second (omega (arith, fitted)) in
       let t : leb (k + 4 + 3) (length b₂) ≡ true = le-leb (k + 4 + 3) (length b₂) (omega arith) in
       let e : k + 4 + 3 ≡ k + 7 = omega arith in
       w₃ .answer ∙ ap (λ (x : Bool). pick x (To (k + 4 + 3)) (Refused 27)) t ∙ ap To e

@@ -72,9 +72,9 @@ kindBytes cfg tag = build (partBytes cfg tag) (countOf cfg tag)
 unfoldable pub kindSize : Config → ℕ → ℕ
 kindSize cfg tag = countOf cfg tag * fieldSize tag
 
--- the edition is 1 ("The files", tag 01)
-abbrev pub editionBytes : List ℕ
-editionBytes = editionTag ∷ 0 ∷ editionLength ∷ 1 ∷ []
+-- the field of an edition ("The files", tag 01; W-208)
+abbrev pub editionBytes : ℕ → List ℕ
+editionBytes e = editionTag ∷ 0 ∷ editionLength ∷ e ∷ []
 
 -- the fields of the kind at place j among the ten, whose tags are 10 to 19 ("The files", the table)
 unfoldable pub blockOf : Config → ℕ → List ℕ
@@ -90,7 +90,7 @@ partsSize cfg = sumBelow (λ (j : ℕ). kindSize cfg (runnableTag + j)) partKind
 
 -- the text of a configuration: edition, parts, end ("The files", the table)
 unfoldable pub textOf : Config → List ℕ
-textOf cfg = (editionBytes ++ partsBytes cfg) ++ endBytes
+textOf cfg = (editionBytes (cfg .edition) ++ partsBytes cfg) ++ endBytes
 
 -- the answer to writing a configuration: 1, then 27 ("Numbers of refusal", writing)
 abbrev pub configTo : List ℕ → Config → Wrote

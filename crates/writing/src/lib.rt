@@ -192,10 +192,10 @@ fn write_parts(buf: &mut [u8], at: usize, cfg: Config) -> Wrote
     Wrote::Refused(numbers::NO_ROOM)
 }
 
-fn write_edition(buf: &mut [u8]) -> Wrote
-    ensures { λ r. ⌜ Written (now (buf .entry)) 0 editionBytes r (now (buf .exit)) ⌝ }
+fn write_edition(buf: &mut [u8], e: u8) -> Wrote
+    ensures { λ r. ⌜ Written (now (buf .entry)) 0 (editionBytes e) r (now (buf .exit)) ⌝ }
 {
-    wire::write(buf, 0, &[numbers::TAG_EDITION, 0, 1, 1])
+    wire::write(buf, 0, &[numbers::TAG_EDITION, 0, 1, e])
 }
 
 fn write_end(buf: &mut [u8], at: usize) -> Wrote
@@ -214,7 +214,7 @@ pub fn write_config(buf: &mut [u8], cfg: Config) -> Wrote
         if buf.len() < size + 7 {
             return Wrote::Refused(numbers::NO_ROOM);
         }
-        write_edition(buf);
+        write_edition(buf, cfg.edition);
         write_parts(buf, 4, cfg);
         return write_end(buf, size + 4);
     }

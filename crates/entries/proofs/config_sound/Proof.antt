@@ -1,49 +1,16 @@
 -- `entries::config_sound` meets its contract.
 -- Assumes nothing.
-use mathlib.Core.Path.{_≡_, sym, _∙_}
-use mathlib.Core.Bool.{true}
-use native.Mathlib.Omega.{arith}
-use Prim.Native.Nat.{ℕ, _≤_, _-_, _+_}
-use Rattle.laws.specs.Loop.{allBelow}
-use Rattle.laws.proofs.Looping.{all-none, all-more, all-fails}
-use Rattle.entries.specs.Faults.{kindSound, configSound}
+use Rattle.entries.specs.Faults.{configSound}
 use Rattle.entries.proofs.config_sound.Statement.{statement}
 use Rattle.entries.proofs.config_sound.Tie as tie
 
-abbrev Inv-loop : tie.InvT-loop
-Inv-loop cfg j₀ j = (j ≤ 10) × (allBelow (λ (k : ℕ). kindSound cfg (0x10 + k)) j ≡ true)
-
-abbrev μ-loop : tie.MeasureT-loop
-μ-loop cfg j₀ j = 10 - j
-
-loop-holds : tie.Need-loop-holds Inv-loop μ-loop
-loop-holds c = (omega arith, all-none _)
-
-add-kind-sound : tie.Need-add-kind-sound Inv-loop μ-loop
-add-kind-sound c = omega (arith, c .loop-test .taken)
-
-add-j : tie.Need-add-j Inv-loop μ-loop
-add-j c = omega (arith, c .before .before .loop-test .taken)
-
-loop-less : tie.Need-loop-less Inv-loop μ-loop
-loop-less c = omega (arith, c .before .before .loop-test .taken)
-
-loop-again : tie.Need-loop-again Inv-loop μ-loop
-loop-again c =
-    (omega (arith, c .before .before .loop-test .taken), all-more _ _ (c .before .before .before .loop .inv .1) (sym (c .before .kind-sound .ensures) ∙ c .if1 .taken))
-
-returns : tie.Need-returns Inv-loop μ-loop
+returns : tie.Need-returns
 unfolding configSound
-returns c =
-    let p = c .before .before .before .loop in
-    sym (all-fails _ _ (p .j) (c .before .before .loop-test .taken) (sym (c .before .kind-sound .ensures) ∙ c .if1 .left))
+returns c = rw (c .parts-sound .ensures, ← c .before .before .is-edition .ensures, c .before .if1 .taken)
 
-returns-2 : tie.Need-returns-2 Inv-loop μ-loop
+returns-2 : tie.Need-returns-2
 unfolding configSound
-returns-2 c =
-    let e : c .before .loop .j ≡ 10 = omega (arith, c .loop-test .left, c .before .loop .inv .0) in
-    sym (rw e at (c .before .loop .inv .1))
+returns-2 c = rw (← c .before .is-edition .ensures, c .if1 .left)
 
 pub config-sound-spec : {M : Type 1} → statement M
-config-sound-spec =
-    tie.close (tie.spec Inv-loop μ-loop loop-holds add-kind-sound (λ c κs. tt) add-j loop-less loop-again returns returns-2)
+config-sound-spec = tie.close (tie.spec (λ c κs. tt) (λ c κs. tt) returns returns-2)

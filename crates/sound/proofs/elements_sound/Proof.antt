@@ -17,10 +17,10 @@ use Rattle.sound.proofs.elements_sound.Statement.{statement}
 use Rattle.sound.proofs.elements_sound.Tie as tie
 
 abbrev Inv-loop : tie.InvT-loop
-Inv-loop confs t k₀ k = (k ≤ 16) × (allBelow (λ (i : ℕ). elementSound (onlyRequired confs) i (elementIn t i)) k ≡ true)
+Inv-loop e confs t k₀ k = (k ≤ 16) × (allBelow (λ (i : ℕ). elementSound (onlyRequired e confs) i (elementIn t i)) k ≡ true)
 
 abbrev μ-loop : tie.MeasureT-loop
-μ-loop confs t k₀ k = 16 - k
+μ-loop e confs t k₀ k = 16 - k
 
 loop-holds : tie.Need-loop-holds Inv-loop μ-loop
 loop-holds c = (search needs, all-none _)
@@ -44,17 +44,17 @@ loop-again : tie.Need-loop-again Inv-loop μ-loop
 unfolding elementIn noElement noValues
 loop-again c =
     let a = c .before .before .before .before .before .args in
-    let e : length (a .t2 .at) ≡ 16 = search (needs, length-mapped) in
+    let e : length (a .t3 .at) ≡ 16 = search (needs, length-mapped) in
     let k = c .before .before .before .before .loop .k in
-    (omega (arith, c .before .before .before .loop-test .taken), all-more _ _ (c .before .before .before .before .loop .inv .1) (rw (inside (a .t2 .at) k 16 _ noElement e (c .before .before .before .loop-test .taken)) at (sym (c .before .element-sound .ensures) ∙ c .if1 .taken)))
+    (omega (arith, c .before .before .before .loop-test .taken), all-more _ _ (c .before .before .before .before .loop .inv .1) (rw (inside (a .t3 .at) k 16 _ noElement e (c .before .before .before .loop-test .taken)) at (sym (c .before .element-sound .ensures) ∙ c .if1 .taken)))
 
 returns : tie.Need-returns Inv-loop μ-loop
 unfolding elementsSound elementIn noElement noValues
 returns c =
     let a = c .before .before .before .before .before .args in
-    let e : length (a .t2 .at) ≡ 16 = search (needs, length-mapped) in
+    let e : length (a .t3 .at) ≡ 16 = search (needs, length-mapped) in
     let k = c .before .before .before .before .loop .k in
-    sym (all-fails _ _ k (c .before .before .before .loop-test .taken) (rw (inside (a .t2 .at) k 16 _ noElement e (c .before .before .before .loop-test .taken)) at (sym (c .before .element-sound .ensures) ∙ c .if1 .left)))
+    sym (all-fails _ _ k (c .before .before .before .loop-test .taken) (rw (inside (a .t3 .at) k 16 _ noElement e (c .before .before .before .loop-test .taken)) at (sym (c .before .element-sound .ensures) ∙ c .if1 .left)))
 
 returns-2 : tie.Need-returns-2 Inv-loop μ-loop
 unfolding elementsSound
