@@ -41,7 +41,7 @@ maxRunnableConfs = 16
 
 -- the runnable of an unused place ("A sound state", unused places)
 abbrev pub noRunnableConf : RunnableConf
-noRunnableConf = record { component = 0; concurrent = false; init = false; interval = 0; capacity = 0 }
+noRunnableConf = record { component = 0; concurrent = false; init = false; counting = false; interval = 0; capacity = 0 }
 
 -- a table with no runnable ("A sound state", unused places)
 abbrev pub noRunnableConfs : RunnableConfs
@@ -54,6 +54,14 @@ runnableConfIn t i = getD (t .at) i noRunnableConf
 -- one runnable more, at the first unused place ("The parts, and how many")
 unfoldable pub addRunnableConf : RunnableConfs → RunnableConf → RunnableConfs
 addRunnableConf t x = pick (ltb (t .n) maxRunnableConfs) (record { n = t .n + 1; at = set (t .at) (t .n) x }) t
+
+-- the most activations that are pending where they are counted (W-212)
+abbrev pub maxPending : ℕ
+maxPending = 15
+
+-- the most activations that a runnable has pending: only the counting flag lets there be more than one (W-212)
+unfoldable pub topOf : RunnableConf → ℕ
+topOf c = pick (c .counting) maxPending 1
 
 -- ---- variables, at most 16
 

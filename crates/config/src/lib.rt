@@ -1,7 +1,15 @@
 // The parts of a configuration at their real sizes. Each kind stands in a table of its own, and a table type says how many it holds.
 ghost use mathlib.Core.Path.{_≡_};
+ghost use Rattle.laws.specs.Choice.{bit};
 ghost use Rattle.config.specs.Editions.{isEdition, marksInvalid, hasStep};
-ghost use Rattle.config.specs.Tables.{noRunnableConfs, noVariableConfs, noAreaConfs, noRequiredConfs, noProvidedConfs, noLinks, noOperationConfs, noTimerConfs, noDataEvents, noReturnEvents, runnableConfIn, variableConfIn, areaConfIn, requiredConfIn, providedConfIn, linkIn, operationConfIn, timerConfIn, dataEventIn, returnEventIn, addRunnableConf, addVariableConf, addAreaConf, addRequiredConf, addProvidedConf, addLink, addOperationConf, addTimerConf, addDataEvent, addReturnEvent, noConfig};
+ghost use Rattle.config.specs.Tables.{noRunnableConfs, noVariableConfs, noAreaConfs, noRequiredConfs, noProvidedConfs, noLinks, noOperationConfs, noTimerConfs, noDataEvents, noReturnEvents, runnableConfIn, variableConfIn, areaConfIn, requiredConfIn, providedConfIn, linkIn, operationConfIn, timerConfIn, dataEventIn, returnEventIn, addRunnableConf, addVariableConf, addAreaConf, addRequiredConf, addProvidedConf, addLink, addOperationConf, addTimerConf, addDataEvent, addReturnEvent, noConfig, topOf};
+
+// A flag as a number.
+pub fn bit(b: bool) -> u8
+    ensures { λ r. ⌜ r ≡ bit b ⌝ }
+{
+    if b { 1 } else { 0 }
+}
 
 // The top of a capacity, and so the places of a queue.
 pub const MAX_CAPACITY: u8 = 16;
@@ -10,6 +18,7 @@ pub struct RunnableConf {
     pub component: u8,
     pub concurrent: bool,
     pub init: bool,
+    pub counting: bool,
     pub interval: u32,
     pub capacity: u8,
 }
@@ -64,9 +73,23 @@ impl RunnableConf {
         component: 0,
         concurrent: false,
         init: false,
+        counting: false,
         interval: 0,
         capacity: 0,
     };
+
+    // The most activations that are pending where they are counted.
+    pub const MAX_PENDING: u8 = 15;
+
+    // The most activations that are pending.
+    pub fn top(self) -> u8
+        ensures { λ r. ⌜ r ≡ topOf self ⌝ }
+    {
+        if self.counting {
+            return RunnableConf::MAX_PENDING;
+        }
+        1
+    }
 }
 
 pub struct VariableConf {

@@ -14,7 +14,7 @@ use Rattle.laws.proofs.Looping.{any-same}
 use Rattle.laws.proofs.Masks.{mask-same}
 use Rattle.laws.proofs.Places.{past, each-at, each-length}
 use Rattle.faces.specs.Types.{Config, Elements, Runnable, Runnables}
-use Rattle.config.specs.Tables.{requiredConfIn, dataEventIn, noRequiredConf}
+use Rattle.config.specs.Tables.{runnableConfIn, requiredConfIn, dataEventIn, noRequiredConf}
 use Rattle.entries.specs.Faults.{isQueued}
 use Rattle.state.specs.Parts.{noRunnable}
 use Rattle.state.specs.Tables.{elementIn}
@@ -54,11 +54,11 @@ module _ (cfg : Config) (t : Elements) (e : length (cfg .required .at) ≡ 16) w
   unfolding isFedBy isFed
   fed-by p r = any-same (feedsBy cfg (roomsOf cfg t) p r) (feeds cfg t p r) (cfg .devents .n) (λ k l. feeds-by p r k)
 
-  -- the runnables that data events make pending
+  -- the runnables that data events wake
   pub fed-runnables-by : (p : ℕ) (rs : Runnables) → fedRunnablesBy cfg (roomsOf cfg t) p rs ≡ fedRunnables cfg t p rs
   unfolding fedRunnablesBy fedRunnables
   fed-runnables-by p rs =
-      rw (each-same (λ (r : ℕ) (x : Runnable). pick (isFedBy cfg (roomsOf cfg t) p r) (woken x) x) (λ (r : ℕ) (x : Runnable). pick (isFed cfg t p r) (woken x) x) noRunnable (cfg .runnables .n) (rs .at) (λ r x. rw (fed-by p r)))
+      rw (each-same (λ (r : ℕ) (x : Runnable). pick (isFedBy cfg (roomsOf cfg t) p r) (woken (runnableConfIn (cfg .runnables) r) x) x) (λ (r : ℕ) (x : Runnable). pick (isFed cfg t p r) (woken (runnableConfIn (cfg .runnables) r) x) x) noRunnable (cfg .runnables .n) (rs .at) (λ r x. rw (fed-by p r)))
 
   full-by : (p q : ℕ) → isFullBy cfg (roomsOf cfg t) p q ≡ isFull cfg t p q
   unfolding isFullBy isFull

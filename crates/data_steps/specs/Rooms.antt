@@ -9,7 +9,7 @@ use Rattle.laws.specs.Loop.{anyBelow}
 use Rattle.laws.specs.Mask.{maskBelow}
 use Rattle.laws.specs.Row.{eachBelow}
 use Rattle.faces.specs.Types.{Config, Runnable, Runnables, Elements}
-use Rattle.config.specs.Tables.{maxRequiredConfs, dataEventIn}
+use Rattle.config.specs.Tables.{maxRequiredConfs, runnableConfIn, dataEventIn}
 use Rattle.state.specs.Parts.{noRunnable}
 use Rattle.state.specs.Tables.{elementIn}
 use Rattle.effects.specs.Steps.{linked, accepts, woken}
@@ -34,10 +34,10 @@ feedsBy cfg u p r e =
 unfoldable pub isFedBy : Config → Rooms → ℕ → ℕ → Bool
 isFedBy cfg u p r = anyBelow (feedsBy cfg u p r) (cfg .devents .n)
 
--- all runnables, those pending that data events make so, by the note ("The eighteen steps", events)
+-- all runnables, each woken once that data events wake, by the note ("The eighteen steps", events; W-212)
 unfoldable pub fedRunnablesBy : Config → Rooms → ℕ → Runnables → Runnables
 fedRunnablesBy cfg u p rs =
-    record { at = eachBelow (λ (r : ℕ) (x : Runnable). pick (isFedBy cfg u p r) (woken x) x) noRunnable (cfg .runnables .n) (rs .at) }
+    record { at = eachBelow (λ (r : ℕ) (x : Runnable). pick (isFedBy cfg u p r) (woken (runnableConfIn (cfg .runnables) r) x) x) noRunnable (cfg .runnables .n) (rs .at) }
 
 -- the linked queue q is full, by the note ("The eighteen steps", 10)
 unfoldable pub isFullBy : Config → Rooms → ℕ → ℕ → Bool

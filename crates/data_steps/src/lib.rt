@@ -288,7 +288,7 @@ fn is_fed(cfg: Config, rooms: Rooms, p: u8, r: u8) -> bool
     false
 }
 
-// Each runnable that data events make pending.
+// Each runnable that data events wake, once.
 fn fed_runnables(cfg: Config, rooms: Rooms, p: u8, rs: Runnables) -> Runnables
     ensures { λ r. ⌜ r ≡ fedRunnablesBy cfg rooms p rs ⌝ }
 {
@@ -299,7 +299,8 @@ fn fed_runnables(cfg: Config, rooms: Rooms, p: u8, rs: Runnables) -> Runnables
     while r < n {
         let k = r as usize;
         let x = u.at[k];
-        let y = shared_steps::woken_if(is_fed(cfg, rooms, p, r), x);
+        let c = confs.at[k];
+        let y = shared_steps::woken_if(is_fed(cfg, rooms, p, r), c, x);
         u.at[k] = y;
         r = r + 1;
     }

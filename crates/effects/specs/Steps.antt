@@ -10,7 +10,7 @@ use Rattle.laws.specs.Mask.{maskBelow}
 use Rattle.laws.specs.Row.{eachBelow}
 use Rattle.values.specs.Values.{voidV, numberV, okV, limitV, noDataV, timeoutV, invalidV, fullV, serverErrV, isNumber}
 use Rattle.faces.specs.Types.{Value, Taken, Refused, Config, RunnableConf, Link, Client, Runnable, Runnables, Element, Elements, Operation, Operations, Timer, Timers, Owed, Slot, Slots, State, Stepped}
-use Rattle.config.specs.Tables.{runnableConfIn, requiredConfIn, linkIn, operationConfIn, timerConfIn, dataEventIn, returnEventIn}
+use Rattle.config.specs.Tables.{runnableConfIn, requiredConfIn, linkIn, operationConfIn, timerConfIn, dataEventIn, returnEventIn, topOf}
 use Rattle.entries.specs.Faults.{isQueued}
 use Rattle.state.specs.Parts.{lastNumber, noOwed, noStack, noSlot, noRunnable, noElement, noOperation, noTimer}
 use Rattle.state.specs.Fields.{withInterval, withPending, withInstances, withRequests, withValue, withUpdated, withQueue, withCount, lifeWaiting, lifeRunning, lifeFinished, lifeFailed, lifeOf, withLife, withOwed, withStack}
@@ -126,9 +126,13 @@ fedElement cfg p v q x =
 unfoldable pub fedElements : Config → ℕ → Value → Elements → Elements
 fedElements cfg p v t = record { at = eachBelow (fedElement cfg p v) noElement (cfg .required .n) (t .at) }
 
--- a runnable becomes pending; twice is no more than once ("The eighteen steps", events)
-abbrev pub woken : Runnable → Runnable
-woken x = withPending x true
+-- one more, but never past the top (W-212)
+unfoldable pub oneMore : ℕ → ℕ → ℕ
+oneMore top n = pick (ltb n top) (n + 1) n
+
+-- a runnable has one more activation pending, up to its top ("The eighteen steps", events; W-212)
+abbrev pub woken : RunnableConf → Runnable → Runnable
+woken c x = withPending x (oneMore (topOf c) (x .pending))
 
 -- the data event e is one of r, and its element stores what p hands over, and does not drop it (ours) ("The eighteen steps", events)
 unfoldable pub feeds : Config → Elements → ℕ → ℕ → ℕ → Bool
@@ -140,10 +144,10 @@ feeds cfg t p r e =
 unfoldable pub isFed : Config → Elements → ℕ → ℕ → Bool
 isFed cfg t p r = anyBelow (feeds cfg t p r) (cfg .devents .n)
 
--- all runnables, those pending that data events make so ("The eighteen steps", events)
+-- all runnables, each woken once that data events wake ("The eighteen steps", events; W-212)
 unfoldable pub fedRunnables : Config → Elements → ℕ → Runnables → Runnables
 fedRunnables cfg t p rs =
-    record { at = eachBelow (λ (r : ℕ) (x : Runnable). pick (isFed cfg t p r) (woken x) x) noRunnable (cfg .runnables .n) (rs .at) }
+    record { at = eachBelow (λ (r : ℕ) (x : Runnable). pick (isFed cfg t p r) (woken (runnableConfIn (cfg .runnables) r) x) x) noRunnable (cfg .runnables .n) (rs .at) }
 
 -- the state after p has handed over v, data events included ("The eighteen steps", 6 and 10)
 unfoldable pub fed : Config → State → ℕ → Value → State
@@ -284,10 +288,10 @@ returns cfg o r e = both (eqb (returnEventIn (cfg .revents) e .runnable) r) (eqb
 unfoldable pub isReturned : Config → ℕ → ℕ → Bool
 isReturned cfg o r = anyBelow (returns cfg o r) (cfg .revents .n)
 
--- all runnables, those pending that return events make so ("The eighteen steps", events)
+-- all runnables, each woken once that return events wake ("The eighteen steps", events; W-212)
 unfoldable pub returnedRunnables : Config → ℕ → Runnables → Runnables
 returnedRunnables cfg o rs =
-    record { at = eachBelow (λ (r : ℕ) (x : Runnable). pick (isReturned cfg o r) (woken x) x) noRunnable (cfg .runnables .n) (rs .at) }
+    record { at = eachBelow (λ (r : ℕ) (x : Runnable). pick (isReturned cfg o r) (woken (runnableConfIn (cfg .runnables) r) x) x) noRunnable (cfg .runnables .n) (rs .at) }
 
 -- the state after the call of o has ended with v, return events included ("The eighteen steps", 13 and 16)
 unfoldable pub closed : Config → State → ℕ → Value → State
@@ -369,9 +373,9 @@ endOf st i = pick (serves st i) (refused wrongClient st) (pick (holds st i) (ref
 
 -- ---- 15: spawn
 
--- a plain runnable is pending, or a server has a request ("The eighteen steps", Spawn)
+-- a plain runnable has an activation pending, or a server a request ("The eighteen steps", Spawn; W-212)
 unfoldable pub isDue : RunnableConf → Runnable → Bool
-isDue c x = pick (eqb (c .capacity) 0) (x .pending) (ltb 0 (x .requests .queued))
+isDue c x = pick (eqb (c .capacity) 0) (ltb 0 (x .pending)) (ltb 0 (x .requests .queued))
 
 -- the three needs: the start interval has run out; it is concurrent or has no instance; it is due ("The eighteen steps", Spawn)
 unfoldable pub maySpawn : RunnableConf → Runnable → Bool
@@ -381,11 +385,11 @@ maySpawn c x = both (eqb (x .interval) 0) (both (either (eqb (x .instances) 0) (
 abbrev pub begun : RunnableConf → Runnable → Runnable
 begun c x = withInstances (withInterval x (c .interval)) (upOne (x .instances))
 
--- a runnable after its spawn: the interval starts again, there is one instance more, and a plain one is idle, a server without its oldest request ("The eighteen steps", Spawn)
+-- a runnable after its spawn: the interval starts again, there is one instance more, and a plain one has one activation less pending, a server not its oldest request ("The eighteen steps", Spawn; W-212)
 unfoldable pub starting : RunnableConf → Runnable → Runnable
 starting c x =
     pick (eqb (c .capacity) 0)
-    (withPending (begun c x) false)
+    (withPending (begun c x) (x .pending - 1))
     (withRequests (begun c x) (restRequests (x .requests)))
 
 -- a new instance of r, with what it owes ("The eighteen steps", Spawn)
@@ -428,11 +432,11 @@ spawnOf cfg st r =
 abbrev pub isUp : State → ℕ → Bool
 isUp st t = eqb (timerIn (st .timers) t .count) 0
 
--- the state after a tick: the timer starts its period again, and its runnable is pending ("The eighteen steps", 17)
+-- the state after a tick: the timer starts its period again, and its runnable is woken ("The eighteen steps", 17; W-212)
 abbrev pub ticked : Config → State → ℕ → State
 ticked cfg st t =
     withRunnables (withTimers st (withTimer (st .timers) t (record { count = timerConfIn (cfg .timers) t .period })))
-    (withRunnable (st .runnables) (timerConfIn (cfg .timers) t .runnable) (woken (runnableIn (st .runnables) (timerConfIn (cfg .timers) t .runnable))))
+    (withRunnable (st .runnables) (timerConfIn (cfg .timers) t .runnable) (woken (runnableConfIn (cfg .runnables) (timerConfIn (cfg .timers) t .runnable)) (runnableIn (st .runnables) (timerConfIn (cfg .timers) t .runnable))))
 
 -- a timer that has run out ticks; any other is 14 ("The eighteen steps", 17)
 unfoldable pub tickOf : Config → State → ℕ → Stepped

@@ -58,7 +58,7 @@ fn is_returned(t: ReturnEvents, o: u8, r: u8) -> bool
     false
 }
 
-// Each runnable that return events make pending.
+// Each runnable that return events wake, once.
 fn returned_runnables(cfg: Config, o: u8, rs: Runnables) -> Runnables
     ensures { λ r. ⌜ r ≡ returnedRunnables cfg o rs ⌝ }
 {
@@ -70,7 +70,8 @@ fn returned_runnables(cfg: Config, o: u8, rs: Runnables) -> Runnables
     while r < n {
         let k = r as usize;
         let x = u.at[k];
-        let y = shared_steps::woken_if(is_returned(revents, o, r), x);
+        let c = confs.at[k];
+        let y = shared_steps::woken_if(is_returned(revents, o, r), c, x);
         u.at[k] = y;
         r = r + 1;
     }

@@ -79,13 +79,17 @@ placesOf cfg tag =
     (pick (eqb tag returnEventTag) (length (cfg .revents .at))
     0)))))))))
 
--- the entry of a runnable: component, flags (1 for concurrent, 2 for init), request capacity; start interval ("The files", tag 10)
-abbrev pub runnableEntry : RunnableConf → Entry
-runnableEntry x = record { first = x .component; second = bit (x .concurrent) + 2 * bit (x .init); third = x .capacity; number = x .interval }
+-- the flags of a runnable as one number: 1 for concurrent, 2 for init, 4 for counting ("The files", tag 10; W-212)
+abbrev pub flagsOf : RunnableConf → ℕ
+flagsOf x = bit (x .concurrent) + 2 * bit (x .init) + 4 * bit (x .counting)
 
--- the runnable that an entry says ("The files", tag 10)
+-- the entry of a runnable: component, flags, request capacity; start interval ("The files", tag 10)
+abbrev pub runnableEntry : RunnableConf → Entry
+runnableEntry x = record { first = x .component; second = flagsOf x; third = x .capacity; number = x .interval }
+
+-- the runnable that an entry says ("The files", tag 10; W-212)
 abbrev pub runnablePart : Entry → RunnableConf
-runnablePart e = record { component = e .first; concurrent = eqb (e .second % 2) 1; init = ltb 1 (e .second); interval = e .number; capacity = e .third }
+runnablePart e = record { component = e .first; concurrent = eqb (e .second % 2) 1; init = ltb 1 (e .second % 4); counting = ltb 3 (e .second); interval = e .number; capacity = e .third }
 
 -- the entry of a variable: component, mark of an initial; initial ("The files", tag 11)
 abbrev pub variableEntry : VariableConf → Entry

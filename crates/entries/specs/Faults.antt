@@ -22,6 +22,10 @@ maxComponent = 15
 abbrev pub maxTime : ℕ
 maxTime = 3600000
 
+-- the flags of a runnable, all three at once (W-212)
+abbrev pub maxFlags : ℕ
+maxFlags = 7
+
 -- a time of at least 1 and at most maxTime, an hour ("The files", below the table)
 abbrev pub isTime : ℕ → Bool
 isTime n = both (ltb 0 n) (leb n maxTime)
@@ -29,7 +33,7 @@ isTime n = both (ltb 0 n) (leb n maxTime)
 -- the numbers of an entry are in range; numbers of parts are not looked at here ("Numbers of refusal", 24)
 unfoldable pub inRange : ℕ → Entry → Bool
 inRange tag e =
-    pick (eqb tag runnableTag) (both (leb (e .first) maxComponent) (both (leb (e .second) 3) (both (leb (e .number) maxTime) (leb (e .third) maxCapacity))))
+    pick (eqb tag runnableTag) (both (leb (e .first) maxComponent) (both (leb (e .second) maxFlags) (both (leb (e .number) maxTime) (leb (e .third) maxCapacity))))
     (pick (eqb tag variableTag) (both (leb (e .first) maxComponent) (leb (e .second) 1))
     (pick (eqb tag areaTag) (leb (e .first) maxComponent)
     (pick (eqb tag requiredTag) (both (leb (e .first) maxComponent) (leb (e .second) maxCapacity))
@@ -64,7 +68,7 @@ rises d e = either (ltb (d .first) (e .first)) (both (eqb (d .first) (e .first))
 unfoldable pub risesAt : Config → ℕ → ℕ → Entry → Bool
 risesAt cfg tag i e = either (eqb i 0) (rises (entryOf cfg tag (i - 1)) e)
 
--- no bad pairing: no init flag on a server, no initial without its mark, links join like kinds, operations stand on servers, timers and events on plain runnables, and link and event pairs rise ("Numbers of refusal", 26)
+-- no bad pairing: no init flag and no counting on a server, no initial without its mark, links join like kinds, operations stand on servers, timers and events on plain runnables, and link and event pairs rise ("Numbers of refusal", 26; W-212)
 unfoldable pub pairsWell : Config → ℕ → ℕ → Entry → Bool
 pairsWell cfg tag i e =
     pick (eqb tag runnableTag) (either (leb (e .second) 1) (eqb (e .third) 0))

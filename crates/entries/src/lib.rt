@@ -4,8 +4,8 @@ ghost use mathlib.Core.Bool.{not};
 ghost use lib.Dec.{leb, ltb, eqb};
 ghost use Rattle.laws.specs.Choice.{both, either, alike, bit};
 ghost use Rattle.config.specs.Tables.{addRunnableConf, addVariableConf, addAreaConf, addRequiredConf, addProvidedConf, addLink, addOperationConf, addTimerConf, addDataEvent, addReturnEvent, maxCapacity, providedConfIn};
-ghost use Rattle.entries.specs.Entries.{maxOf, countOf, entryOf, placed, runnableEntry, variableEntry, areaEntry, requiredEntry, providedEntry, linkEntry, operationEntry, timerEntry, dataEventEntry, returnEventEntry, runnablePart, variablePart, areaPart, requiredPart, providedPart, linkPart, operationPart, timerPart, dataEventPart, returnEventPart, withRunnableConfs, withVariableConfs, withAreaConfs, withRequiredConfs, withProvidedConfs, withLinks, withOperationConfs, withTimerConfs, withDataEvents, withReturnEvents, withEdition};
-ghost use Rattle.entries.specs.Faults.{maxComponent, maxTime, isTime, inRange, namesThere, isServer, isQueued, rises, risesAt, pairsWell, entryFault, isNoEntry, placeSound, kindSound, partsSound, configSound};
+ghost use Rattle.entries.specs.Entries.{maxOf, countOf, entryOf, placed, runnableEntry, variableEntry, areaEntry, requiredEntry, providedEntry, linkEntry, operationEntry, timerEntry, dataEventEntry, returnEventEntry, runnablePart, variablePart, areaPart, requiredPart, providedPart, linkPart, operationPart, timerPart, dataEventPart, returnEventPart, withRunnableConfs, withVariableConfs, withAreaConfs, withRequiredConfs, withProvidedConfs, withLinks, withOperationConfs, withTimerConfs, withDataEvents, withReturnEvents, withEdition, flagsOf};
+ghost use Rattle.entries.specs.Faults.{maxComponent, maxTime, isTime, inRange, namesThere, isServer, isQueued, rises, risesAt, pairsWell, entryFault, isNoEntry, placeSound, kindSound, partsSound, configSound, maxFlags};
 use config::AreaConf;
 use config::AreaConfs;
 use config::Config;
@@ -38,6 +38,9 @@ pub struct Entry {
 impl Entry {
     pub const MAX_COMPONENT: u8 = 15;
 
+    // All three flags of a runnable.
+    pub const MAX_FLAGS: u8 = 7;
+
     // An hour in milliseconds.
     pub const MAX_TIME: u32 = 3600000;
 
@@ -47,13 +50,6 @@ impl Entry {
         third: 0,
         number: 0,
     };
-}
-
-// A flag as a number.
-fn bit_of(b: bool) -> u8
-    ensures { λ r. ⌜ r ≡ bit b ⌝ }
-{
-    if b { 1 } else { 0 }
 }
 
 // How many parts of a kind there may be.
@@ -94,13 +90,20 @@ pub fn count_of(cfg: Config, tag: u8) -> u8
     }
 }
 
+// The flags of a runnable as one number.
+fn flags_of(x: RunnableConf) -> u8
+    ensures { λ r. ⌜ r ≡ flagsOf x ⌝ }
+{
+    config::bit(x.concurrent) + 2 * config::bit(x.init) + 4 * config::bit(x.counting)
+}
+
 // Each kind's part as an entry, and back.
 fn runnable_entry(x: RunnableConf) -> Entry
     ensures { λ r. ⌜ r ≡ runnableEntry x ⌝ }
 {
     Entry {
         first: x.component,
-        second: bit_of(x.concurrent) + 2 * bit_of(x.init),
+        second: flags_of(x),
         third: x.capacity,
         number: x.interval,
     }
@@ -112,7 +115,8 @@ fn runnable_part(e: Entry) -> RunnableConf
     RunnableConf {
         component: e.first,
         concurrent: e.second % 2 == 1,
-        init: 1 < e.second,
+        init: 1 < e.second % 4,
+        counting: 3 < e.second,
         interval: e.number,
         capacity: e.third,
     }
@@ -123,7 +127,7 @@ fn variable_entry(x: VariableConf) -> Entry
 {
     Entry {
         first: x.component,
-        second: bit_of(x.initialed),
+        second: config::bit(x.initialed),
         third: 0,
         number: x.initial,
     }
@@ -181,7 +185,7 @@ fn provided_entry(x: ProvidedConf) -> Entry
 {
     Entry {
         first: x.component,
-        second: bit_of(x.queued),
+        second: config::bit(x.queued),
         third: 0,
         number: 0,
     }
@@ -221,7 +225,7 @@ fn operation_entry(x: OperationConf) -> Entry
 {
     Entry {
         first: x.component,
-        second: bit_of(x.asynchronous),
+        second: config::bit(x.asynchronous),
         third: x.server,
         number: x.timeout,
     }
@@ -496,10 +500,10 @@ fn ranges(e: Entry, top: u8) -> bool
 }
 
 fn runnable_ranges(e: Entry) -> bool
-    ensures { λ r. ⌜ r ≡ both (leb (e .first) maxComponent) (both (leb (e .second) 3) (both (leb (e .number) maxTime) (leb (e .third) maxCapacity))) ⌝ }
+    ensures { λ r. ⌜ r ≡ both (leb (e .first) maxComponent) (both (leb (e .second) maxFlags) (both (leb (e .number) maxTime) (leb (e .third) maxCapacity))) ⌝ }
 {
     if e.first <= Entry::MAX_COMPONENT {
-        if e.second <= 3 {
+        if e.second <= Entry::MAX_FLAGS {
             if e.number <= Entry::MAX_TIME {
                 return e.third <= config::MAX_CAPACITY;
             }

@@ -10,18 +10,19 @@ use Rattle.laws.specs.Loop.{allBelow, anyBelow, sumBelow, firstBelow}
 use Rattle.laws.specs.Row.{eachBelow, shifted, placeFilled, filled}
 use Rattle.values.specs.Values.{isVoid, isPayload, isKind, isMask, isGood, sameValue, voidV, numberV, okV, timeoutV, neverReceivedV, invalidV, serverErrV}
 use Rattle.config.specs.Editions.{firstEdition, isEdition, marksInvalid}
-use Rattle.config.specs.Tables.{runnableConfIn, addRunnableConf, variableConfIn, addVariableConf, areaConfIn, addAreaConf, requiredConfIn, addRequiredConf, providedConfIn, addProvidedConf, linkIn, addLink, operationConfIn, addOperationConf, timerConfIn, addTimerConf, dataEventIn, addDataEvent, returnEventIn, addReturnEvent, noConfig, noRunnableConf, noAreaConf, noRequiredConf, noOperationConf, noVariableConfs, noProvidedConfs, noLinks, noTimerConfs, noDataEvents, noReturnEvents}
+use Rattle.config.specs.Tables.{runnableConfIn, addRunnableConf, variableConfIn, addVariableConf, areaConfIn, addAreaConf, requiredConfIn, addRequiredConf, providedConfIn, addProvidedConf, linkIn, addLink, operationConfIn, addOperationConf, timerConfIn, addTimerConf, dataEventIn, addDataEvent, returnEventIn, addReturnEvent, noConfig, noRunnableConf, noAreaConf, noRequiredConf, noOperationConf, noVariableConfs, noProvidedConfs, noLinks, noTimerConfs, noDataEvents, noReturnEvents, topOf}
 use Rattle.state.specs.Parts.{noRequests, noRunnable, noValues, noElement, noStack, noSlot, noClient, noOwed, noVariable, noArea, noOperation, noTimer}
 use Rattle.state.specs.Tables.{withRunnables, withVariables, withAreas, withElements, withOperations, withTimers, withSlots, noRunnables, runnableIn, withRunnable, noVariables, variableIn, withVariable, noAreas, areaIn, withArea, noElements, elementIn, withElement, noOperations, operationIn, withOperation, noTimers, timerIn, withTimer, noSlots, slotIn, withSlot}
+use Rattle.state.specs.Fields.{withPending}
 use Rattle.state.specs.Queues.{pushRequest, firstRequest, restRequests, pushValue, firstValue, restValues, pushArea, topArea, popArea}
 use Rattle.state.specs.Start.{startVariable, startElement, startRunnables, startVariables, startElements, startOf}
 use Rattle.entries.specs.Entries.{maxOf, countOf, placesOf, entryOf, placed, withEdition, withRequiredConfs}
 use Rattle.entries.specs.Faults.{inRange, namesThere, isServer, isQueued, rises, risesAt, pairsWell, entryFault, isNoEntry, placeSound, kindSound, configSound, partsSound}
-use Rattle.rules.specs.Sound.{isNoClient, clientFits, requestsSound, valuesSound, runnableSound, variableSound, isStored, elementSound, isOutcome, callingSound, doneSound, operationSound, timerSound, waitsWell, lifeSound, owedSound, areaFits, stackSound, isNoSlot, slotSound, ofRunnable, slotsOf, countSound, timesIn, holders, areaSound, isClient, queuedAs, servedAs, clientsAs, clientSound, queuedSound, servedSound, calledSound, waitsOn, waitersOf, waiterSound, runnablesSound, variablesSound, elementsSound, operationsSound, timersSound, slotsSound, countsSound, areasSound, clientsSound, waitersSound, shaped, soundOf}
+use Rattle.rules.specs.Sound.{isNoClient, clientFits, requestsSound, valuesSound, runnableSound, variableSound, isStored, elementSound, isOutcome, callingSound, doneSound, operationSound, timerSound, waitsWell, lifeSound, owedSound, areaFits, stackSound, isNoSlot, slotSound, ofRunnable, slotsOf, countSound, timesIn, holders, areaSound, isClient, queuedAs, servedAs, clientsAs, clientSound, queuedSound, servedSound, calledSound, waitsOn, waitersOf, waiterSound, runnablesSound, variablesSound, elementsSound, operationsSound, timersSound, slotsSound, countsSound, areasSound, clientsSound, waitersSound, shaped, soundOf, mostPending}
 use Rattle.effects.specs.Steps.{failing}
 use Rattle.faces.specs.Types.{Value, Config, Client, Requests, Runnables, Elements, Operations, Life, Stack, Slot, Slots, State}
 
--- ---- the configuration: a client and a server component with two runnables each, a synchronous and two asynchronous operations of the one on the other, two areas, a queued element
+-- ---- the configuration: a client and a server component with two runnables each, of which one counts its activations, a synchronous and two asynchronous operations of the one on the other, two areas, a queued element
 
 -- with a timeout for the last operation
 pub configWith : ℕ → Config
@@ -30,10 +31,10 @@ configWith timeout = record {
       record {
         n = 4;
         at = set (set (set (set (replicate 16 noRunnableConf)
-            0 (record { component = 0; concurrent = false; init = true; interval = 5; capacity = 0 }))
-            1 (record { component = 1; concurrent = true; init = false; interval = 0; capacity = 3 }))
-            2 (record { component = 0; concurrent = true; init = false; interval = 0; capacity = 0 }))
-            3 (record { component = 1; concurrent = false; init = false; interval = 0; capacity = 1 });
+            0 (record { component = 0; concurrent = false; init = true; counting = false; interval = 5; capacity = 0 }))
+            1 (record { component = 1; concurrent = true; init = false; counting = false; interval = 0; capacity = 3 }))
+            2 (record { component = 0; concurrent = true; init = false; counting = true; interval = 0; capacity = 0 }))
+            3 (record { component = 1; concurrent = false; init = false; counting = false; interval = 0; capacity = 1 });
       };
   variables = noVariableConfs;
   areas = record { n = 2; at = replicate 16 noAreaConf };
@@ -97,13 +98,13 @@ second = served 0 4 (life false false) noStack
 pub slotsWith : Slot → Slot → Slot → Slots
 slotsWith x y z = record { at = set (set (set (replicate 32 noSlot) 0 x) 1 y) 2 z }
 
--- the runnables, with the instances of the client, the server's pending flag and requests, and the instances of the third runnable
-pub runnablesWith : ℕ → Bool → Requests → ℕ → Runnables
+-- the runnables, with the instances of the client, the server's pending activations and requests, and the instances of the third runnable
+pub runnablesWith : ℕ → ℕ → Requests → ℕ → Runnables
 runnablesWith clients pending requests others = record {
   at = set (set (set (replicate 16 noRunnable)
-      0 (record { interval = 2; pending = true; instances = clients; requests = noRequests }))
+      0 (record { interval = 2; pending = 1; instances = clients; requests = noRequests }))
       1 (record { interval = 0; pending = pending; instances = 1; requests = requests }))
-      2 (record { interval = 0; pending = false; instances = others; requests = noRequests });
+      2 (record { interval = 0; pending = 0; instances = others; requests = noRequests });
 }
 
 -- a client of the second operation
@@ -116,6 +117,10 @@ queueOne c = record { queued = 1; at = set (replicate 16 noClient) 0 c }
 
 pub queueTwo : Client → Client → Requests
 queueTwo c d = record { queued = 2; at = set (set (replicate 16 noClient) 0 c) 1 d }
+
+-- the runnables of the state, with so many activations pending of the runnable r
+pub pendingWith : ℕ → ℕ → Runnables
+pendingWith r pending = withRunnable (runnablesWith 1 0 (queueOne (asked 3)) 0) r (withPending (runnableIn (runnablesWith 1 0 (queueOne (asked 3)) 0) r) pending)
 
 -- the operations: the count of the first call, the number of the second, and the number of the third, which is Done
 pub operationsWith : ℕ → ℕ → ℕ → Operations
@@ -143,7 +148,7 @@ elementsWith queued at = record { at = set (replicate 16 noElement) 0 (record { 
 
 pub state : State
 state = record {
-  runnables = runnablesWith 1 false (queueOne (asked 3)) 0;
+  runnables = runnablesWith 1 0 (queueOne (asked 3)) 0;
   variables = noVariables;
   areas = record { at = set (set (replicate 16 noArea) 0 (record { taken = true })) 1 (record { taken = true }) };
   elements = elementsWith 1 (set (replicate 16 voidV) 0 (numberV 9));
@@ -175,7 +180,7 @@ unfolding soundOf clauses
 clauses-are cfg st = refl
 
 pub state-sound : soundOf config state ≡ true
-unfolding allOf allBelow anyBelow sumBelow firstBelow eachBelow shifted placeFilled filled isVoid isPayload isKind isMask isGood sameValue runnableConfIn addRunnableConf variableConfIn addVariableConf areaConfIn addAreaConf requiredConfIn addRequiredConf providedConfIn addProvidedConf linkIn addLink operationConfIn addOperationConf timerConfIn addTimerConf dataEventIn addDataEvent returnEventIn addReturnEvent noConfig noRequests noRunnable noValues noElement noStack noSlot noRunnables runnableIn withRunnable noVariables variableIn withVariable noAreas areaIn withArea noElements elementIn withElement noOperations operationIn withOperation noTimers timerIn withTimer noSlots slotIn withSlot pushRequest firstRequest restRequests pushValue firstValue restValues pushArea topArea popArea startVariable startElement startRunnables startVariables startElements startOf maxOf countOf placesOf entryOf placed inRange namesThere isServer isQueued rises risesAt pairsWell entryFault isNoEntry placeSound kindSound configSound isNoClient clientFits requestsSound valuesSound runnableSound variableSound isStored elementSound isOutcome callingSound doneSound operationSound timerSound waitsWell lifeSound owedSound areaFits stackSound isNoSlot slotSound ofRunnable slotsOf countSound timesIn holders areaSound isClient queuedAs servedAs clientsAs clientSound queuedSound servedSound calledSound waitsOn waitersOf waiterSound runnablesSound variablesSound elementsSound operationsSound timersSound slotsSound countsSound areasSound clientsSound waitersSound shaped soundOf configWith config caller nested one served life idle waiter first second slotsWith runnablesWith asked queueOne queueTwo operationsWith doneWith shutWith freeWith elementsWith state isEdition partsSound marksInvalid
+unfolding allOf allBelow anyBelow sumBelow firstBelow eachBelow shifted placeFilled filled isVoid isPayload isKind isMask isGood sameValue runnableConfIn addRunnableConf variableConfIn addVariableConf areaConfIn addAreaConf requiredConfIn addRequiredConf providedConfIn addProvidedConf linkIn addLink operationConfIn addOperationConf timerConfIn addTimerConf dataEventIn addDataEvent returnEventIn addReturnEvent noConfig noRequests noRunnable noValues noElement noStack noSlot noRunnables runnableIn withRunnable noVariables variableIn withVariable noAreas areaIn withArea noElements elementIn withElement noOperations operationIn withOperation noTimers timerIn withTimer noSlots slotIn withSlot pushRequest firstRequest restRequests pushValue firstValue restValues pushArea topArea popArea startVariable startElement startRunnables startVariables startElements startOf maxOf countOf placesOf entryOf placed inRange namesThere isServer isQueued rises risesAt pairsWell entryFault isNoEntry placeSound kindSound configSound isNoClient clientFits requestsSound valuesSound runnableSound variableSound isStored elementSound isOutcome callingSound doneSound operationSound timerSound waitsWell lifeSound owedSound areaFits stackSound isNoSlot slotSound ofRunnable slotsOf countSound timesIn holders areaSound isClient queuedAs servedAs clientsAs clientSound queuedSound servedSound calledSound waitsOn waitersOf waiterSound runnablesSound variablesSound elementsSound operationsSound timersSound slotsSound countsSound areasSound clientsSound waitersSound shaped soundOf configWith config caller nested one served life idle waiter first second slotsWith runnablesWith asked queueOne queueTwo operationsWith doneWith shutWith freeWith elementsWith state isEdition partsSound marksInvalid topOf mostPending
 state-sound = refl
 
 -- ---- near it, and unsound for one clause alone
@@ -213,17 +218,25 @@ markedSecond = record { config = editioned 2; state = holding invalidV; fails = 
 slotsMore : Near
 slotsMore = record { config = config; state = withSlots state (record { at = set (set (replicate 33 noSlot) 0 first) 1 second }); fails = 1 }
 
--- a server is pending
+-- a server has an activation pending
 serverPending : Near
-serverPending = record { config = config; state = withRunnables state (runnablesWith 1 true (queueOne (asked 3)) 0); fails = 2 }
+serverPending = record { config = config; state = withRunnables state (runnablesWith 1 1 (queueOne (asked 3)) 0); fails = 2 }
+
+-- two activations pending without the counting flag
+twicePending : Near
+twicePending = record { config = config; state = withRunnables state (pendingWith 0 2); fails = 2 }
+
+-- one activation pending past the top
+pastTop : Near
+pastTop = record { config = config; state = withRunnables state (pendingWith 2 16); fails = 2 }
 
 -- two instances of a runnable without the flag
 twiceWithout : Near
-twiceWithout = record { config = config; state = withSlots (withRunnables state (runnablesWith 2 false (queueOne (asked 3)) 0)) (slotsWith first second (idle 0 noStack)); fails = 2 }
+twiceWithout = record { config = config; state = withSlots (withRunnables state (runnablesWith 2 0 (queueOne (asked 3)) 0)) (slotsWith first second (idle 0 noStack)); fails = 2 }
 
 -- a request is for another server
 otherServer : Near
-otherServer = record { config = config; state = withOperations (withRunnables state (runnablesWith 1 false (queueTwo (asked 3) (record { operation = 2; number = 0; argument = voidV })) 0)) (operationsWith 50 3 1); fails = 2 }
+otherServer = record { config = config; state = withOperations (withRunnables state (runnablesWith 1 0 (queueTwo (asked 3) (record { operation = 2; number = 0; argument = voidV })) 0)) (operationsWith 50 3 1); fails = 2 }
 
 -- a variable that is not there holds a value
 variableUnused : Near
@@ -255,7 +268,7 @@ timerUnused = record { config = config; state = withTimers state (record { at = 
 
 -- an instance waits on an asynchronous operation; another waits on the synchronous one
 waitsAsync : Near
-waitsAsync = record { config = config; state = withSlots (withRunnables state (runnablesWith 1 false (queueOne (asked 3)) 1)) (slotsWith (caller 1 false nested) second waiter); fails = 7 }
+waitsAsync = record { config = config; state = withSlots (withRunnables state (runnablesWith 1 0 (queueOne (asked 3)) 1)) (slotsWith (caller 1 false nested) second waiter); fails = 7 }
 
 -- an instance waits on an operation of another component, and nobody else does
 waitsForeign : Near
@@ -283,7 +296,7 @@ emptyFailed = record { config = config; state = withSlots state (slotsWith first
 
 -- a runnable counts fewer instances than it has
 noInstance : Near
-noInstance = record { config = config; state = withRunnables state (runnablesWith 0 false (queueOne (asked 3)) 0); fails = 8 }
+noInstance = record { config = config; state = withRunnables state (runnablesWith 0 0 (queueOne (asked 3)) 0); fails = 8 }
 
 -- an area that lies in a stack is free
 heldFree : Near
@@ -291,7 +304,7 @@ heldFree = record { config = config; state = withAreas state (record { at = set 
 
 -- an area lies in two stacks
 heldTwice : Near
-heldTwice = record { config = config; state = withSlots (withRunnables state (runnablesWith 1 false (queueOne (asked 3)) 1)) (slotsWith first second (idle 2 (one 0))); fails = 9 }
+heldTwice = record { config = config; state = withSlots (withRunnables state (runnablesWith 1 0 (queueOne (asked 3)) 1)) (slotsWith first second (idle 2 (one 0))); fails = 9 }
 
 -- an open call has no client with its number, but one with the number before it
 callAlone : Near
@@ -303,7 +316,7 @@ callAhead = record { config = config; state = withSlots state (slotsWith first (
 
 -- two clients share operation and number
 clientTwice : Near
-clientTwice = record { config = config; state = withRunnables state (runnablesWith 1 false (queueTwo (asked 3) (asked 3)) 0); fails = 10 }
+clientTwice = record { config = config; state = withRunnables state (runnablesWith 1 0 (queueTwo (asked 3) (asked 3)) 0); fails = 10 }
 
 -- nobody waits on a synchronous operation whose call is open
 callUnbound : Near
@@ -311,15 +324,15 @@ callUnbound = record { config = config; state = withSlots state (slotsWith (idle
 
 -- two instances wait on one operation
 waitersTwo : Near
-waitersTwo = record { config = config; state = withSlots (withRunnables state (runnablesWith 1 false (queueOne (asked 3)) 1)) (slotsWith first second waiter); fails = 11 }
+waitersTwo = record { config = config; state = withSlots (withRunnables state (runnablesWith 1 0 (queueOne (asked 3)) 1)) (slotsWith first second waiter); fails = 11 }
 
 -- two clients of past calls do
 pastTwice : Near
-pastTwice = record { config = config; state = withOperations (withRunnables state (runnablesWith 1 false (queueTwo (asked 9) (asked 9)) 0)) (shutWith 3); fails = 10 }
+pastTwice = record { config = config; state = withOperations (withRunnables state (runnablesWith 1 0 (queueTwo (asked 9) (asked 9)) 0)) (shutWith 3); fails = 10 }
 
 -- one waits and one is served
 apartTwice : Near
-apartTwice = record { config = config; state = withSlots (withOperations (withRunnables state (runnablesWith 1 false (queueOne (asked 9)) 0)) (freeWith 3)) (slotsWith (idle 0 nested) (served 1 9 (life false false) noStack) noSlot); fails = 10 }
+apartTwice = record { config = config; state = withSlots (withOperations (withRunnables state (runnablesWith 1 0 (queueOne (asked 9)) 0)) (freeWith 3)) (slotsWith (idle 0 nested) (served 1 9 (life false false) noStack) noSlot); fails = 10 }
 
 pub near : List Near
 near =
@@ -328,6 +341,8 @@ near =
     ∷ markedSecond
     ∷ slotsMore
     ∷ serverPending
+    ∷ twicePending
+    ∷ pastTop
     ∷ twiceWithout
     ∷ otherServer
     ∷ variableUnused
@@ -358,30 +373,31 @@ near =
 
 -- of each, the clauses hold as it says: all but one
 pub near-unsound : map (λ (x : Near). clauses (x .config) (x .state)) near ≡ map (λ (x : Near). allBut (x .fails)) near
-unfolding allOf allBelow anyBelow sumBelow firstBelow eachBelow shifted placeFilled filled isVoid isPayload isKind isMask isGood sameValue runnableConfIn addRunnableConf variableConfIn addVariableConf areaConfIn addAreaConf requiredConfIn addRequiredConf providedConfIn addProvidedConf linkIn addLink operationConfIn addOperationConf timerConfIn addTimerConf dataEventIn addDataEvent returnEventIn addReturnEvent noConfig noRequests noRunnable noValues noElement noStack noSlot noRunnables runnableIn withRunnable noVariables variableIn withVariable noAreas areaIn withArea noElements elementIn withElement noOperations operationIn withOperation noTimers timerIn withTimer noSlots slotIn withSlot pushRequest firstRequest restRequests pushValue firstValue restValues pushArea topArea popArea startVariable startElement startRunnables startVariables startElements startOf maxOf countOf placesOf entryOf placed inRange namesThere isServer isQueued rises risesAt pairsWell entryFault isNoEntry placeSound kindSound configSound isNoClient clientFits requestsSound valuesSound runnableSound variableSound isStored elementSound isOutcome callingSound doneSound operationSound timerSound waitsWell lifeSound owedSound areaFits stackSound isNoSlot slotSound ofRunnable slotsOf countSound timesIn holders areaSound isClient queuedAs servedAs clientsAs clientSound queuedSound servedSound calledSound waitsOn waitersOf waiterSound runnablesSound variablesSound elementsSound operationsSound timersSound slotsSound countsSound areasSound clientsSound waitersSound shaped soundOf configWith config caller nested one served life idle waiter first second slotsWith runnablesWith asked queueOne queueTwo operationsWith doneWith shutWith freeWith elementsWith state clauses near allBut unconfigured slotsMore serverPending twiceWithout otherServer variableUnused queueLong queueOk behindQueue countAbove errNumbered timerUnused waitsAsync waitsForeign owesFinished finishedPlain foreignArea emptyUsed emptyFailed noInstance heldFree heldTwice callAlone callAhead clientTwice pastTwice apartTwice callUnbound waitersTwo isEdition partsSound marksInvalid editioned holding editionThree markedSecond
+unfolding allOf allBelow anyBelow sumBelow firstBelow eachBelow shifted placeFilled filled isVoid isPayload isKind isMask isGood sameValue runnableConfIn addRunnableConf variableConfIn addVariableConf areaConfIn addAreaConf requiredConfIn addRequiredConf providedConfIn addProvidedConf linkIn addLink operationConfIn addOperationConf timerConfIn addTimerConf dataEventIn addDataEvent returnEventIn addReturnEvent noConfig noRequests noRunnable noValues noElement noStack noSlot noRunnables runnableIn withRunnable noVariables variableIn withVariable noAreas areaIn withArea noElements elementIn withElement noOperations operationIn withOperation noTimers timerIn withTimer noSlots slotIn withSlot pushRequest firstRequest restRequests pushValue firstValue restValues pushArea topArea popArea startVariable startElement startRunnables startVariables startElements startOf maxOf countOf placesOf entryOf placed inRange namesThere isServer isQueued rises risesAt pairsWell entryFault isNoEntry placeSound kindSound configSound isNoClient clientFits requestsSound valuesSound runnableSound variableSound isStored elementSound isOutcome callingSound doneSound operationSound timerSound waitsWell lifeSound owedSound areaFits stackSound isNoSlot slotSound ofRunnable slotsOf countSound timesIn holders areaSound isClient queuedAs servedAs clientsAs clientSound queuedSound servedSound calledSound waitsOn waitersOf waiterSound runnablesSound variablesSound elementsSound operationsSound timersSound slotsSound countsSound areasSound clientsSound waitersSound shaped soundOf configWith config caller nested one served life idle waiter first second slotsWith runnablesWith asked queueOne queueTwo operationsWith doneWith shutWith freeWith elementsWith state clauses near allBut unconfigured slotsMore serverPending twiceWithout otherServer variableUnused queueLong queueOk behindQueue countAbove errNumbered timerUnused waitsAsync waitsForeign owesFinished finishedPlain foreignArea emptyUsed emptyFailed noInstance heldFree heldTwice callAlone callAhead clientTwice pastTwice apartTwice callUnbound waitersTwo isEdition partsSound marksInvalid editioned holding editionThree markedSecond topOf mostPending pendingWith twicePending pastTop
 near-unsound = refl
 
 -- ---- near it, and sound
 
 -- an operation is Done with ServerErr; an instance that waits has failed; a server's instance has failed and has its client; the call that an instance waits for has timed out; an instance waits where
--- no call was ever made; a call is open with the number 65,535; beside the client of an open call waits one with a number above it; a client bears the number of its operation, which is Done
+-- no call was ever made; a call is open with the number 65,535; beside the client of an open call waits one with a number above it; a client bears the number of its operation, which is Done; fifteen activations of a counting runnable are pending
 pub soundToo : List State
 soundToo =
     withOperations state (doneWith serverErrV)
     ∷ withSlots state (slotsWith (failing first) second noSlot)
     ∷ withSlots state (slotsWith first (failing second) noSlot)
     ∷ withOperations state (withOperation (operationsWith 50 3 0) 0 (record { number = 5; calling = false; count = 0; done = timeoutV }))
-    ∷ withOperations (withSlots (withRunnables state (runnablesWith 1 false noRequests 0)) (slotsWith first (served 1 3 (life false false) noStack) noSlot)) (withOperation (operationsWith 50 3 0) 0 noOperation)
-    ∷ withOperations (withRunnables state (runnablesWith 1 false (queueOne (asked 65535)) 0)) (operationsWith 50 65535 0)
-    ∷ withRunnables state (runnablesWith 1 false (queueTwo (asked 9) (asked 3)) 0)
+    ∷ withOperations (withSlots (withRunnables state (runnablesWith 1 0 noRequests 0)) (slotsWith first (served 1 3 (life false false) noStack) noSlot)) (withOperation (operationsWith 50 3 0) 0 noOperation)
+    ∷ withOperations (withRunnables state (runnablesWith 1 0 (queueOne (asked 65535)) 0)) (operationsWith 50 65535 0)
+    ∷ withRunnables state (runnablesWith 1 0 (queueTwo (asked 9) (asked 3)) 0)
     ∷ withOperations state (shutWith 3)
+    ∷ withRunnables state (pendingWith 2 15)
     ∷ []
 
-pub near-sound : map (λ (x : State). soundOf config x) soundToo ≡ true ∷ true ∷ true ∷ true ∷ true ∷ true ∷ true ∷ true ∷ []
-unfolding allOf allBelow anyBelow sumBelow firstBelow eachBelow shifted placeFilled filled isVoid isPayload isKind isMask isGood sameValue runnableConfIn addRunnableConf variableConfIn addVariableConf areaConfIn addAreaConf requiredConfIn addRequiredConf providedConfIn addProvidedConf linkIn addLink operationConfIn addOperationConf timerConfIn addTimerConf dataEventIn addDataEvent returnEventIn addReturnEvent noConfig noRequests noRunnable noValues noElement noStack noSlot noRunnables runnableIn withRunnable noVariables variableIn withVariable noAreas areaIn withArea noElements elementIn withElement noOperations operationIn withOperation noTimers timerIn withTimer noSlots slotIn withSlot pushRequest firstRequest restRequests pushValue firstValue restValues pushArea topArea popArea startVariable startElement startRunnables startVariables startElements startOf maxOf countOf placesOf entryOf placed inRange namesThere isServer isQueued rises risesAt pairsWell entryFault isNoEntry placeSound kindSound configSound isNoClient clientFits requestsSound valuesSound runnableSound variableSound isStored elementSound isOutcome callingSound doneSound operationSound timerSound waitsWell lifeSound owedSound areaFits stackSound isNoSlot slotSound ofRunnable slotsOf countSound timesIn holders areaSound isClient queuedAs servedAs clientsAs clientSound queuedSound servedSound calledSound waitsOn waitersOf waiterSound runnablesSound variablesSound elementsSound operationsSound timersSound slotsSound countsSound areasSound clientsSound waitersSound shaped soundOf configWith config caller nested one served life idle waiter first second slotsWith runnablesWith asked queueOne queueTwo operationsWith doneWith shutWith freeWith elementsWith state soundToo isEdition partsSound marksInvalid
+pub near-sound : map (λ (x : State). soundOf config x) soundToo ≡ true ∷ true ∷ true ∷ true ∷ true ∷ true ∷ true ∷ true ∷ true ∷ []
+unfolding allOf allBelow anyBelow sumBelow firstBelow eachBelow shifted placeFilled filled isVoid isPayload isKind isMask isGood sameValue runnableConfIn addRunnableConf variableConfIn addVariableConf areaConfIn addAreaConf requiredConfIn addRequiredConf providedConfIn addProvidedConf linkIn addLink operationConfIn addOperationConf timerConfIn addTimerConf dataEventIn addDataEvent returnEventIn addReturnEvent noConfig noRequests noRunnable noValues noElement noStack noSlot noRunnables runnableIn withRunnable noVariables variableIn withVariable noAreas areaIn withArea noElements elementIn withElement noOperations operationIn withOperation noTimers timerIn withTimer noSlots slotIn withSlot pushRequest firstRequest restRequests pushValue firstValue restValues pushArea topArea popArea startVariable startElement startRunnables startVariables startElements startOf maxOf countOf placesOf entryOf placed inRange namesThere isServer isQueued rises risesAt pairsWell entryFault isNoEntry placeSound kindSound configSound isNoClient clientFits requestsSound valuesSound runnableSound variableSound isStored elementSound isOutcome callingSound doneSound operationSound timerSound waitsWell lifeSound owedSound areaFits stackSound isNoSlot slotSound ofRunnable slotsOf countSound timesIn holders areaSound isClient queuedAs servedAs clientsAs clientSound queuedSound servedSound calledSound waitsOn waitersOf waiterSound runnablesSound variablesSound elementsSound operationsSound timersSound slotsSound countsSound areasSound clientsSound waitersSound shaped soundOf configWith config caller nested one served life idle waiter first second slotsWith runnablesWith asked queueOne queueTwo operationsWith doneWith shutWith freeWith elementsWith state soundToo isEdition partsSound marksInvalid topOf mostPending pendingWith
 near-sound = refl
 
 -- Invalid is kept soundly under edition 1, NeverReceived under both
 pub editions-sound : soundOf (editioned 1) (holding invalidV) ∷ soundOf (editioned 1) (holding neverReceivedV) ∷ soundOf (editioned 2) (holding neverReceivedV) ∷ [] ≡ true ∷ true ∷ true ∷ []
-unfolding allOf allBelow anyBelow sumBelow firstBelow eachBelow shifted placeFilled filled isVoid isPayload isKind isMask isGood sameValue runnableConfIn addRunnableConf variableConfIn addVariableConf areaConfIn addAreaConf requiredConfIn addRequiredConf providedConfIn addProvidedConf linkIn addLink operationConfIn addOperationConf timerConfIn addTimerConf dataEventIn addDataEvent returnEventIn addReturnEvent noConfig noRequests noRunnable noValues noElement noStack noSlot noRunnables runnableIn withRunnable noVariables variableIn withVariable noAreas areaIn withArea noElements elementIn withElement noOperations operationIn withOperation noTimers timerIn withTimer noSlots slotIn withSlot pushRequest firstRequest restRequests pushValue firstValue restValues pushArea topArea popArea startVariable startElement startRunnables startVariables startElements startOf maxOf countOf placesOf entryOf placed inRange namesThere isServer isQueued rises risesAt pairsWell entryFault isNoEntry placeSound kindSound configSound isNoClient clientFits requestsSound valuesSound runnableSound variableSound isStored elementSound isOutcome callingSound doneSound operationSound timerSound waitsWell lifeSound owedSound areaFits stackSound isNoSlot slotSound ofRunnable slotsOf countSound timesIn holders areaSound isClient queuedAs servedAs clientsAs clientSound queuedSound servedSound calledSound waitsOn waitersOf waiterSound runnablesSound variablesSound elementsSound operationsSound timersSound slotsSound countsSound areasSound clientsSound waitersSound shaped soundOf configWith config caller nested one served life idle waiter first second slotsWith runnablesWith asked queueOne queueTwo operationsWith doneWith shutWith freeWith elementsWith state soundToo isEdition partsSound marksInvalid editioned holding
+unfolding allOf allBelow anyBelow sumBelow firstBelow eachBelow shifted placeFilled filled isVoid isPayload isKind isMask isGood sameValue runnableConfIn addRunnableConf variableConfIn addVariableConf areaConfIn addAreaConf requiredConfIn addRequiredConf providedConfIn addProvidedConf linkIn addLink operationConfIn addOperationConf timerConfIn addTimerConf dataEventIn addDataEvent returnEventIn addReturnEvent noConfig noRequests noRunnable noValues noElement noStack noSlot noRunnables runnableIn withRunnable noVariables variableIn withVariable noAreas areaIn withArea noElements elementIn withElement noOperations operationIn withOperation noTimers timerIn withTimer noSlots slotIn withSlot pushRequest firstRequest restRequests pushValue firstValue restValues pushArea topArea popArea startVariable startElement startRunnables startVariables startElements startOf maxOf countOf placesOf entryOf placed inRange namesThere isServer isQueued rises risesAt pairsWell entryFault isNoEntry placeSound kindSound configSound isNoClient clientFits requestsSound valuesSound runnableSound variableSound isStored elementSound isOutcome callingSound doneSound operationSound timerSound waitsWell lifeSound owedSound areaFits stackSound isNoSlot slotSound ofRunnable slotsOf countSound timesIn holders areaSound isClient queuedAs servedAs clientsAs clientSound queuedSound servedSound calledSound waitsOn waitersOf waiterSound runnablesSound variablesSound elementsSound operationsSound timersSound slotsSound countsSound areasSound clientsSound waitersSound shaped soundOf configWith config caller nested one served life idle waiter first second slotsWith runnablesWith asked queueOne queueTwo operationsWith doneWith shutWith freeWith elementsWith state soundToo isEdition partsSound marksInvalid editioned holding topOf mostPending
 editions-sound = refl

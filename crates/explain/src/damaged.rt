@@ -194,7 +194,7 @@ fn put_form(out: &mut [u8], at: usize, tag: u8) -> usize {
         0x10 => put(
             out,
             at,
-            b"10 runnable: 7 bytes: component (0 to 15), flags (0 to 3: 1 concurrent, 2 init), start interval (4 bytes, up to 3,600,000 ms), request capacity (0 to 16)",
+            b"10 runnable: 7 bytes: component (0 to 15), flags (0 to 7: 1 concurrent, 2 init, 4 counting), start interval (4 bytes, up to 3,600,000 ms), request capacity (0 to 16)",
         ),
         0x11 => put(
             out,
@@ -257,7 +257,7 @@ fn put_fault(out: &mut [u8], at: usize, k: u8) -> usize {
         26 => put(
             out,
             at,
-            b"parts that do not go together: a server with the init flag, a timer or an event; an initial that is not marked; a link of unlike kinds; an operation on a runnable that is no server; pairs of links or events that do not rise",
+            b"parts that do not go together: a server with the init flag, with counting, a timer or an event; an initial that is not marked; a link of unlike kinds; an operation on a runnable that is no server; pairs of links or events that do not rise",
         ),
         _ => put(out, at, b"it can't be read"),
     }

@@ -51,6 +51,19 @@ fn put_void(out: &mut [u8], at: usize, st: State, code: u8, who: u8) -> usize {
     at
 }
 
+// A runnable may have several activations pending, of which a spawn takes one.
+fn put_several(out: &mut [u8], at: usize, st: State, code: u8, what: u8) -> usize {
+    let runnables = st.runnables;
+    let x = runnables.get(what);
+    if code == 15 {
+        if 1 < x.pending {
+            let a = put_with(out, at, b" (", x.pending as u64);
+            return put(out, a, b" pending)");
+        }
+    }
+    at
+}
+
 // A step that would be taken, behind a comma: the payload is left open.
 fn put_option(
     out: &mut [u8],
@@ -65,7 +78,8 @@ fn put_option(
     let a = put(out, at, b"; ");
     let b = crate::words::put_option(out, a, names, probe(code, who, what));
     let c = put_void(out, b, st, code, who);
-    put_answer(out, c, names, v)
+    let d = put_several(out, c, st, code, what);
+    put_answer(out, d, names, v)
 }
 
 fn put_allowed(

@@ -177,7 +177,19 @@ pub(crate) fn put_start(out: &mut [u8], at: usize, s: &[u8], after: State, i: u8
         let b = put(out, a, b", for the call of step ");
         return put_with(out, b, b"", place_of_call(s, c.operation, c.number) as u64);
     }
-    a
+    let l = x.life;
+    put_left(out, a, after, l.runnable)
+}
+
+// How many activations are pending behind a start, where they are counted.
+fn put_left(out: &mut [u8], at: usize, after: State, r: u8) -> usize {
+    let runnables = after.runnables;
+    let x = runnables.get(r);
+    if x.pending == 0 {
+        return at;
+    }
+    let a = put_with(out, at, b", ", x.pending as u64);
+    put(out, a, b" more pending")
 }
 
 // What a hand back came to.

@@ -12,7 +12,7 @@ use borrow.Author.Tests.{leb-true}
 use Rattle.laws.proofs.Looping.{all-at}
 use Rattle.laws.proofs.Places.{each-at}
 use Rattle.faces.specs.Types.{Value, Config, Elements, Operation, Operations, Slot, State}
-use Rattle.config.specs.Tables.{timerConfIn}
+use Rattle.config.specs.Tables.{runnableConfIn, timerConfIn}
 use Rattle.state.specs.Parts.{noOperation}
 use Rattle.state.specs.Tables.{runnableIn, areaIn, operationIn, slotIn, withSlot, withAreas, withElements, withSlots}
 use Rattle.rules.specs.Sound.{timesIn, operationSound, operationsSound}
@@ -63,7 +63,7 @@ elements-calm st t = still st _ refl refl refl (record { operations = same-calls
 
 pub fed-calm : (cfg : Config) (st : State) (p : ℕ) (v : Value) → Calm 0 st (fed cfg st p v)
 unfolding fed
-fed-calm cfg st p v = still st _ refl refl refl (record { operations = same-calls (st .operations); requests = fed-kept (λ x. x .requests) (λ x. refl) cfg (st .elements) p (st .runnables); owed = λ k. refl; failed = λ k. refl; finished = λ k. refl; running = λ k r. r; used = λ k. refl })
+fed-calm cfg st p v = still st _ refl refl refl (record { operations = same-calls (st .operations); requests = fed-kept (λ x. x .requests) (λ c x. refl) cfg (st .elements) p (st .runnables); owed = λ k. refl; failed = λ k. refl; finished = λ k. refl; running = λ k r. r; used = λ k. refl })
 
 -- ---- a slot that owes what it owed, has failed and is finished as before, and does not begin to wait
 
@@ -97,7 +97,7 @@ collect-calm st i = record {
 pub tick-alike : (cfg : Config) (st : State) (t : ℕ) → Alike 0 st (ticked cfg st t)
 tick-alike cfg st t = record {
   operations = same-calls (st .operations);
-  requests = runnable-kept (λ x. x .requests) (st .runnables) (timerConfIn (cfg .timers) t .runnable) (woken (runnableIn (st .runnables) (timerConfIn (cfg .timers) t .runnable))) refl;
+  requests = runnable-kept (λ x. x .requests) (st .runnables) (timerConfIn (cfg .timers) t .runnable) (woken (runnableConfIn (cfg .runnables) (timerConfIn (cfg .timers) t .runnable)) (runnableIn (st .runnables) (timerConfIn (cfg .timers) t .runnable))) refl;
   owed = λ k. refl;
   failed = λ k. refl;
   finished = λ k. refl;

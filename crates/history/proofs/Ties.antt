@@ -87,7 +87,7 @@ tied-closed : (cfg : Config) (st : State) (h : History) (o : ℕ) (w : How) (v :
 unfolding closed closing
 tied-closed cfg st h o w v e p g t = record {
   queues =
-      queues-alike _ (h .latest) _ (st .runnables) _ (h .queued) (returned-kept (λ y. y .requests) (λ y. refl) cfg o (st .runnables))
+      queues-alike _ (h .latest) _ (st .runnables) _ (h .queued) (returned-kept (λ y. y .requests) (λ c y. refl) cfg o (st .runnables))
       (queues-close (st .operations) (h .latest) (h .endings) o x _ (calling-inside (st .operations) o e) refl refl (st .runnables) (h .queued) (t .queues));
   served = served-close (st .operations) (h .latest) (h .endings) o x _ (calling-inside (st .operations) o e) refl refl (st .slots) (h .taken) (t .served);
   calls = calls-close (st .operations) (h .latest) (h .endings) (h .place) o _ w x (t .calls) e p refl refl (sym g);

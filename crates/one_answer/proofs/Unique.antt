@@ -51,6 +51,9 @@ values-Value-same κs a x y s t = same
 
 -- ---- config
 
+pub config-bit : One Rattle.config.proofs.bit.Kinds.ps Rattle.config.proofs.bit.Kinds.r Rattle.config.proofs.bit.Reads.Post
+config-bit κs a x y s t = same
+
 pub config-RunnableConfs-none : One Rattle.config.proofs.RunnableConfs.none.Kinds.ps Rattle.config.proofs.RunnableConfs.none.Kinds.r Rattle.config.proofs.RunnableConfs.none.Reads.Post
 config-RunnableConfs-none κs a x y s t = same
 
@@ -59,6 +62,9 @@ config-RunnableConfs-get κs a x y s t = same
 
 pub config-RunnableConfs-add : One Rattle.config.proofs.RunnableConfs.add.Kinds.ps Rattle.config.proofs.RunnableConfs.add.Kinds.r Rattle.config.proofs.RunnableConfs.add.Reads.Post
 config-RunnableConfs-add κs a x y s t = same
+
+pub config-RunnableConf-top : One Rattle.config.proofs.RunnableConf.top.Kinds.ps Rattle.config.proofs.RunnableConf.top.Kinds.r Rattle.config.proofs.RunnableConf.top.Reads.Post
+config-RunnableConf-top κs a x y s t = same
 
 pub config-VariableConfs-none : One Rattle.config.proofs.VariableConfs.none.Kinds.ps Rattle.config.proofs.VariableConfs.none.Kinds.r Rattle.config.proofs.VariableConfs.none.Reads.Post
 config-VariableConfs-none κs a x y s t = same

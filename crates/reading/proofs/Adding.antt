@@ -92,12 +92,16 @@ adds cfg e =
 
 -- ---- the entry of a part that was read is the entry that the bytes say
 
-flags-back : (s : ℕ) → s ≤ 3 → bit (eqb (s % 2) 1) + 2 * bit (ltb 1 s) ≡ s
+flags-back : (s : ℕ) → s ≤ 7 → bit (eqb (s % 2) 1) + 2 * bit (ltb 1 (s % 4)) + 4 * bit (ltb 3 s) ≡ s
 flags-back zero h = refl
 flags-back (suc zero) h = refl
 flags-back (suc (suc zero)) h = refl
 flags-back (suc (suc (suc zero))) h = refl
-flags-back (suc (suc (suc (suc s)))) h = absurd (omega arith)
+flags-back (suc (suc (suc (suc zero)))) h = refl
+flags-back (suc (suc (suc (suc (suc zero))))) h = refl
+flags-back (suc (suc (suc (suc (suc (suc zero)))))) h = refl
+flags-back (suc (suc (suc (suc (suc (suc (suc zero))))))) h = refl
+flags-back (suc (suc (suc (suc (suc (suc (suc (suc s)))))))) h = absurd (omega arith)
 
 mark-back : (s : ℕ) → s ≤ 1 → bit (eqb s 1) ≡ s
 mark-back zero h = refl
@@ -108,7 +112,7 @@ pub back-read : (tag : ℕ) → 0x10 ≤ tag → tag ≤ 0x19 → (t : List ℕ)
 unfolding inRange backOf entryRead
 back-read =
     each-kind (λ tag. (t : List ℕ) → inRange tag (entryRead tag t) ≡ true → backOf tag (entryRead tag t) ≡ entryRead tag t)
-    (λ t h. rw (flags-back (getD t 4 0) (leb-true (getD t 4 0) 3 (both-left (leb (getD t 4 0) 3) _ (both-right (leb (getD t 3 0) 15) _ h)))))
+    (λ t h. rw (flags-back (getD t 4 0) (leb-true (getD t 4 0) 7 (both-left (leb (getD t 4 0) 7) _ (both-right (leb (getD t 3 0) 15) _ h)))))
     (λ t h. rw (mark-back (getD t 4 0) (leb-true (getD t 4 0) 1 (both-right (leb (getD t 3 0) 15) _ h))))
     (λ t h. refl)
     (λ t h. refl)

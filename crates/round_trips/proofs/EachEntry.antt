@@ -71,7 +71,7 @@ time-fits n h = omega (arith, leb-true n 3600000 (both-right (ltb 0 n) (leb n 36
 interval-fits : (e : Entry) → inRange 0x10 e ≡ true → e .number < 2 ^ 32
 unfolding inRange
 interval-fits e h =
-    let p = both-right (leb (e .second) 3) (both (leb (e .number) 3600000) (leb (e .third) 16)) (both-right (leb (e .first) 15) _ h) in
+    let p = both-right (leb (e .second) 7) (both (leb (e .number) 3600000) (leb (e .third) 16)) (both-right (leb (e .first) 15) _ h) in
     omega (arith, leb-true (e .number) 3600000 (both-left (leb (e .number) 3600000) (leb (e .third) 16) p))
 
 timeout-fits : (e : Entry) → inRange 0x16 e ≡ true → e .number < 2 ^ 32

@@ -42,16 +42,20 @@ use Rattle.reading.proofs.Adding.{each-kind}
 
 -- ---- an entry holds all of its part
 
-flags-told : (a b : Bool) → (eqb ((bit a + 2 * bit b) % 2) 1 ≡ a) × (ltb 1 (bit a + 2 * bit b) ≡ b)
-flags-told true true = (refl, refl)
-flags-told true false = (refl, refl)
-flags-told false true = (refl, refl)
-flags-told false false = (refl, refl)
+flags-told : (a b d : Bool) → (eqb ((bit a + 2 * bit b + 4 * bit d) % 2) 1 ≡ a) × ((ltb 1 ((bit a + 2 * bit b + 4 * bit d) % 4) ≡ b) × (ltb 3 (bit a + 2 * bit b + 4 * bit d) ≡ d))
+flags-told true true true = (refl, (refl, refl))
+flags-told true true false = (refl, (refl, refl))
+flags-told true false true = (refl, (refl, refl))
+flags-told true false false = (refl, (refl, refl))
+flags-told false true true = (refl, (refl, refl))
+flags-told false true false = (refl, (refl, refl))
+flags-told false false true = (refl, (refl, refl))
+flags-told false false false = (refl, (refl, refl))
 
 runnable-back : (x : RunnableConf) → runnablePart (runnableEntry x) ≡ x
 runnable-back x =
-    ap₂ (λ (c i : Bool). record { component = x .component; concurrent = c; init = i; interval = x .interval; capacity = x .capacity })
-    (flags-told (x .concurrent) (x .init) .0) (flags-told (x .concurrent) (x .init) .1)
+    let t = flags-told (x .concurrent) (x .init) (x .counting) in
+    λ i. record { component = x .component; concurrent = t .0 i; init = t .1 .0 i; counting = t .1 .1 i; interval = x .interval; capacity = x .capacity }
 
 variable-back : (x : VariableConf) → variablePart (variableEntry x) ≡ x
 variable-back x = ap (λ (m : Bool). record { component = x .component; initialed = m; initial = x .initial }) (bit-back (x .initialed))

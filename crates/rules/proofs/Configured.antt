@@ -12,7 +12,7 @@ use Rattle.laws.proofs.Choosing.{clash, both-left, both-right, either-right, al
 use Rattle.laws.proofs.Places.{past}
 use Rattle.faces.specs.Types.{Config, RunnableConf, RequiredConf}
 use Rattle.config.specs.Tables.{noRunnableConf, noRequiredConf, runnableConfIn, requiredConfIn, providedConfIn, linkIn, operationConfIn, timerConfIn, dataEventIn, returnEventIn}
-use Rattle.entries.specs.Entries.{maxOf, countOf, placesOf, entryOf}
+use Rattle.entries.specs.Entries.{maxOf, countOf, placesOf, entryOf, flagsOf}
 use Rattle.entries.specs.Faults.{inRange, namesThere, isServer, isQueued, pairsWell, configSound}
 use Rattle.entries.proofs.Kind.{Well, fault-told, Blank, blank-told, Kind, config-told}
 
@@ -53,7 +53,7 @@ module _ (cfg : Config) (h : configSound cfg ≡ true) where
 
   -- ---- runnables
 
-  -- in use: no init flag on a server, and a capacity that a queue has room for
+  -- in use: neither the init flag nor counting on a server, and a capacity that a queue has room for
   runnable-well : (r : ℕ) → r < cfg .runnables .n → Well cfg 0x10 r (entryOf cfg 0x10 r)
   unfolding countOf
   runnable-well = used 0 (omega arith)
@@ -63,13 +63,14 @@ module _ (cfg : Config) (h : configSound cfg ≡ true) where
   unfolding countOf maxOf entryOf placesOf runnableConfIn
   runnable-blank r l = go (decLt r 16)
     where
-      flags : (x : RunnableConf) → x .component ≡ 0 → bit (x .concurrent) + 2 * bit (x .init) ≡ 0 → x .capacity ≡ 0 → x .interval ≡ 0 → x ≡ noRunnableConf
-      flags x a b c d = off (x .concurrent) (x .init) refl refl b
+      flags : (x : RunnableConf) → x .component ≡ 0 → flagsOf x ≡ 0 → x .capacity ≡ 0 → x .interval ≡ 0 → x ≡ noRunnableConf
+      flags x a b c d = off (x .concurrent) (x .init) (x .counting) refl refl refl b
         where
-          off : (p q : Bool) → x .concurrent ≡ p → x .init ≡ q → bit p + 2 * bit q ≡ 0 → x ≡ noRunnableConf
-          off false false e g z = λ i. record { component = a i; concurrent = e i; init = g i; interval = d i; capacity = c i }
-          off false true e g z = absurd (omega (arith, z))
-          off true q e g z = absurd (omega (arith, z))
+          off : (p q k : Bool) → x .concurrent ≡ p → x .init ≡ q → x .counting ≡ k → bit p + 2 * bit q + 4 * bit k ≡ 0 → x ≡ noRunnableConf
+          off false false false e g h z = λ i. record { component = a i; concurrent = e i; init = g i; counting = h i; interval = d i; capacity = c i }
+          off false false true e g h z = absurd (omega (arith, z))
+          off false true k e g h z = absurd (omega (arith, z))
+          off true q k e g h z = absurd (omega (arith, z))
 
       go : Dec (r < 16) → runnableConfIn (cfg .runnables) r ≡ noRunnableConf
       go (yes b) = let z = unused 0 (omega arith) r b l in flags (runnableConfIn (cfg .runnables) r) (z .first) (z .second) (z .third) (z .number)
@@ -82,7 +83,7 @@ module _ (cfg : Config) (h : configSound cfg ≡ true) where
       go : Dec (r < cfg .runnables .n) → runnableConfIn (cfg .runnables) r .capacity ≤ 16
       go (yes b) =
           let w = runnable-well r b .range in
-          leb-true _ 16 (both-right (leb (runnableConfIn (cfg .runnables) r .interval) 3600000) _ (both-right (leb (bit (runnableConfIn (cfg .runnables) r .concurrent) + 2 * bit (runnableConfIn (cfg .runnables) r .init)) 3) _ (both-right (leb (runnableConfIn (cfg .runnables) r .component) 15) _ w)))
+          leb-true _ 16 (both-right (leb (runnableConfIn (cfg .runnables) r .interval) 3600000) _ (both-right (leb (flagsOf (runnableConfIn (cfg .runnables) r)) 7) _ (both-right (leb (runnableConfIn (cfg .runnables) r .component) 15) _ w)))
       go (no b) = omega (arith, ap (λ (x : RunnableConf). x .capacity) (runnable-blank r (omega (arith, b))))
 
   -- a server, and a runnable with the init flag, are there
@@ -107,7 +108,7 @@ module _ (cfg : Config) (h : configSound cfg ≡ true) where
   init-plain r s =
       let w = runnable-well r (init-there r s) .pairs in
       let c = runnableConfIn (cfg .runnables) r in
-      let two : leb (bit (c .concurrent) + 2 * bit (c .init)) 1 ≡ false = rw s (lt-leb (bit (c .concurrent) + 2) 1 (omega arith)) in
+      let two : leb (flagsOf c) 1 ≡ false = rw s (lt-leb (bit (c .concurrent) + 2 + 4 * bit (c .counting)) 1 (omega arith)) in
       let z : c .capacity ≡ 0 = eqb-true _ 0 (either-right _ _ w two) in
       rw z
 

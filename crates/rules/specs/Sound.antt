@@ -12,7 +12,7 @@ use Rattle.laws.specs.Row.{filled}
 use Rattle.values.specs.Values.{voidV, timeoutV, serverErrV, neverReceivedV, invalidV, isVoid, isPayload}
 use Rattle.faces.specs.Types.{Value, Config, Client, Requests, Runnable, Runnables, Variable, Variables, Areas, Element, Elements, Operation, Operations, Timer, Timers, Life, Owed, Stack, Slot, Slots, State}
 use Rattle.config.specs.Editions.{marksInvalid}
-use Rattle.config.specs.Tables.{maxRunnableConfs, maxVariableConfs, maxAreaConfs, maxRequiredConfs, maxOperationConfs, maxTimerConfs, runnableConfIn, areaConfIn, requiredConfIn, operationConfIn, timerConfIn}
+use Rattle.config.specs.Tables.{maxRunnableConfs, maxVariableConfs, maxAreaConfs, maxRequiredConfs, maxOperationConfs, maxTimerConfs, runnableConfIn, areaConfIn, requiredConfIn, operationConfIn, timerConfIn, topOf}
 use Rattle.entries.specs.Faults.{isServer, configSound}
 use Rattle.state.specs.Parts.{lastNumber, noClient, maxRequests, maxValues}
 use Rattle.state.specs.Tables.{maxSlots, runnableIn, variableIn, areaIn, elementIn, operationIn, timerIn, slotIn}
@@ -44,13 +44,17 @@ valuesSound capacity n l = both (leb n capacity) (filled isPayload isVoid voidV 
 
 -- ---- one part at a time
 
--- a runnable: its interval is at most the configured one, it has at most one instance without the concurrent flag, only a plain runnable that is there is pending, and its requests are sound ("A sound state", counts and unused places)
+-- the most activations that the runnable r may have pending: its top, and none for a server or for one that isn't there ("A sound state", counts and unused places; W-212)
+unfoldable pub mostPending : Config → ℕ → ℕ
+mostPending cfg r = pick (both (ltb r (cfg .runnables .n)) (not (isServer cfg r))) (topOf (runnableConfIn (cfg .runnables) r)) 0
+
+-- a runnable: its interval is at most the configured one, it has at most one instance without the concurrent flag, no more activations are pending than may be, and its requests are sound ("A sound state", counts and unused places; W-212)
 unfoldable pub runnableSound : Config → ℕ → Runnable → Bool
 runnableSound cfg r x =
     allOf
     (leb (x .interval) (runnableConfIn (cfg .runnables) r .interval)
     ∷ either (runnableConfIn (cfg .runnables) r .concurrent) (leb (x .instances) 1)
-    ∷ either (not (x .pending)) (both (ltb r (cfg .runnables .n)) (not (isServer cfg r)))
+    ∷ leb (x .pending) (mostPending cfg r)
     ∷ requestsSound cfg r (x .requests)
     ∷ [])
 

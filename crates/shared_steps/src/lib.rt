@@ -3,7 +3,8 @@ ghost use mathlib.Core.Path.{_≡_};
 ghost use Prim.Native.Nat.{_≤_};
 ghost use lib.Dec.{ltb};
 ghost use Rattle.laws.specs.Choice.{pick};
-ghost use Rattle.effects.specs.Steps.{refused, took, woken};
+ghost use Rattle.effects.specs.Steps.{refused, took, oneMore, woken};
+use config::RunnableConf;
 use state::Runnable;
 use state::State;
 use state::Stepped;
@@ -40,20 +41,30 @@ pub fn within(n: u8, top: u8) -> u8
     top
 }
 
-// A runnable becomes pending; pending is not counted.
-pub fn woken(x: Runnable) -> Runnable
-    ensures { λ r. ⌜ r ≡ woken x ⌝ }
+// One more, but never past the top.
+fn one_more(top: u8, n: u8) -> u8
+    ensures { λ r. ⌜ r ≡ oneMore top n ⌝ }
+{
+    if n < top {
+        return n + 1;
+    }
+    n
+}
+
+// A runnable has one more activation pending, up to its top.
+pub fn woken(c: RunnableConf, x: Runnable) -> Runnable
+    ensures { λ r. ⌜ r ≡ woken c x ⌝ }
 {
     let mut y = x;
-    y.pending = true;
+    y.pending = one_more(c.top(), x.pending);
     y
 }
 
-pub fn woken_if(b: bool, x: Runnable) -> Runnable
-    ensures { λ r. ⌜ r ≡ pick b (woken x) x ⌝ }
+pub fn woken_if(b: bool, c: RunnableConf, x: Runnable) -> Runnable
+    ensures { λ r. ⌜ r ≡ pick b (woken c x) x ⌝ }
 {
     if b {
-        return woken(x);
+        return woken(c, x);
     }
     x
 }

@@ -11,7 +11,7 @@ ghost use Rattle.values.specs.Values.{voidV, timeoutV, serverErrV, isVoid, isPa
 ghost use Rattle.config.specs.Tables.{maxAreaConfs, requiredConfIn};
 ghost use Rattle.entries.specs.Faults.{isServer};
 ghost use Rattle.state.specs.Parts.{noClient, maxRequests, maxValues};
-ghost use Rattle.rules.specs.Sound.{isNoClient, clientFits, requestsSound, valuesSound, runnableSound, variableSound, isStored, elementSound, isOutcome, callingSound, doneSound, operationSound, timerSound, waitsWell, lifeSound, owedSound, areaFits, isZero, stackSound, isNoSlot, slotSound, isClient, queuedAs, variablesSound, elementsSound, timersSound, soundOf};
+ghost use Rattle.rules.specs.Sound.{isNoClient, clientFits, requestsSound, valuesSound, mostPending, runnableSound, variableSound, isStored, elementSound, isOutcome, callingSound, doneSound, operationSound, timerSound, waitsWell, lifeSound, owedSound, areaFits, isZero, stackSound, isNoSlot, slotSound, isClient, queuedAs, variablesSound, elementsSound, timersSound, soundOf};
 ghost use Rattle.sound.specs.Only.{onlyVariables, onlyAreas, onlyRequired, onlyOperations, onlyTimers};
 ghost use Rattle.sound.specs.Tally.{counted, entered, heldBelow, noting, tallied, notedAt, notedAs};
 ghost use Rattle.sound.specs.Walk.{clientsWith, clientAlone, queueAlone, queueOf, notedAlone, runnableTallied, waiterTallied, operationTallied, areaTallied, runnablesTallied, operationsTallied, areasTallied, restTests, walkOf};
@@ -178,18 +178,18 @@ fn instances_fit(concurrent: bool, instances: u8) -> bool
     instances <= 1
 }
 
-// Only a plain runnable that is there is pending.
-fn pends_well(cfg: Config, r: u8, pending: bool) -> bool
-    ensures { λ b. ⌜ b ≡ either (not pending) (both (ltb r (cfg .runnables .n)) (not (isServer cfg r))) ⌝ }
+// Only a plain runnable that is there has activations pending, up to its top.
+fn most_pending(cfg: Config, r: u8) -> u8
+    ensures { λ n. ⌜ n ≡ mostPending cfg r ⌝ }
 {
-    if pending {
-        let t = cfg.runnables;
-        if r < t.n {
-            return !entries::is_server(cfg, r);
+    let t = cfg.runnables;
+    if r < t.n {
+        if !entries::is_server(cfg, r) {
+            let conf = t.get(r);
+            return conf.top();
         }
-        return false;
     }
-    true
+    0
 }
 
 fn runnable_sound(cfg: Config, r: u8, x: Runnable) -> bool
@@ -203,7 +203,7 @@ fn runnable_sound(cfg: Config, r: u8, x: Runnable) -> bool
     if !instances_fit(conf.concurrent, x.instances) {
         return false;
     }
-    if !pends_well(cfg, r, x.pending) {
+    if x.pending > most_pending(cfg, r) {
         return false;
     }
     let q = x.requests;

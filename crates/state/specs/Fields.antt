@@ -19,9 +19,9 @@ use Rattle.state.specs.declared.Slot.{Slot}
 abbrev pub withInterval : Runnable → ℕ → Runnable
 withInterval x n = record { interval = n; pending = x .pending; instances = x .instances; requests = x .requests }
 
--- whether it is pending (ours)
-abbrev pub withPending : Runnable → Bool → Runnable
-withPending x b = record { interval = x .interval; pending = b; instances = x .instances; requests = x .requests }
+-- how many activations it has pending (W-212)
+abbrev pub withPending : Runnable → ℕ → Runnable
+withPending x n = record { interval = x .interval; pending = n; instances = x .instances; requests = x .requests }
 
 -- how many instances it has (ours)
 abbrev pub withInstances : Runnable → ℕ → Runnable

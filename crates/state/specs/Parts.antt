@@ -33,7 +33,7 @@ noRequests = record { queued = 0; at = replicate maxRequests noClient }
 
 -- the blank runnable: idle, with no instance and no request ("A sound state", unused places)
 unfoldable pub noRunnable : Runnable
-noRunnable = record { interval = 0; pending = false; instances = 0; requests = noRequests }
+noRunnable = record { interval = 0; pending = 0; instances = 0; requests = noRequests }
 
 -- the blank variable holds Void ("A sound state", unused places)
 abbrev pub noVariable : Variable

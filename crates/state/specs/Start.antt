@@ -3,7 +3,7 @@
 use Prim.Native.Nat.{ℕ}
 use mathlib.Core.Bool.{false}
 use lib.Dec.{eqb}
-use Rattle.laws.specs.Choice.{pick}
+use Rattle.laws.specs.Choice.{pick, bit}
 use Rattle.laws.specs.Row.{eachBelow}
 use Rattle.values.specs.Values.{numberV, neverReceivedV}
 use Rattle.config.specs.Tables.{runnableConfIn, variableConfIn, requiredConfIn}
@@ -24,9 +24,9 @@ use Rattle.state.specs.declared.Element.{Element}
 use Rattle.state.specs.declared.Elements.{Elements}
 use Rattle.state.specs.declared.State.{State}
 
--- a runnable starts pending under the init flag, else idle; a server's queue is empty ("The parts, and how many", start state)
+-- a runnable starts with one activation pending under the init flag, else idle; a server's queue is empty ("The parts, and how many", start state; W-212)
 abbrev pub startRunnable : RunnableConf → Runnable
-startRunnable c = record { interval = 0; pending = c .init; instances = 0; requests = noRequests }
+startRunnable c = record { interval = 0; pending = bit (c .init); instances = 0; requests = noRequests }
 
 -- a variable starts at its initial Number, or Void ("The parts, and how many", start state)
 unfoldable pub startVariable : VariableConf → Variable

@@ -98,10 +98,10 @@ impl Requests {
     }
 }
 
-// The state of a runnable: what is left of its start interval, whether it is pending, how many instances it has, and its requests.
+// The state of a runnable: what is left of its start interval, how many activations are pending, how many instances it has, and its requests.
 pub struct Runnable {
     pub interval: u32,
-    pub pending: bool,
+    pub pending: u8,
     pub instances: u8,
     pub requests: Requests,
 }
@@ -109,7 +109,7 @@ pub struct Runnable {
 impl Runnable {
     pub const BLANK: Runnable = Runnable {
         interval: 0,
-        pending: false,
+        pending: 0,
         instances: 0,
         requests: Requests::BLANK,
     };
@@ -587,7 +587,7 @@ fn start_runnable(c: RunnableConf) -> Runnable
 {
     Runnable {
         interval: 0,
-        pending: c.init,
+        pending: config::bit(c.init),
         instances: 0,
         requests: Requests::BLANK,
     }

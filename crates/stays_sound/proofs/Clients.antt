@@ -1,7 +1,7 @@
 -- Clients after every step: a pair of operation and number belongs to one at most, and an open call has its one client: a call starts only under a number that
 -- nobody bears. What a sound state tells of a queue, an open call and an empty slot, and then step by step, by the tallies.
 -- Assumes nothing.
-use Prim.Native.Nat.{ℕ, _+_, _≤_, _<_}
+use Prim.Native.Nat.{ℕ, _+_, _-_, _≤_, _<_}
 use mathlib.Core.Bool.{Bool, true, false}
 use mathlib.Core.Path.{_≡_, refl, sym, _∙_, ap}
 use native.Mathlib.Decide.{ℕ-discrete}
@@ -62,7 +62,7 @@ exit-keeps-clients cfg st i a s z = clients-slot (st .operations) (st .runnables
 pub feed-keeps-clients : (cfg : Config) (st : State) (i p : ℕ) (v : Value) → Sound cfg st → CanFeed cfg st i p v → ClientsIn (fed cfg st p v)
 unfolding fed
 feed-keeps-clients cfg st i p v s z =
-    clients-runnables (st .operations) (st .runnables) _ (st .slots) (fed-kept (λ x. x .requests) (λ x. refl) cfg (st .elements) p (st .runnables)) (s .clients)
+    clients-runnables (st .operations) (st .runnables) _ (st .slots) (fed-kept (λ x. x .requests) (λ c x. refl) cfg (st .elements) p (st .runnables)) (s .clients)
 
 pub call-keeps-clients : (cfg : Config) (st : State) (i o : ℕ) (v : Value) → Sound cfg st → CanCall cfg st i o v → ClientsIn (called cfg st i o v)
 unfolding called
@@ -131,7 +131,7 @@ closed-clients : (cfg : Config) (st : State) (o : ℕ) (v : Value) (ss : Slots) 
     → Clients (withOperation (st .operations) o (closing v (operationIn (st .operations) o))) (returnedRunnables cfg o (st .runnables)) ss
 unfolding closing
 closed-clients cfg st o v ss s e f g =
-    clients-runnables _ (st .runnables) _ ss (returned-kept (λ x. x .requests) (λ x. refl) cfg o (st .runnables))
+    clients-runnables _ (st .runnables) _ ss (returned-kept (λ x. x .requests) (λ c x. refl) cfg o (st .runnables))
     (tally-close (st .operations) (clientsAs (st .runnables) (st .slots)) _ (s .clients) o (closing v (operationIn (st .operations) o))
     (calling-inside (st .operations) o e) refl f g)
 
@@ -195,7 +195,7 @@ spawn-keeps-clients cfg st r s z = go (eqb (c .capacity) 0) refl
     go : (t : Bool) → eqb (c .capacity) 0 ≡ t
         → Clients (st .operations)
         (withRunnable (st .runnables) r
-        (pick t (withPending (begun c x) false)
+        (pick t (withPending (begun c x) (x .pending - 1))
         (withRequests (begun c x) (restRequests (x .requests)))))
         (withSlot (st .slots) k (pick t (fresh r noOwed) (fresh r w)))
     go true e =

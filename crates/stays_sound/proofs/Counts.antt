@@ -71,7 +71,7 @@ exit-keeps-counts cfg st i a s z = counted-slot (st .runnables) (st .slots) i (e
 pub feed-keeps-counts : (cfg : Config) (st : State) (i p : ℕ) (v : Value) → Sound cfg st → CanFeed cfg st i p v → CountedIn (fed cfg st p v)
 unfolding fed
 feed-keeps-counts cfg st i p v s z =
-    counted-runnables (st .runnables) _ (st .slots) (fed-kept (λ x. x .instances) (λ x. refl) cfg (st .elements) p (st .runnables)) (s .counts)
+    counted-runnables (st .runnables) _ (st .slots) (fed-kept (λ x. x .instances) (λ c x. refl) cfg (st .elements) p (st .runnables)) (s .counts)
 
 pub call-keeps-counts : (cfg : Config) (st : State) (i o : ℕ) (v : Value) → Sound cfg st → CanCall cfg st i o v → CountedIn (called cfg st i o v)
 unfolding called
@@ -95,7 +95,7 @@ late-keeps-counts cfg st i v s z = counted-slot (st .runnables) (st .slots) i (f
 pub answer-keeps-counts : (cfg : Config) (st : State) (i : ℕ) (v : Value) → Sound cfg st → CanHandBack cfg st i v → CountedIn (answered cfg st i (handedBack st i v))
 unfolding closed
 answer-keeps-counts cfg st i v s z =
-    counted-runnables (st .runnables) _ _ (returned-kept (λ x. x .instances) (λ x. refl) cfg (slotIn (st .slots) i .owed .client .operation) (st .runnables))
+    counted-runnables (st .runnables) _ _ (returned-kept (λ x. x .instances) (λ c x. refl) cfg (slotIn (st .slots) i .owed .client .operation) (st .runnables))
     (late-keeps-counts cfg st i v s z)
 
 pub end-keeps-counts : (cfg : Config) (st : State) (i : ℕ) → Sound cfg st → CanEnd st i → CountedIn (emptied st i)
@@ -147,7 +147,7 @@ spawn-keeps-counts cfg st r s z =
 pub timeout-keeps-counts : (cfg : Config) (st : State) (o : ℕ) → Sound cfg st → CanTimeout cfg st o → CountedIn (closed cfg st o timeoutV)
 unfolding closed
 timeout-keeps-counts cfg st o s z =
-    counted-runnables (st .runnables) _ (st .slots) (returned-kept (λ x. x .instances) (λ x. refl) cfg o (st .runnables)) (s .counts)
+    counted-runnables (st .runnables) _ (st .slots) (returned-kept (λ x. x .instances) (λ c x. refl) cfg o (st .runnables)) (s .counts)
 
 pub tick-keeps-counts : (cfg : Config) (st : State) (t : ℕ) → Sound cfg st → CanTick cfg st t → CountedIn (ticked cfg st t)
 tick-keeps-counts cfg st t s z =

@@ -11,8 +11,8 @@ use Rattle.laws.specs.Row.{eachBelow}
 use Rattle.laws.proofs.Choosing.{clash, pick-has}
 use Rattle.laws.proofs.Looping.{first-is}
 use Rattle.laws.proofs.Places.{inside-of, put-each, each-has}
-use Rattle.faces.specs.Types.{Config, Runnable, Runnables, Elements, Operation, Operations, Slot, Slots, State}
-use Rattle.config.specs.Tables.{operationConfIn}
+use Rattle.faces.specs.Types.{Config, RunnableConf, Runnable, Runnables, Elements, Operation, Operations, Slot, Slots, State}
+use Rattle.config.specs.Tables.{runnableConfIn, operationConfIn}
 use Rattle.state.specs.Parts.{noRunnable, noOperation, noSlot}
 use Rattle.state.specs.Fields.{withCount}
 use Rattle.state.specs.Tables.{maxSlots, runnableIn, operationIn, slotIn, withRunnable, withSlot}
@@ -39,13 +39,13 @@ module _ {B : Type 0} where
   runnables-kept g f n rs e j = each-has f noRunnable (λ k y. g y ≡ g (getD (rs .at) k noRunnable)) n (rs .at) j (λ l. e j (getD (rs .at) j noRunnable)) refl
 
   -- runnables woken keep all but that
-  pub fed-kept : (g : Runnable → B) → ((x : Runnable) → g (woken x) ≡ g x) → (cfg : Config) (t : Elements) (p : ℕ) (rs : Runnables) (j : ℕ) → g (runnableIn (fedRunnables cfg t p rs) j) ≡ g (runnableIn rs j)
+  pub fed-kept : (g : Runnable → B) → ((c : RunnableConf) (x : Runnable) → g (woken c x) ≡ g x) → (cfg : Config) (t : Elements) (p : ℕ) (rs : Runnables) (j : ℕ) → g (runnableIn (fedRunnables cfg t p rs) j) ≡ g (runnableIn rs j)
   unfolding fedRunnables
-  fed-kept g w cfg t p rs j = runnables-kept g (λ (r : ℕ) (x : Runnable). pick (isFed cfg t p r) (woken x) x) (cfg .runnables .n) rs (λ r x. pick-has (λ y. g y ≡ g x) (isFed cfg t p r) (woken x) x (λ e. w x) (λ e. refl)) j
+  fed-kept g w cfg t p rs j = runnables-kept g (λ (r : ℕ) (x : Runnable). pick (isFed cfg t p r) (woken (runnableConfIn (cfg .runnables) r) x) x) (cfg .runnables .n) rs (λ r x. pick-has (λ y. g y ≡ g x) (isFed cfg t p r) (woken (runnableConfIn (cfg .runnables) r) x) x (λ e. w (runnableConfIn (cfg .runnables) r) x) (λ e. refl)) j
 
-  pub returned-kept : (g : Runnable → B) → ((x : Runnable) → g (woken x) ≡ g x) → (cfg : Config) (o : ℕ) (rs : Runnables) (j : ℕ) → g (runnableIn (returnedRunnables cfg o rs) j) ≡ g (runnableIn rs j)
+  pub returned-kept : (g : Runnable → B) → ((c : RunnableConf) (x : Runnable) → g (woken c x) ≡ g x) → (cfg : Config) (o : ℕ) (rs : Runnables) (j : ℕ) → g (runnableIn (returnedRunnables cfg o rs) j) ≡ g (runnableIn rs j)
   unfolding returnedRunnables
-  returned-kept g w cfg o rs j = runnables-kept g (λ (r : ℕ) (x : Runnable). pick (isReturned cfg o r) (woken x) x) (cfg .runnables .n) rs (λ r x. pick-has (λ y. g y ≡ g x) (isReturned cfg o r) (woken x) x (λ e. w x) (λ e. refl)) j
+  returned-kept g w cfg o rs j = runnables-kept g (λ (r : ℕ) (x : Runnable). pick (isReturned cfg o r) (woken (runnableConfIn (cfg .runnables) r) x) x) (cfg .runnables .n) rs (λ r x. pick-has (λ y. g y ≡ g x) (isReturned cfg o r) (woken (runnableConfIn (cfg .runnables) r) x) x (λ e. w (runnableConfIn (cfg .runnables) r) x) (λ e. refl)) j
 
   -- time leaves all but the counts
   pub after-kept : (g : Runnable → B) (t : ℕ) → ((x : Runnable) → g (runnableAfter t x) ≡ g x) → (cfg : Config) (rs : Runnables) (j : ℕ) → g (runnableIn (runnablesAfter cfg rs t) j) ≡ g (runnableIn rs j)

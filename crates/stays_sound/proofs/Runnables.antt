@@ -1,28 +1,29 @@
--- Every runnable stays sound: its interval, its count without the concurrent flag, who may be pending, and its queue of requests.
+-- Every runnable stays sound: its interval, its count without the concurrent flag, how many activations are pending, and its queue of requests.
 -- Assumes nothing.
 use Prim.Native.Nat.{ℕ, _+_, _-_, _≤_, _<_}
-use mathlib.Core.Bool.{Bool, true, false, not}
+use mathlib.Core.Bool.{Bool, true, false}
 use mathlib.Core.Path.{_≡_, refl, sym, _∙_, ap}
 use native.Mathlib.Nat.{mod-eq-of-lt}
 use native.Mathlib.Omega.{arith}
-use lib.Dec.{ltb, leb, eqb}
+use lib.Dec.{leb, eqb}
 use lib.ListN.{getD}
 use borrow.Author.Tests.{ltb-true, leb-true, eqb-true, lt-ltb, le-leb, eq-eqb}
-use Rattle.laws.specs.Choice.{pick, both, either}
+use Rattle.laws.specs.Choice.{pick, either}
 use Rattle.laws.specs.Row.{eachBelow, filled}
 use Rattle.laws.proofs.Choosing.{clash, both-left, both-right, both-make, all-told, all-made, pick-has}
 use Rattle.laws.proofs.Looping.{all-at, any-find}
 use Rattle.laws.proofs.Places.{all-put, all-each, filled-good, filled-push, filled-shift}
 use Rattle.values.specs.Values.{timeoutV, isVoid}
 use Rattle.faces.specs.Types.{Value, Config, RunnableConf, Client, Requests, Runnable, Runnables, Elements, State}
-use Rattle.config.specs.Tables.{maxRunnableConfs, runnableConfIn, operationConfIn, timerConfIn, dataEventIn, returnEventIn}
+use Rattle.config.specs.Tables.{maxRunnableConfs, runnableConfIn, operationConfIn, timerConfIn, dataEventIn, returnEventIn, topOf}
 use Rattle.entries.specs.Faults.{isServer, configSound}
 use Rattle.state.specs.Parts.{noClient, noRunnable, maxRequests}
 use Rattle.state.specs.Queues.{upOne, pushRequest, firstRequest, restRequests}
 use Rattle.state.specs.Fields.{withPending, withRequests}
 use Rattle.state.specs.Tables.{runnableIn, operationIn, slotIn, withRunnable}
-use Rattle.rules.specs.Sound.{isNoClient, clientFits, requestsSound, runnableSound, runnablesSound}
-use Rattle.effects.specs.Steps.{woken, feeds, isFed, fedRunnables, fed, asking, called, returns, isReturned, returnedRunnables, closed, handedBack, answered, leaving, emptied, isDue, begun, starting, lowestEmpty, spawned, ticked, runnableAfter, runnablesAfter, waited}
+use Rattle.rules.specs.Sound.{isNoClient, clientFits, requestsSound, mostPending, runnableSound, runnablesSound}
+use Rattle.effects.specs.Steps.{oneMore, woken, feeds, isFed, fedRunnables, fed, asking, called, returns, isReturned, returnedRunnables, closed, handedBack, answered, leaving, emptied, isDue, begun, starting, lowestEmpty, spawned, ticked, runnableAfter, runnablesAfter, waited}
+use Rattle.effects.proofs.Pending.{more-fits}
 use Rattle.stays_sound.specs.Facts.{Sound, CanFeed, CanCall, CanHandBack, CanEnd, CanSpawn, CanTimeout, CanTick, CanWait}
 use Rattle.stays_sound.proofs.Instances.{instance-at, life-there}
 use Rattle.rules.proofs.Configured.{runnables-most, capacity-most, operation-there, timer-there, timer-plain, devent-plain, revent-plain}
@@ -69,7 +70,7 @@ module _ (cfg : Config) (r : ℕ) (q : Requests) (h : requestsSound cfg r q ≡ 
 pub record Sits (cfg : Config) (r : ℕ) (x : Runnable) : Type 0 where
   pub interval : leb (x .interval) (runnableConfIn (cfg .runnables) r .interval) ≡ true
   pub alone : either (runnableConfIn (cfg .runnables) r .concurrent) (leb (x .instances) 1) ≡ true
-  pub pending : either (not (x .pending)) (both (ltb r (cfg .runnables .n)) (not (isServer cfg r))) ≡ true
+  pub pending : leb (x .pending) (mostPending cfg r) ≡ true
   pub requests : requestsSound cfg r (x .requests) ≡ true
 
 pub sits-told : (cfg : Config) (r : ℕ) (x : Runnable) → runnableSound cfg r x ≡ true → Sits cfg r x
@@ -80,11 +81,20 @@ pub sits-made : (cfg : Config) (r : ℕ) (x : Runnable) → Sits cfg r x → run
 unfolding runnableSound
 sits-made cfg r x h = all-made _ (h .interval, (h .alone, (h .pending, (h .requests, tt))))
 
--- a plain runnable that is there may be pending
-woken-sound : (cfg : Config) (r : ℕ) (x : Runnable) → r < cfg .runnables .n → isServer cfg r ≡ false → runnableSound cfg r x ≡ true → runnableSound cfg r (woken x) ≡ true
+-- a plain runnable that is there has activations pending up to its top
+pub most-plain : (cfg : Config) (r : ℕ) → r < cfg .runnables .n → isServer cfg r ≡ false → mostPending cfg r ≡ topOf (runnableConfIn (cfg .runnables) r)
+unfolding mostPending
+most-plain cfg r b p = rw (lt-ltb r (cfg .runnables .n) b, p)
+
+-- one more of them keeps to that
+woken-sound : (cfg : Config) (r : ℕ) (x : Runnable) → r < cfg .runnables .n → isServer cfg r ≡ false → runnableSound cfg r x ≡ true
+    → runnableSound cfg r (woken (runnableConfIn (cfg .runnables) r) x) ≡ true
 woken-sound cfg r x b p h =
     let t = sits-told cfg r x h in
-    sits-made cfg r (woken x) (record { interval = t .interval; alone = t .alone; pending = both-make _ _ (lt-ltb r (cfg .runnables .n) b) (ap not p); requests = t .requests })
+    let c = runnableConfIn (cfg .runnables) r in
+    let m = most-plain cfg r b p in
+    let f = more-fits (topOf c) (x .pending) (leb-true (x .pending) (topOf c) (rw m at (t .pending))) in
+    sits-made cfg r (woken c x) (record { interval = t .interval; alone = t .alone; pending = rw m (le-leb (oneMore (topOf c) (x .pending)) (topOf c) f); requests = t .requests })
 
 -- ---- the table
 
@@ -123,15 +133,15 @@ module _ (cfg : Config) (h : configSound cfg ≡ true) where
   pub fed-sound : (t : Elements) (p : ℕ) (rs : Runnables) → runnablesSound cfg rs ≡ true → runnablesSound cfg (fedRunnables cfg t p rs) ≡ true
   unfolding fedRunnables
   fed-sound t p rs g =
-      runnables-each cfg (λ (r : ℕ) (x : Runnable). pick (isFed cfg t p r) (woken x) x) rs
-      (λ r x b q. pick-has (λ y. runnableSound cfg r y ≡ true) (isFed cfg t p r) (woken x) x (λ e. woken-sound cfg r x b (fed-plain t p r e) q) (λ e. q)) g
+      runnables-each cfg (λ (r : ℕ) (x : Runnable). pick (isFed cfg t p r) (woken (runnableConfIn (cfg .runnables) r) x) x) rs
+      (λ r x b q. pick-has (λ y. runnableSound cfg r y ≡ true) (isFed cfg t p r) (woken (runnableConfIn (cfg .runnables) r) x) x (λ e. woken-sound cfg r x b (fed-plain t p r e) q) (λ e. q)) g
 
   -- return events
   pub returned-sound : (o : ℕ) (rs : Runnables) → runnablesSound cfg rs ≡ true → runnablesSound cfg (returnedRunnables cfg o rs) ≡ true
   unfolding returnedRunnables
   returned-sound o rs g =
-      runnables-each cfg (λ (r : ℕ) (x : Runnable). pick (isReturned cfg o r) (woken x) x) rs
-      (λ r x b q. pick-has (λ y. runnableSound cfg r y ≡ true) (isReturned cfg o r) (woken x) x (λ e. woken-sound cfg r x b (returned-plain o r e) q) (λ e. q)) g
+      runnables-each cfg (λ (r : ℕ) (x : Runnable). pick (isReturned cfg o r) (woken (runnableConfIn (cfg .runnables) r) x) x) rs
+      (λ r x b q. pick-has (λ y. runnableSound cfg r y ≡ true) (isReturned cfg o r) (woken (runnableConfIn (cfg .runnables) r) x) x (λ e. woken-sound cfg r x b (returned-plain o r e) q) (λ e. q)) g
 
 -- ---- step by step
 
@@ -201,16 +211,19 @@ module _ (cfg : Config) (st : State) where
       alone : either (c .concurrent) (leb (upOne (x .instances)) 1) ≡ true
       alone = more (c .concurrent) (x .instances) (z .alone)
 
+      fewer : leb (x .pending - 1) (mostPending cfg r) ≡ true
+      fewer = le-leb (x .pending - 1) (mostPending cfg r) (omega (arith, leb-true (x .pending) (mostPending cfg r) (t .pending)))
+
       due : eqb (c .capacity) 0 ≡ false → 0 < x .requests .queued
       due e = ltb-true 0 _ (rw e at (z .due))
 
       go : (b : Bool) → eqb (c .capacity) 0 ≡ b
           → runnablesSound cfg (withRunnable (st .runnables) r
-          (pick b (withPending (begun c x) false)
+          (pick b (withPending (begun c x) (x .pending - 1))
           (withRequests (begun c x) (restRequests (x .requests))))) ≡ true
       go true e =
           runnables-put cfg (st .runnables) r _ (s .runnables)
-          (sits-made cfg r _ (record { interval = le-leb (c .interval) (c .interval) (omega arith); alone = alone; pending = refl; requests = t .requests }))
+          (sits-made cfg r _ (record { interval = le-leb (c .interval) (c .interval) (omega arith); alone = alone; pending = fewer; requests = t .requests }))
       go false e =
           runnables-put cfg (st .runnables) r _ (s .runnables)
           (sits-made cfg r _ (record { interval = le-leb (c .interval) (c .interval) (omega arith); alone = alone; pending = t .pending; requests = rest-sound cfg r (x .requests) (t .requests) (s .config) (due e) }))
@@ -219,7 +232,7 @@ module _ (cfg : Config) (st : State) where
   tick-keeps-runnables t s z =
       let r = timerConfIn (cfg .timers) t .runnable in
       let b = timer-there cfg (s .config) t (z .inside) in
-      runnables-put cfg (st .runnables) r (woken (runnableIn (st .runnables) r)) (s .runnables)
+      runnables-put cfg (st .runnables) r (woken (runnableConfIn (cfg .runnables) r) (runnableIn (st .runnables) r)) (s .runnables)
       (woken-sound cfg r (runnableIn (st .runnables) r) b (timer-plain cfg (s .config) t (z .inside)) (runnable-at cfg (st .runnables) (s .runnables) r (omega (arith, runnables-most cfg (s .config)))))
 
   pub wait-keeps-runnables : (t : ℕ) → Sound cfg st → CanWait cfg st t → runnablesSound cfg (waited cfg st t .runnables) ≡ true

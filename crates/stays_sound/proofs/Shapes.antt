@@ -8,7 +8,7 @@ use Rattle.laws.specs.Choice.{pick}
 use Rattle.laws.proofs.Places.{each-length}
 use Rattle.values.specs.Values.{invalidV, timeoutV}
 use Rattle.faces.specs.Types.{Value, Config, Runnable, Runnables, Variable, Variables, Area, Areas, Element, Elements, Operation, Operations, Timer, Timers, Slot, Slots, State}
-use Rattle.config.specs.Tables.{operationConfIn, timerConfIn}
+use Rattle.config.specs.Tables.{runnableConfIn, operationConfIn, timerConfIn}
 use Rattle.state.specs.Parts.{noSlot, noRunnable, noElement, noOperation, noTimer}
 use Rattle.state.specs.Tables.{runnableIn, elementIn, operationIn, slotIn, withRunnables, withVariables, withAreas, withElements, withOperations, withTimers, withSlots, withRunnable, withVariable, withArea, withElement, withOperation, withTimer, withSlot}
 use Rattle.rules.specs.Sound.{shaped}
@@ -53,11 +53,11 @@ module _ (cfg : Config) where
 
   pub fed-runnables-length : (t : Elements) (p : ℕ) (rs : Runnables) → length (fedRunnables cfg t p rs .at) ≡ length (rs .at)
   unfolding fedRunnables
-  fed-runnables-length t p rs = each-length (λ (r : ℕ) (x : Runnable). pick (isFed cfg t p r) (woken x) x) noRunnable (cfg .runnables .n) (rs .at)
+  fed-runnables-length t p rs = each-length (λ (r : ℕ) (x : Runnable). pick (isFed cfg t p r) (woken (runnableConfIn (cfg .runnables) r) x) x) noRunnable (cfg .runnables .n) (rs .at)
 
   pub returned-length : (o : ℕ) (rs : Runnables) → length (returnedRunnables cfg o rs .at) ≡ length (rs .at)
   unfolding returnedRunnables
-  returned-length o rs = each-length (λ (r : ℕ) (x : Runnable). pick (isReturned cfg o r) (woken x) x) noRunnable (cfg .runnables .n) (rs .at)
+  returned-length o rs = each-length (λ (r : ℕ) (x : Runnable). pick (isReturned cfg o r) (woken (runnableConfIn (cfg .runnables) r) x) x) noRunnable (cfg .runnables .n) (rs .at)
 
   pub runnables-after-length : (rs : Runnables) (t : ℕ) → length (runnablesAfter cfg rs t .at) ≡ length (rs .at)
   unfolding runnablesAfter

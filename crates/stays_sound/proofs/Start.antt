@@ -1,13 +1,13 @@
 -- The start state of a sound configuration is sound.
 -- Assumes nothing.
 use Prim.Native.Nat.{ℕ, _<_}
-use mathlib.Core.Bool.{Bool, true, false, not}
+use mathlib.Core.Bool.{Bool, true, false}
 use mathlib.Core.Path.{_≡_, refl, sym, _∙_, ap}
 use native.Mathlib.Omega.{arith}
-use lib.Dec.{ltb, eqb}
+use lib.Dec.{ltb, leb, eqb}
 use lib.ListN.{getD, replicate, getD-replicate}
 use borrow.Author.Tests.{lt-ltb, le-leb}
-use Rattle.laws.specs.Choice.{pick, both, either, bit}
+use Rattle.laws.specs.Choice.{pick, both, bit}
 use Rattle.laws.specs.Loop.{allBelow}
 use Rattle.laws.specs.Row.{placeFilled, filled}
 use Rattle.laws.proofs.Choosing.{clash, both-make, either-more, pick-has}
@@ -15,16 +15,17 @@ use Rattle.laws.proofs.Looping.{all-of, sum-none, sum-zero}
 use Rattle.laws.proofs.Places.{each-length, each-has, all-each}
 use Rattle.values.specs.Values.{numberV, neverReceivedV, isVoid, isPayload}
 use Rattle.faces.specs.Types.{Config, Runnable, Variable, Element, Slot}
-use Rattle.config.specs.Tables.{maxRunnableConfs, maxVariableConfs, maxAreaConfs, maxRequiredConfs, maxOperationConfs, maxTimerConfs, runnableConfIn, variableConfIn, requiredConfIn, timerConfIn}
-use Rattle.entries.specs.Faults.{isServer, configSound}
+use Rattle.config.specs.Tables.{maxRunnableConfs, maxVariableConfs, maxAreaConfs, maxRequiredConfs, maxOperationConfs, maxTimerConfs, runnableConfIn, variableConfIn, requiredConfIn, timerConfIn, topOf}
+use Rattle.entries.specs.Faults.{configSound}
 use Rattle.state.specs.Parts.{noClient, noRequests, noRunnable, noVariable, noArea, noValues, noElement, noOperation, noTimer, noStack, noSlot, maxRequests}
 use Rattle.state.specs.Tables.{maxSlots, noRunnables, noVariables, noAreas, noElements, noOperations, noTimers, noSlots, runnableIn, variableIn, areaIn, elementIn, operationIn, timerIn, slotIn}
 use Rattle.state.specs.Start.{startRunnable, startVariable, startElement, startRunnables, startVariables, startElements, startOf}
-use Rattle.rules.specs.Sound.{isNoClient, requestsSound, valuesSound, runnableSound, variableSound, isStored, elementSound, isOutcome, doneSound, operationSound, timerSound, slotSound, ofRunnable, slotsOf, timesIn, holders, isClient, queuedAs, servedAs, clientsAs, waitsOn, waitersOf, runnablesSound, variablesSound, elementsSound, operationsSound, timersSound, slotsSound, shaped, soundOf}
+use Rattle.rules.specs.Sound.{isNoClient, requestsSound, valuesSound, mostPending, runnableSound, variableSound, isStored, elementSound, isOutcome, doneSound, operationSound, timerSound, slotSound, ofRunnable, slotsOf, timesIn, holders, isClient, queuedAs, servedAs, clientsAs, waitsOn, waitersOf, runnablesSound, variablesSound, elementsSound, operationsSound, timersSound, slotsSound, shaped, soundOf}
 use Rattle.stays_sound.specs.Facts.{Counted, Held, Clients, Waiters, Sound}
 use Rattle.rules.proofs.Configured.{init-there, init-plain}
+use Rattle.effects.proofs.Pending.{top-some}
 use Rattle.stays_sound.proofs.Told.{made, shape-made}
-use Rattle.stays_sound.proofs.Runnables.{sits-made}
+use Rattle.stays_sound.proofs.Runnables.{sits-made, most-plain}
 use Rattle.stays_sound.proofs.Slots.{blank-slot}
 
 -- a row of one part all along
@@ -47,7 +48,7 @@ module _ (cfg : Config) (h : configSound cfg ≡ true) where
   unfolding noRunnable
   idle-sound r =
       sits-made cfg r _
-      (record { interval = le-leb 0 (runnableConfIn (cfg .runnables) r .interval) (omega arith); alone = either-more (runnableConfIn (cfg .runnables) r .concurrent) true refl; pending = refl; requests = no-requests-sound r })
+      (record { interval = le-leb 0 (runnableConfIn (cfg .runnables) r .interval) (omega arith); alone = either-more (runnableConfIn (cfg .runnables) r .concurrent) true refl; pending = le-leb 0 (mostPending cfg r) (omega arith); requests = no-requests-sound r })
 
   -- under the init flag a runnable is plain and there
   started-sound : (r : ℕ) → runnableSound cfg r (startRunnable (runnableConfIn (cfg .runnables) r)) ≡ true
@@ -55,9 +56,9 @@ module _ (cfg : Config) (h : configSound cfg ≡ true) where
       sits-made cfg r _
       (record { interval = le-leb 0 (runnableConfIn (cfg .runnables) r .interval) (omega arith); alone = either-more (runnableConfIn (cfg .runnables) r .concurrent) true refl; pending = pends (runnableConfIn (cfg .runnables) r .init) refl; requests = no-requests-sound r })
     where
-      pends : (b : Bool) → runnableConfIn (cfg .runnables) r .init ≡ b → either (not b) (both (ltb r (cfg .runnables .n)) (not (isServer cfg r))) ≡ true
-      pends true e = both-make _ _ (lt-ltb r (cfg .runnables .n) (init-there cfg h r e)) (ap not (init-plain cfg h r e))
-      pends false e = refl
+      pends : (b : Bool) → runnableConfIn (cfg .runnables) r .init ≡ b → leb (bit b) (mostPending cfg r) ≡ true
+      pends true e = rw (most-plain cfg r (init-there cfg h r e) (init-plain cfg h r e)) (le-leb 1 (topOf (runnableConfIn (cfg .runnables) r)) (top-some (runnableConfIn (cfg .runnables) r)))
+      pends false e = le-leb 0 (mostPending cfg r) (omega arith)
 
   start-runnables : runnablesSound cfg (startRunnables (cfg .runnables)) ≡ true
   unfolding runnablesSound runnableIn startRunnables noRunnables

@@ -8,7 +8,7 @@
 ghost use Prim.Native.Nat.{_≤_, _<_};
 ghost use lib.ListN.{length};
 
-pub(crate) const FORMS: [u8; 1920] = *b"vaVoid
+pub(crate) const FORMS: [u8; 2212] = *b"vaVoid
 vbNumber
 vcOk
 vdLimit
@@ -24,6 +24,10 @@ e-edition %b0
 0brunnable #0 component %b0 capacity %b6 interval %n2 concurrent@0
 0crunnable #0 component %b0 capacity %b6 interval %n2 init@0
 0drunnable #0 component %b0 capacity %b6 interval %n2 concurrent init@0
+0erunnable #0 component %b0 capacity %b6 interval %n2 counting@0
+0frunnable #0 component %b0 capacity %b6 interval %n2 concurrent counting@0
+0grunnable #0 component %b0 capacity %b6 interval %n2 init counting@0
+0hrunnable #0 component %b0 capacity %b6 interval %n2 concurrent init counting@0
 0-runnable #0 component %b0 capacity %b6 interval %n2 flags %b1@0
 1avariable #1 component %b0@1
 1bvariable #1 component %b0 initial %n2@1

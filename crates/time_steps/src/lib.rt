@@ -24,12 +24,12 @@ use values::Value;
 
 // ---- 15: spawn
 
-// Pending, or for a server a request.
+// An activation is pending, or for a server a request.
 fn is_due(c: RunnableConf, x: Runnable) -> bool
     ensures { λ r. ⌜ r ≡ isDue c x ⌝ }
 {
     if c.capacity == 0 {
-        return x.pending;
+        return 0 < x.pending;
     }
     let q = x.requests;
     0 < q.queued
@@ -48,7 +48,7 @@ fn may_spawn(c: RunnableConf, x: Runnable) -> bool
     false
 }
 
-// The interval starts again, there is one instance more, and a plain runnable is idle, a server without its oldest request.
+// The interval starts again, there is one instance more, and a plain runnable has one activation less pending, a server not its oldest request.
 fn starting(c: RunnableConf, x: Runnable) -> Runnable
     ensures { λ r. ⌜ r ≡ starting c x ⌝ }
 {
@@ -56,7 +56,7 @@ fn starting(c: RunnableConf, x: Runnable) -> Runnable
     y.interval = c.interval;
     y.instances = state::up_one(x.instances);
     if c.capacity == 0 {
-        y.pending = false;
+        y.pending = state::down_one(x.pending);
         return y;
     }
     let q = x.requests;
@@ -143,20 +143,21 @@ pub fn spawn(cfg: Config, st: State, r: u8) -> Stepped
 
 // ---- 17: tick
 
-// At count 0: the count becomes the period, and the runnable pending.
+// At count 0: the count becomes the period, and the runnable is woken.
 pub fn tick(cfg: Config, st: State, t: u8) -> Stepped
     ensures { λ s. ⌜ s ≡ tickOf cfg st t ⌝ }
 {
     let timers = st.timers;
     let x = timers.get(t);
     if x.count == 0 {
-        let confs = cfg.timers;
-        let c = confs.get(t);
+        let timer_confs = cfg.timers;
+        let c = timer_confs.get(t);
         let r = c.runnable;
+        let confs = cfg.runnables;
         let runnables = st.runnables;
         let mut next = st;
         next.timers = timers.with(t, Timer { count: c.period });
-        next.runnables = runnables.with(r, shared_steps::woken(runnables.get(r)));
+        next.runnables = runnables.with(r, shared_steps::woken(confs.get(r), runnables.get(r)));
         return shared_steps::take(Value::VOID, next);
     }
     shared_steps::refuse(numbers::NOT_OVER, st)

@@ -6,7 +6,7 @@ use lib.Dec.{eqb}
 use lib.ListN.{length}
 use mathlib.Core.Path.{_∙_, _≡_}
 use native.Mathlib.Omega.{arith}
-use Rattle.config.specs.Tables.{returnEventIn}
+use Rattle.config.specs.Tables.{runnableConfIn, returnEventIn}
 use Rattle.laws.proofs.Places.{each-none, length-mapped}
 use Rattle.laws.specs.Choice.{both, pick}
 use Rattle.laws.specs.Loop.{anyBelow}
@@ -20,10 +20,12 @@ use Rattle.end_steps.proofs.returned_runnables.Statement.{statement}
 use Rattle.end_steps.proofs.returned_runnables.Tie as tie
 
 abbrev Inv-loop : tie.InvT-loop
-Inv-loop o n revents u₀ r₀ u r = (r ≤ n) × (u .at ≡ eachBelow (λ (j : ℕ) (x : Runnable). pick (anyBelow (λ (e : ℕ). both (eqb (returnEventIn revents e .runnable) j) (eqb (returnEventIn revents e .operation) o)) (revents .n)) (woken x) x) noRunnable r (u₀ .at))
+Inv-loop o confs n revents u₀ r₀ u r =
+    (r ≤ n)
+    × (u .at ≡ eachBelow (λ (j : ℕ) (x : Runnable). pick (anyBelow (λ (e : ℕ). both (eqb (returnEventIn revents e .runnable) j) (eqb (returnEventIn revents e .operation) o)) (revents .n)) (woken (runnableConfIn confs j) x) x) noRunnable r (u₀ .at))
 
 abbrev μ-loop : tie.MeasureT-loop
-μ-loop o n revents u₀ r₀ u r = n - r
+μ-loop o confs n revents u₀ r₀ u r = n - r
 
 loop-holds : tie.Need-loop-holds Inv-loop μ-loop
 loop-holds c = (search needs, rw each-none)
@@ -34,23 +36,30 @@ mul-x c = omega (arith, c .before .before .before .within .ensures .0)
 element-copy-out-x : tie.Need-element-copy-out-x Inv-loop μ-loop
 element-copy-out-x c = omega (arith, c .before .before .before .within .ensures .0)
 
+mul-c : tie.Need-mul-c Inv-loop μ-loop
+mul-c c = omega (arith, c .before .before .before .before .within .ensures .0)
+
+element-copy-out-c : tie.Need-element-copy-out-c Inv-loop μ-loop
+element-copy-out-c c = omega (arith, c .before .before .before .before .within .ensures .0)
+
 mul-y : tie.Need-mul-y Inv-loop μ-loop
-mul-y c = omega (arith, c .before .before .before .before .before .before .within .ensures .0)
+mul-y c = omega (arith, c .before .before .before .before .before .before .before .within .ensures .0)
 
 element-set-from-y : tie.Need-element-set-from-y Inv-loop μ-loop
-element-set-from-y c = omega (arith, c .before .before .before .before .before .before .within .ensures .0)
+element-set-from-y c = omega (arith, c .before .before .before .before .before .before .before .within .ensures .0)
 
 add-r : tie.Need-add-r Inv-loop μ-loop
-add-r c = omega (arith, c .before .before .before .before .before .before .within .ensures .0)
+add-r c = omega (arith, c .before .before .before .before .before .before .before .within .ensures .0)
 
 loop-less : tie.Need-loop-less Inv-loop μ-loop
 loop-less c = omega arith
 
 loop-again : tie.Need-loop-again Inv-loop μ-loop
+unfolding runnableConfIn
 loop-again c =
-    let a = c .before .before .before .before .before .before .before .before .args in
-    let e : length (a .rs .at) ≡ 16 = search (needs, length-mapped, c .before .before .before .before .before .before .before .before .good .1) in
-    (omega arith, rw (c .woken-if .ensures, c .before .is-returned .ensures) (each-put _ _ _ _ _ _ e (omega (arith, c .before .before .before .before .before .before .within .ensures .0)) (c .before .before .before .before .loop .inv .1)))
+    let a = c .before .before .before .before .before .before .before .before .before .args in
+    let e : length (a .rs .at) ≡ 16 = search (needs, length-mapped, c .before .before .before .before .before .before .before .before .before .good .1) in
+    (omega arith, rw (c .woken-if .ensures, c .before .is-returned .ensures) (each-put _ _ _ _ _ _ e (omega (arith, c .before .before .before .before .before .before .before .within .ensures .0)) (c .before .before .before .before .before .loop .inv .1)))
 
 returns : tie.Need-returns Inv-loop μ-loop
 unfolding returnedRunnables isReturned rules.returns
@@ -62,4 +71,4 @@ returns c =
 
 pub returned-runnables-spec : {M : Type 1} → statement M
 returned-runnables-spec =
-    tie.close (tie.spec Inv-loop μ-loop (λ c. search needs) (λ c κs. tt) loop-holds (λ c. search needs) mul-x element-copy-out-x (λ c κs. tt) (λ c κs. tt) mul-y element-set-from-y add-r loop-less loop-again returns)
+    tie.close (tie.spec Inv-loop μ-loop (λ c. search needs) (λ c κs. tt) loop-holds (λ c. search needs) mul-x element-copy-out-x mul-c element-copy-out-c (λ c κs. tt) (λ c κs. tt) mul-y element-set-from-y add-r loop-less loop-again returns)

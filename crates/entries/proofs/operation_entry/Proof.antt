@@ -4,7 +4,7 @@ use Rattle.entries.proofs.operation_entry.Statement.{statement}
 use Rattle.entries.proofs.operation_entry.Tie as tie
 
 returns : tie.Need-returns
-returns c = rw (c .bit-of .ensures)
+returns c = rw (c .bit .ensures)
 
 pub operation-entry-spec : {M : Type 1} → statement M
 operation-entry-spec =

@@ -4,7 +4,7 @@ use Rattle.entries.proofs.variable_entry.Statement.{statement}
 use Rattle.entries.proofs.variable_entry.Tie as tie
 
 returns : tie.Need-returns
-returns c = rw (c .bit-of .ensures)
+returns c = rw (c .bit .ensures)
 
 pub variable-entry-spec : {M : Type 1} → statement M
 variable-entry-spec =

@@ -17,11 +17,11 @@ returns-2 c = rw (← c .before .before .before .before .before .get .ensures, l
 
 returns-3 : tie.Need-returns-3
 unfolding runnableSound allOf
-returns-3 c = rw (← c .before .pends-well .ensures, ← c .before .before .before .before .before .before .before .get .ensures, le-leb _ _ (c .before .before .before .before .if1 .left), ← c .before .before .before .instances-fit .ensures, not-false (c .before .before .before .instances-fit .result) (c .before .before .if2 .left), not-true (c .before .pends-well .result) (c .if3 .taken))
+returns-3 c = rw (← c .before .before .most-pending .ensures, ← c .before .before .before .before .before .before .before .before .get .ensures, le-leb _ _ (c .before .before .before .before .before .if1 .left), ← c .before .before .before .before .instances-fit .ensures, not-false (c .before .before .before .before .instances-fit .result) (c .before .before .before .if2 .left), lt-leb _ _ (c .if3 .taken))
 
 returns-4 : tie.Need-returns-4
 unfolding runnableSound allOf
-returns-4 c = rw (← c .requests-sound .ensures, ← c .before .before .before .pends-well .ensures, ← c .before .before .before .before .before .before .before .before .before .get .ensures, le-leb _ _ (c .before .before .before .before .before .before .if1 .left), ← c .before .before .before .before .before .instances-fit .ensures, not-false (c .before .before .before .before .before .instances-fit .result) (c .before .before .before .before .if2 .left), not-false (c .before .before .before .pends-well .result) (c .before .before .if3 .left)) (both-true _)
+returns-4 c = rw (← c .requests-sound .ensures, ← c .before .before .before .before .most-pending .ensures, ← c .before .before .before .before .before .before .before .before .before .before .get .ensures, le-leb _ _ (c .before .before .before .before .before .before .before .if1 .left), ← c .before .before .before .before .before .before .instances-fit .ensures, not-false (c .before .before .before .before .before .before .instances-fit .result) (c .before .before .before .before .before .if2 .left), le-leb _ _ (c .before .before .if3 .left)) (both-true _)
 
 pub runnable-sound-spec : {M : Type 1} → statement M
 runnable-sound-spec =

@@ -7,7 +7,7 @@ use Rattle.time_steps.proofs.starting.Tie as tie
 
 returns : tie.Need-returns
 unfolding starting
-returns c = rw (c .before .before .up-one .ensures, eq-eqb _ _ (c .if1 .taken))
+returns c = rw (c .down-one .ensures, c .before .before .before .up-one .ensures, eq-eqb _ _ (c .before .if1 .taken))
 
 returns-2 : tie.Need-returns-2
 unfolding starting
@@ -15,4 +15,4 @@ returns-2 c = rw (c .before .before .before .before .up-one .ensures, c .rest .e
 
 pub starting-spec : {M : Type 1} → statement M
 starting-spec =
-    tie.close (tie.spec (λ c κs. tt) returns (λ c κs. tt) returns-2)
+    tie.close (tie.spec (λ c κs. tt) (λ c κs. tt) returns (λ c κs. tt) returns-2)

@@ -7,7 +7,7 @@ use Rattle.time_steps.proofs.tick.Tie as tie
 
 returns : tie.Need-returns
 unfolding tickOf
-returns c = rw (c .take .ensures, c .before .with2 .ensures, c .before .before .woken .ensures, c .before .before .before .get3 .ensures, c .before .before .before .before .with .ensures, c .before .before .before .before .before .before .get2 .ensures, ← c .before .before .before .before .before .before .before .before .before .before .get .ensures, eq-eqb _ _ (c .before .before .before .before .before .before .before .before .if1 .taken))
+returns c = rw (c .take .ensures, c .before .with2 .ensures, c .before .before .woken .ensures, c .before .before .before .get4 .ensures, c .before .before .before .before .get3 .ensures, c .before .before .before .before .before .with .ensures, c .before .before .before .before .before .before .before .before .get2 .ensures, ← c .before .before .before .before .before .before .before .before .before .before .before .before .get .ensures, eq-eqb _ _ (c .before .before .before .before .before .before .before .before .before .before .if1 .taken))
 
 returns-2 : tie.Need-returns-2
 unfolding tickOf
@@ -15,4 +15,4 @@ returns-2 c = rw (c .refuse .ensures, ← c .before .before .before .get .ensure
 
 pub tick-spec : {M : Type 1} → statement M
 tick-spec =
-    tie.close (tie.spec (λ c κs. tt) (λ c κs. tt) (λ c κs. tt) (λ c κs. tt) (λ c κs. tt) (λ c κs. tt) (λ c κs. tt) returns (λ c κs. tt) returns-2)
+    tie.close (tie.spec (λ c κs. tt) (λ c κs. tt) (λ c κs. tt) (λ c κs. tt) (λ c κs. tt) (λ c κs. tt) (λ c κs. tt) (λ c κs. tt) returns (λ c κs. tt) returns-2)

@@ -1,0 +1,2 @@
+-- What counting activations promises (W-212).
+pub mod Claims
