@@ -7,11 +7,12 @@ ghost use Rattle.laws.specs.Loop.{sumBelow};
 ghost use Rattle.config.specs.Tables.{maxRunnableConfs};
 ghost use Rattle.state.specs.Tables.{maxSlots, runnableIn, slotIn};
 ghost use Rattle.rules.specs.Sound.{isClient, queuedAs, servedAs, clientsAs, waitsOn, waitersOf, isBound};
-ghost use Rattle.effects.specs.Steps.{opening, asking, waitingOn, callOf, runningOn, pollOf, collectOf, resultOf};
+ghost use Rattle.effects.specs.Steps.{opening, asking, waitingOn, callOf, pollOf, collectOf, resultOf};
 use config::Config;
 use config::OperationConf;
 use config::RunnableConf;
 use config::RunnableConfs;
+use state::Awaited;
 use state::Client;
 use state::Operation;
 use state::Owed;
@@ -49,7 +50,8 @@ fn waits_on(o: u8, x: Slot) -> bool
     ensures { λ r. ⌜ r ≡ waitsOn o x ⌝ }
 {
     let l = x.life;
-    l.waiting && l.on == o
+    let a = l.awaited;
+    a.part == numbers::TAG_OPERATION && a.on == o
 }
 
 // How many slots there are, as a number of a slot.
@@ -169,12 +171,13 @@ fn asking(x: Runnable, c: Client) -> Runnable
 fn waiting_on(x: Slot, o: u8) -> Slot
     ensures { λ r. ⌜ r ≡ waitingOn x o ⌝ }
 {
-    let mut life = x.life;
-    life.waiting = true;
-    life.on = o;
-    let mut y = x;
-    y.life = life;
-    y
+    shared_steps::awaiting(
+        x,
+        Awaited {
+            part: numbers::TAG_OPERATION,
+            on: o,
+        },
+    )
 }
 
 // The caller of a synchronous operation waits on it.
@@ -223,17 +226,6 @@ pub fn call(cfg: Config, st: State, i: u8, o: u8, v: Value) -> Stepped
 
 // ---- 12: result
 
-fn running_on(x: Slot) -> Slot
-    ensures { λ r. ⌜ r ≡ runningOn x ⌝ }
-{
-    let mut life = x.life;
-    life.waiting = false;
-    life.on = 0;
-    let mut y = x;
-    y.life = life;
-    y
-}
-
 // Asynchronous: NoData as long as the call has not ended, then what the operation is Done with, which it keeps.
 fn poll(st: State, o: u8) -> Stepped
     ensures { λ r. ⌜ r ≡ pollOf st o ⌝ }
@@ -255,10 +247,7 @@ fn collect(st: State, i: u8, o: u8) -> Stepped
     if x.calling {
         return shared_steps::refuse(numbers::STILL_OPEN, st);
     }
-    let slots = st.slots;
-    let mut next = st;
-    next.slots = slots.with(i, running_on(slots.get(i)));
-    shared_steps::take(x.done, next)
+    shared_steps::take(x.done, shared_steps::gone_on(st, i))
 }
 
 pub fn result(cfg: Config, st: State, i: u8, o: u8) -> Stepped

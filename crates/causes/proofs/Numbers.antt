@@ -18,7 +18,7 @@ use Rattle.state.specs.Tables.{maxSlots, runnableIn, operationIn, slotIn}
 use Rattle.rules.specs.declared.Row.{Row}
 use Rattle.rules.specs.Sound.{componentOf, soundOf}
 use Rattle.rules.specs.Rows.{aSlot, scheduler, noPart, rowOf}
-use Rattle.rules.specs.Refusals.{formed, partThere, partOwn, lifeLets, ownedRefusal, instanceRefusal, schedulerRefusal, refusalBy, refusalOf}
+use Rattle.rules.specs.Refusals.{formed, partThere, partOwn, waitingLets, lifeLets, ownedRefusal, instanceRefusal, schedulerRefusal, refusalBy, refusalOf}
 use Rattle.effects.specs.Steps.{refused}
 use Rattle.effects.specs.Step.{possibleOf, onAnswer, agrees, claimedOf, innerOf, stepOf}
 use Rattle.effects.proofs.Codes.{never}
@@ -27,7 +27,7 @@ use Rattle.stays_sound.proofs.Refusals.{refused-same}
 use Rattle.whys.specs.declared.Cause.{Cause}
 use Rattle.whys.specs.declared.Cause.the-variants.{NoCause, Differs}
 use Rattle.passing.specs.Passing.{passesOf, operationStop}
-use Rattle.whys.specs.Whys.{causeRefusal, formCause, slotCause, codeCause, thereCause, ownCause, waitsElse, lifeCause, topCause, stillCause, fullCause, bearerOf, borneCause, openCause, dueCause, spawnCause, stopCause, earlyCause, owedCause, whyOf}
+use Rattle.whys.specs.Whys.{causeRefusal, formCause, slotCause, codeCause, thereCause, ownCause, lifeCause, topCause, stillCause, fullCause, bearerOf, borneCause, openCause, dueCause, spawnCause, stopCause, earlyCause, owedCause, whyOf}
 use Rattle.causes.specs.Causes.{claimCause, causeOf}
 
 -- ---- each number's causes have that number
@@ -68,9 +68,10 @@ own-number cfg ss r s =
 life-number : (l : Life) (s : Step) → causeRefusal (lifeCause l s) ≡ barred
 unfolding lifeCause
 life-number l s =
-    either-number (waitsElse l s) _ _ barred refl
+    either-number (waitingLets l (s .code) (s .what)) _ _ barred
     (either-number (l .failed) _ _ barred (either-number (l .finished) _ _ barred refl refl)
     (either-number (l .finished) _ _ barred refl refl))
+    refl
 
 top-number : (ss : Slots) (i : ℕ) → causeRefusal (topCause ss i) ≡ notOnTop
 unfolding topCause

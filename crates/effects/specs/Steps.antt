@@ -3,17 +3,18 @@
 use Prim.Native.Nat.{ℕ, _+_, _-_, _%_}
 use mathlib.Core.Bool.{Bool, true, false, not}
 use lib.Dec.{ltb, leb, eqb}
+use Rattle.numbers.specs.Tags.{operationTag}
 use Rattle.numbers.specs.Refusals.{malformed, areaTaken, notOnTop, queueFull, numberBorne, stillOpen, notDue, noSlotFree, tooFar, notOver, areasHeld, wrongClient}
 use Rattle.laws.specs.Choice.{pick, both, either, bit}
 use Rattle.laws.specs.Loop.{allBelow, anyBelow, firstBelow}
 use Rattle.laws.specs.Mask.{maskBelow}
 use Rattle.laws.specs.Row.{eachBelow}
 use Rattle.values.specs.Values.{voidV, numberV, okV, limitV, noDataV, timeoutV, invalidV, fullV, serverErrV, isNumber}
-use Rattle.faces.specs.Types.{Value, Taken, Refused, Config, RunnableConf, Link, Client, Runnable, Runnables, Element, Elements, Operation, Operations, Timer, Timers, Owed, Slot, Slots, State, Stepped}
+use Rattle.faces.specs.Types.{Value, Taken, Refused, Config, RunnableConf, Link, Client, Runnable, Runnables, Element, Elements, Operation, Operations, Timer, Timers, Owed, Slot, Slots, State, Stepped, Awaited}
 use Rattle.config.specs.Tables.{runnableConfIn, requiredConfIn, linkIn, operationConfIn, timerConfIn, dataEventIn, returnEventIn, topOf}
 use Rattle.entries.specs.Faults.{isQueued}
-use Rattle.state.specs.Parts.{lastNumber, noOwed, noStack, noSlot, noRunnable, noElement, noOperation, noTimer}
-use Rattle.state.specs.Fields.{withInterval, withPending, withInstances, withRequests, withValue, withUpdated, withQueue, withCount, lifeWaiting, lifeRunning, lifeFinished, lifeFailed, lifeOf, withLife, withOwed, withStack}
+use Rattle.state.specs.Parts.{lastNumber, noAwaited, noOwed, noStack, noSlot, noRunnable, noElement, noOperation, noTimer}
+use Rattle.state.specs.Fields.{withInterval, withPending, withInstances, withRequests, withValue, withUpdated, withQueue, withCount, lifeAwaiting, lifeFinished, lifeFailed, lifeOf, withLife, withOwed, withStack}
 use Rattle.state.specs.Tables.{maxSlots, runnableIn, variableIn, areaIn, elementIn, operationIn, timerIn, slotIn, withRunnable, withVariable, withArea, withElement, withOperation, withTimer, withSlot, withRunnables, withVariables, withAreas, withElements, withOperations, withTimers, withSlots}
 use Rattle.state.specs.Queues.{upOne, pushRequest, firstRequest, restRequests, pushValue, firstValue, restValues, pushArea, topArea, popArea}
 use Rattle.rules.specs.Sound.{isBound}
@@ -226,9 +227,17 @@ requestsFull cfg rs r = leb (runnableConfIn (cfg .runnables) r .capacity) (runna
 abbrev pub asking : Runnable → Client → Runnable
 asking x c = withRequests x (pushRequest (x .requests) c)
 
+-- the slot with what its instance waits for ("The eighteen steps", Call and Result)
+abbrev pub awaiting : Slot → Awaited → Slot
+awaiting x a = withLife x (lifeAwaiting (x .life) a)
+
+-- the operation o to wait on ("The eighteen steps", Call)
+abbrev pub onOperation : ℕ → Awaited
+onOperation o = record { part = operationTag; on = o }
+
 -- the slot with its instance waiting on the operation o ("The eighteen steps", Call)
 abbrev pub waitingOn : Slot → ℕ → Slot
-waitingOn x o = withLife x (lifeWaiting (x .life) o)
+waitingOn x o = awaiting x (onOperation o)
 
 -- the caller after a started call: on a synchronous operation it waits ("The eighteen steps", Call)
 unfoldable pub callerAfter : Config → ℕ → Slot → Slot
@@ -256,19 +265,19 @@ callOf cfg st i o v =
 
 -- the slot with its instance no longer waiting ("The eighteen steps", Result)
 abbrev pub runningOn : Slot → Slot
-runningOn x = withLife x (lifeRunning (x .life))
+runningOn x = awaiting x noAwaited
 
 -- asynchronous: NoData as long as the call has not ended, then what the operation is Done with, which it keeps ("The eighteen steps", Result)
 unfoldable pub pollOf : State → ℕ → Stepped
 pollOf st o = pick (isOpen st o) (took noDataV st) (took (operationIn (st .operations) o .done) st)
 
--- the state after the instance i has collected: it waits no longer ("The eighteen steps", Result)
-abbrev pub collected : State → ℕ → State
-collected st i = withSlots st (withSlot (st .slots) i (runningOn (slotIn (st .slots) i)))
+-- the state after the instance i has gone on: it waits no longer ("The eighteen steps", Result)
+abbrev pub goneOn : State → ℕ → State
+goneOn st i = withSlots st (withSlot (st .slots) i (runningOn (slotIn (st .slots) i)))
 
 -- synchronous: as soon as the call has ended, what the operation is Done with, which it keeps, and the caller waits no longer ("The eighteen steps", Result; "Numbers of refusal", 10)
 unfoldable pub collectOf : State → ℕ → ℕ → Stepped
-collectOf st i o = pick (isOpen st o) (refused stillOpen st) (took (operationIn (st .operations) o .done) (collected st i))
+collectOf st i o = pick (isOpen st o) (refused stillOpen st) (took (operationIn (st .operations) o .done) (goneOn st i))
 
 -- a result, by the kind of the operation ("The eighteen steps", Result)
 unfoldable pub resultOf : Config → State → ℕ → ℕ → Stepped

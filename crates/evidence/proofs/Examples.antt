@@ -11,16 +11,16 @@ use Rattle.laws.specs.Row.{eachBelow, shifted, placeFilled, filled}
 use Rattle.values.specs.Values.{isVoid, isPayload, isKind, isMask, isGood, sameValue, voidV, numberV, okV, timeoutV, neverReceivedV, invalidV, serverErrV}
 use Rattle.config.specs.Editions.{firstEdition, isEdition, marksInvalid}
 use Rattle.config.specs.Tables.{runnableConfIn, addRunnableConf, variableConfIn, addVariableConf, areaConfIn, addAreaConf, requiredConfIn, addRequiredConf, providedConfIn, addProvidedConf, linkIn, addLink, operationConfIn, addOperationConf, timerConfIn, addTimerConf, dataEventIn, addDataEvent, returnEventIn, addReturnEvent, noConfig, noRunnableConf, noAreaConf, noRequiredConf, noOperationConf, noVariableConfs, noProvidedConfs, noLinks, noTimerConfs, noDataEvents, noReturnEvents, topOf}
-use Rattle.state.specs.Parts.{noRequests, noRunnable, noValues, noElement, noStack, noSlot, noClient, noOwed, noVariable, noArea, noOperation, noTimer}
+use Rattle.state.specs.Parts.{noRequests, noRunnable, noValues, noElement, noStack, noSlot, noClient, noOwed, noVariable, noArea, noOperation, noTimer, noAwaited}
 use Rattle.state.specs.Tables.{withRunnables, withVariables, withAreas, withElements, withOperations, withTimers, withSlots, noRunnables, runnableIn, withRunnable, noVariables, variableIn, withVariable, noAreas, areaIn, withArea, noElements, elementIn, withElement, noOperations, operationIn, withOperation, noTimers, timerIn, withTimer, noSlots, slotIn, withSlot}
 use Rattle.state.specs.Fields.{withPending}
 use Rattle.state.specs.Queues.{pushRequest, firstRequest, restRequests, pushValue, firstValue, restValues, pushArea, topArea, popArea}
 use Rattle.state.specs.Start.{startVariable, startElement, startRunnables, startVariables, startElements, startOf}
 use Rattle.entries.specs.Entries.{maxOf, countOf, placesOf, entryOf, placed, withEdition, withRequiredConfs}
 use Rattle.entries.specs.Faults.{inRange, namesThere, isServer, isQueued, rises, risesAt, pairsWell, entryFault, isNoEntry, placeSound, kindSound, configSound, partsSound}
-use Rattle.rules.specs.Sound.{isNoClient, clientFits, requestsSound, valuesSound, runnableSound, variableSound, isStored, elementSound, isOutcome, callingSound, doneSound, operationSound, timerSound, waitsWell, lifeSound, owedSound, areaFits, stackSound, isNoSlot, slotSound, ofRunnable, slotsOf, countSound, timesIn, holders, areaSound, isClient, queuedAs, servedAs, clientsAs, clientSound, queuedSound, servedSound, calledSound, waitsOn, waitersOf, waiterSound, runnablesSound, variablesSound, elementsSound, operationsSound, timersSound, slotsSound, countsSound, areasSound, clientsSound, waitersSound, shaped, soundOf, mostPending}
-use Rattle.effects.specs.Steps.{failing}
-use Rattle.faces.specs.Types.{Value, Config, Client, Requests, Runnables, Elements, Operations, Life, Stack, Slot, Slots, State}
+use Rattle.rules.specs.Sound.{isNoClient, clientFits, requestsSound, valuesSound, runnableSound, variableSound, isStored, elementSound, isOutcome, callingSound, doneSound, operationSound, timerSound, waitsWell, lifeSound, owedSound, areaFits, stackSound, isNoSlot, slotSound, ofRunnable, slotsOf, countSound, timesIn, holders, areaSound, isClient, queuedAs, servedAs, clientsAs, clientSound, queuedSound, servedSound, calledSound, waitsOn, waitersOf, waiterSound, runnablesSound, variablesSound, elementsSound, operationsSound, timersSound, slotsSound, countsSound, areasSound, clientsSound, waitersSound, shaped, soundOf, mostPending, isNoAwaited, awaitsWell, isNoLife, isNoOwed, isNoStack}
+use Rattle.effects.specs.Steps.{failing, onOperation}
+use Rattle.faces.specs.Types.{Value, Config, Client, Requests, Runnables, Elements, Operations, Life, Stack, Slot, Slots, State, Awaited}
 
 -- ---- the configuration: a client and a server component with two runnables each, of which one counts its activations, a synchronous and two asynchronous operations of the one on the other, two areas, a queued element
 
@@ -62,7 +62,7 @@ config = configWith 10
 
 -- an instance of the client, with the operation that it waits on, whether it is finished, and its stack
 pub caller : ℕ → Bool → Stack → Slot
-caller on finished stack = record { used = true; life = record { runnable = 0; waiting = true; on = on; finished = finished; failed = false }; owed = noOwed; stack = stack }
+caller on finished stack = record { used = true; life = record { runnable = 0; awaited = onOperation on; finished = finished; failed = false }; owed = noOwed; stack = stack }
 
 -- both areas, the second at the bottom
 pub nested : Stack
@@ -77,22 +77,22 @@ pub served : ℕ → ℕ → Life → Stack → Slot
 served o m life stack = record { used = true; life = life; owed = record { serving = true; client = record { operation = o; number = m; argument = numberV 7 } }; stack = stack }
 
 -- the life of a server's instance: at work, or finished, or waiting
-pub life : Bool → Bool → Life
-life waiting finished = record { runnable = 1; waiting = waiting; on = 0; finished = finished; failed = false }
+pub life : Awaited → Bool → Life
+life awaited finished = record { runnable = 1; awaited = awaited; finished = finished; failed = false }
 
 -- an instance of the runnable r that neither waits nor serves
 pub idle : ℕ → Stack → Slot
-idle r stack = record { used = true; life = record { runnable = r; waiting = false; on = 0; finished = false; failed = false }; owed = noOwed; stack = stack }
+idle r stack = record { used = true; life = record { runnable = r; awaited = noAwaited; finished = false; failed = false }; owed = noOwed; stack = stack }
 
 -- an instance of the third runnable that waits on the first operation
 pub waiter : Slot
-waiter = record { used = true; life = record { runnable = 2; waiting = true; on = 0; finished = false; failed = false }; owed = noOwed; stack = noStack }
+waiter = record { used = true; life = record { runnable = 2; awaited = onOperation 0; finished = false; failed = false }; owed = noOwed; stack = noStack }
 
 pub first : Slot
 first = caller 0 false nested
 
 pub second : Slot
-second = served 0 4 (life false false) noStack
+second = served 0 4 (life noAwaited false) noStack
 
 -- three slots, all others empty
 pub slotsWith : Slot → Slot → Slot → Slots
@@ -180,7 +180,7 @@ unfolding soundOf clauses
 clauses-are cfg st = refl
 
 pub state-sound : soundOf config state ≡ true
-unfolding allOf allBelow anyBelow sumBelow firstBelow eachBelow shifted placeFilled filled isVoid isPayload isKind isMask isGood sameValue runnableConfIn addRunnableConf variableConfIn addVariableConf areaConfIn addAreaConf requiredConfIn addRequiredConf providedConfIn addProvidedConf linkIn addLink operationConfIn addOperationConf timerConfIn addTimerConf dataEventIn addDataEvent returnEventIn addReturnEvent noConfig noRequests noRunnable noValues noElement noStack noSlot noRunnables runnableIn withRunnable noVariables variableIn withVariable noAreas areaIn withArea noElements elementIn withElement noOperations operationIn withOperation noTimers timerIn withTimer noSlots slotIn withSlot pushRequest firstRequest restRequests pushValue firstValue restValues pushArea topArea popArea startVariable startElement startRunnables startVariables startElements startOf maxOf countOf placesOf entryOf placed inRange namesThere isServer isQueued rises risesAt pairsWell entryFault isNoEntry placeSound kindSound configSound isNoClient clientFits requestsSound valuesSound runnableSound variableSound isStored elementSound isOutcome callingSound doneSound operationSound timerSound waitsWell lifeSound owedSound areaFits stackSound isNoSlot slotSound ofRunnable slotsOf countSound timesIn holders areaSound isClient queuedAs servedAs clientsAs clientSound queuedSound servedSound calledSound waitsOn waitersOf waiterSound runnablesSound variablesSound elementsSound operationsSound timersSound slotsSound countsSound areasSound clientsSound waitersSound shaped soundOf configWith config caller nested one served life idle waiter first second slotsWith runnablesWith asked queueOne queueTwo operationsWith doneWith shutWith freeWith elementsWith state isEdition partsSound marksInvalid topOf mostPending
+unfolding allOf allBelow anyBelow sumBelow firstBelow eachBelow shifted placeFilled filled isVoid isPayload isKind isMask isGood sameValue runnableConfIn addRunnableConf variableConfIn addVariableConf areaConfIn addAreaConf requiredConfIn addRequiredConf providedConfIn addProvidedConf linkIn addLink operationConfIn addOperationConf timerConfIn addTimerConf dataEventIn addDataEvent returnEventIn addReturnEvent noConfig noRequests noRunnable noValues noElement noStack noSlot noRunnables runnableIn withRunnable noVariables variableIn withVariable noAreas areaIn withArea noElements elementIn withElement noOperations operationIn withOperation noTimers timerIn withTimer noSlots slotIn withSlot pushRequest firstRequest restRequests pushValue firstValue restValues pushArea topArea popArea startVariable startElement startRunnables startVariables startElements startOf maxOf countOf placesOf entryOf placed inRange namesThere isServer isQueued rises risesAt pairsWell entryFault isNoEntry placeSound kindSound configSound isNoClient clientFits requestsSound valuesSound runnableSound variableSound isStored elementSound isOutcome callingSound doneSound operationSound timerSound waitsWell lifeSound owedSound areaFits stackSound isNoSlot slotSound ofRunnable slotsOf countSound timesIn holders areaSound isClient queuedAs servedAs clientsAs clientSound queuedSound servedSound calledSound waitsOn waitersOf waiterSound runnablesSound variablesSound elementsSound operationsSound timersSound slotsSound countsSound areasSound clientsSound waitersSound shaped soundOf configWith config caller nested one served life idle waiter first second slotsWith runnablesWith asked queueOne queueTwo operationsWith doneWith shutWith freeWith elementsWith state isEdition partsSound marksInvalid topOf mostPending isNoAwaited awaitsWell isNoLife isNoOwed isNoStack
 state-sound = refl
 
 -- ---- near it, and unsound for one clause alone
@@ -272,11 +272,11 @@ waitsAsync = record { config = config; state = withSlots (withRunnables state (r
 
 -- an instance waits on an operation of another component, and nobody else does
 waitsForeign : Near
-waitsForeign = record { config = config; state = withSlots state (slotsWith (idle 0 nested) (served 0 4 (life true false) noStack) noSlot); fails = 7 }
+waitsForeign = record { config = config; state = withSlots state (slotsWith (idle 0 nested) (served 0 4 (life (onOperation 0) false) noStack) noSlot); fails = 7 }
 
 -- a finished instance still has its client
 owesFinished : Near
-owesFinished = record { config = config; state = withSlots state (slotsWith first (served 0 4 (life false true) noStack) noSlot); fails = 7 }
+owesFinished = record { config = config; state = withSlots state (slotsWith first (served 0 4 (life noAwaited true) noStack) noSlot); fails = 7 }
 
 -- a plain instance is finished
 finishedPlain : Near
@@ -284,11 +284,11 @@ finishedPlain = record { config = config; state = withSlots state (slotsWith (ca
 
 -- an area lies on the stack of another component
 foreignArea : Near
-foreignArea = record { config = config; state = withSlots state (slotsWith (caller 0 false (one 0)) (served 0 4 (life false false) (one 1)) noSlot); fails = 7 }
+foreignArea = record { config = config; state = withSlots state (slotsWith (caller 0 false (one 0)) (served 0 4 (life noAwaited false) (one 1)) noSlot); fails = 7 }
 
 -- a place of an empty slot is not blank
 emptyUsed : Near
-emptyUsed = record { config = config; state = withSlots state (slotsWith first second (record { used = false; life = life false false; owed = noOwed; stack = noStack })); fails = 7 }
+emptyUsed = record { config = config; state = withSlots state (slotsWith first second (record { used = false; life = life noAwaited false; owed = noOwed; stack = noStack })); fails = 7 }
 
 -- an empty slot has failed
 emptyFailed : Near
@@ -308,11 +308,11 @@ heldTwice = record { config = config; state = withSlots (withRunnables state (ru
 
 -- an open call has no client with its number, but one with the number before it
 callAlone : Near
-callAlone = record { config = config; state = withSlots state (slotsWith first (served 0 3 (life false false) noStack) noSlot); fails = 10 }
+callAlone = record { config = config; state = withSlots state (slotsWith first (served 0 3 (life noAwaited false) noStack) noSlot); fails = 10 }
 
 -- an open call has no client with its number, but one with the number behind it
 callAhead : Near
-callAhead = record { config = config; state = withSlots state (slotsWith first (served 0 5 (life false false) noStack) noSlot); fails = 10 }
+callAhead = record { config = config; state = withSlots state (slotsWith first (served 0 5 (life noAwaited false) noStack) noSlot); fails = 10 }
 
 -- two clients share operation and number
 clientTwice : Near
@@ -332,7 +332,7 @@ pastTwice = record { config = config; state = withOperations (withRunnables stat
 
 -- one waits and one is served
 apartTwice : Near
-apartTwice = record { config = config; state = withSlots (withOperations (withRunnables state (runnablesWith 1 0 (queueOne (asked 9)) 0)) (freeWith 3)) (slotsWith (idle 0 nested) (served 1 9 (life false false) noStack) noSlot); fails = 10 }
+apartTwice = record { config = config; state = withSlots (withOperations (withRunnables state (runnablesWith 1 0 (queueOne (asked 9)) 0)) (freeWith 3)) (slotsWith (idle 0 nested) (served 1 9 (life noAwaited false) noStack) noSlot); fails = 10 }
 
 pub near : List Near
 near =
@@ -373,7 +373,7 @@ near =
 
 -- of each, the clauses hold as it says: all but one
 pub near-unsound : map (λ (x : Near). clauses (x .config) (x .state)) near ≡ map (λ (x : Near). allBut (x .fails)) near
-unfolding allOf allBelow anyBelow sumBelow firstBelow eachBelow shifted placeFilled filled isVoid isPayload isKind isMask isGood sameValue runnableConfIn addRunnableConf variableConfIn addVariableConf areaConfIn addAreaConf requiredConfIn addRequiredConf providedConfIn addProvidedConf linkIn addLink operationConfIn addOperationConf timerConfIn addTimerConf dataEventIn addDataEvent returnEventIn addReturnEvent noConfig noRequests noRunnable noValues noElement noStack noSlot noRunnables runnableIn withRunnable noVariables variableIn withVariable noAreas areaIn withArea noElements elementIn withElement noOperations operationIn withOperation noTimers timerIn withTimer noSlots slotIn withSlot pushRequest firstRequest restRequests pushValue firstValue restValues pushArea topArea popArea startVariable startElement startRunnables startVariables startElements startOf maxOf countOf placesOf entryOf placed inRange namesThere isServer isQueued rises risesAt pairsWell entryFault isNoEntry placeSound kindSound configSound isNoClient clientFits requestsSound valuesSound runnableSound variableSound isStored elementSound isOutcome callingSound doneSound operationSound timerSound waitsWell lifeSound owedSound areaFits stackSound isNoSlot slotSound ofRunnable slotsOf countSound timesIn holders areaSound isClient queuedAs servedAs clientsAs clientSound queuedSound servedSound calledSound waitsOn waitersOf waiterSound runnablesSound variablesSound elementsSound operationsSound timersSound slotsSound countsSound areasSound clientsSound waitersSound shaped soundOf configWith config caller nested one served life idle waiter first second slotsWith runnablesWith asked queueOne queueTwo operationsWith doneWith shutWith freeWith elementsWith state clauses near allBut unconfigured slotsMore serverPending twiceWithout otherServer variableUnused queueLong queueOk behindQueue countAbove errNumbered timerUnused waitsAsync waitsForeign owesFinished finishedPlain foreignArea emptyUsed emptyFailed noInstance heldFree heldTwice callAlone callAhead clientTwice pastTwice apartTwice callUnbound waitersTwo isEdition partsSound marksInvalid editioned holding editionThree markedSecond topOf mostPending pendingWith twicePending pastTop
+unfolding allOf allBelow anyBelow sumBelow firstBelow eachBelow shifted placeFilled filled isVoid isPayload isKind isMask isGood sameValue runnableConfIn addRunnableConf variableConfIn addVariableConf areaConfIn addAreaConf requiredConfIn addRequiredConf providedConfIn addProvidedConf linkIn addLink operationConfIn addOperationConf timerConfIn addTimerConf dataEventIn addDataEvent returnEventIn addReturnEvent noConfig noRequests noRunnable noValues noElement noStack noSlot noRunnables runnableIn withRunnable noVariables variableIn withVariable noAreas areaIn withArea noElements elementIn withElement noOperations operationIn withOperation noTimers timerIn withTimer noSlots slotIn withSlot pushRequest firstRequest restRequests pushValue firstValue restValues pushArea topArea popArea startVariable startElement startRunnables startVariables startElements startOf maxOf countOf placesOf entryOf placed inRange namesThere isServer isQueued rises risesAt pairsWell entryFault isNoEntry placeSound kindSound configSound isNoClient clientFits requestsSound valuesSound runnableSound variableSound isStored elementSound isOutcome callingSound doneSound operationSound timerSound waitsWell lifeSound owedSound areaFits stackSound isNoSlot slotSound ofRunnable slotsOf countSound timesIn holders areaSound isClient queuedAs servedAs clientsAs clientSound queuedSound servedSound calledSound waitsOn waitersOf waiterSound runnablesSound variablesSound elementsSound operationsSound timersSound slotsSound countsSound areasSound clientsSound waitersSound shaped soundOf configWith config caller nested one served life idle waiter first second slotsWith runnablesWith asked queueOne queueTwo operationsWith doneWith shutWith freeWith elementsWith state clauses near allBut unconfigured slotsMore serverPending twiceWithout otherServer variableUnused queueLong queueOk behindQueue countAbove errNumbered timerUnused waitsAsync waitsForeign owesFinished finishedPlain foreignArea emptyUsed emptyFailed noInstance heldFree heldTwice callAlone callAhead clientTwice pastTwice apartTwice callUnbound waitersTwo isEdition partsSound marksInvalid editioned holding editionThree markedSecond topOf mostPending pendingWith twicePending pastTop isNoAwaited awaitsWell isNoLife isNoOwed isNoStack
 near-unsound = refl
 
 -- ---- near it, and sound
@@ -386,7 +386,7 @@ soundToo =
     ∷ withSlots state (slotsWith (failing first) second noSlot)
     ∷ withSlots state (slotsWith first (failing second) noSlot)
     ∷ withOperations state (withOperation (operationsWith 50 3 0) 0 (record { number = 5; calling = false; count = 0; done = timeoutV }))
-    ∷ withOperations (withSlots (withRunnables state (runnablesWith 1 0 noRequests 0)) (slotsWith first (served 1 3 (life false false) noStack) noSlot)) (withOperation (operationsWith 50 3 0) 0 noOperation)
+    ∷ withOperations (withSlots (withRunnables state (runnablesWith 1 0 noRequests 0)) (slotsWith first (served 1 3 (life noAwaited false) noStack) noSlot)) (withOperation (operationsWith 50 3 0) 0 noOperation)
     ∷ withOperations (withRunnables state (runnablesWith 1 0 (queueOne (asked 65535)) 0)) (operationsWith 50 65535 0)
     ∷ withRunnables state (runnablesWith 1 0 (queueTwo (asked 9) (asked 3)) 0)
     ∷ withOperations state (shutWith 3)
@@ -394,7 +394,7 @@ soundToo =
     ∷ []
 
 pub near-sound : map (λ (x : State). soundOf config x) soundToo ≡ true ∷ true ∷ true ∷ true ∷ true ∷ true ∷ true ∷ true ∷ true ∷ []
-unfolding allOf allBelow anyBelow sumBelow firstBelow eachBelow shifted placeFilled filled isVoid isPayload isKind isMask isGood sameValue runnableConfIn addRunnableConf variableConfIn addVariableConf areaConfIn addAreaConf requiredConfIn addRequiredConf providedConfIn addProvidedConf linkIn addLink operationConfIn addOperationConf timerConfIn addTimerConf dataEventIn addDataEvent returnEventIn addReturnEvent noConfig noRequests noRunnable noValues noElement noStack noSlot noRunnables runnableIn withRunnable noVariables variableIn withVariable noAreas areaIn withArea noElements elementIn withElement noOperations operationIn withOperation noTimers timerIn withTimer noSlots slotIn withSlot pushRequest firstRequest restRequests pushValue firstValue restValues pushArea topArea popArea startVariable startElement startRunnables startVariables startElements startOf maxOf countOf placesOf entryOf placed inRange namesThere isServer isQueued rises risesAt pairsWell entryFault isNoEntry placeSound kindSound configSound isNoClient clientFits requestsSound valuesSound runnableSound variableSound isStored elementSound isOutcome callingSound doneSound operationSound timerSound waitsWell lifeSound owedSound areaFits stackSound isNoSlot slotSound ofRunnable slotsOf countSound timesIn holders areaSound isClient queuedAs servedAs clientsAs clientSound queuedSound servedSound calledSound waitsOn waitersOf waiterSound runnablesSound variablesSound elementsSound operationsSound timersSound slotsSound countsSound areasSound clientsSound waitersSound shaped soundOf configWith config caller nested one served life idle waiter first second slotsWith runnablesWith asked queueOne queueTwo operationsWith doneWith shutWith freeWith elementsWith state soundToo isEdition partsSound marksInvalid topOf mostPending pendingWith
+unfolding allOf allBelow anyBelow sumBelow firstBelow eachBelow shifted placeFilled filled isVoid isPayload isKind isMask isGood sameValue runnableConfIn addRunnableConf variableConfIn addVariableConf areaConfIn addAreaConf requiredConfIn addRequiredConf providedConfIn addProvidedConf linkIn addLink operationConfIn addOperationConf timerConfIn addTimerConf dataEventIn addDataEvent returnEventIn addReturnEvent noConfig noRequests noRunnable noValues noElement noStack noSlot noRunnables runnableIn withRunnable noVariables variableIn withVariable noAreas areaIn withArea noElements elementIn withElement noOperations operationIn withOperation noTimers timerIn withTimer noSlots slotIn withSlot pushRequest firstRequest restRequests pushValue firstValue restValues pushArea topArea popArea startVariable startElement startRunnables startVariables startElements startOf maxOf countOf placesOf entryOf placed inRange namesThere isServer isQueued rises risesAt pairsWell entryFault isNoEntry placeSound kindSound configSound isNoClient clientFits requestsSound valuesSound runnableSound variableSound isStored elementSound isOutcome callingSound doneSound operationSound timerSound waitsWell lifeSound owedSound areaFits stackSound isNoSlot slotSound ofRunnable slotsOf countSound timesIn holders areaSound isClient queuedAs servedAs clientsAs clientSound queuedSound servedSound calledSound waitsOn waitersOf waiterSound runnablesSound variablesSound elementsSound operationsSound timersSound slotsSound countsSound areasSound clientsSound waitersSound shaped soundOf configWith config caller nested one served life idle waiter first second slotsWith runnablesWith asked queueOne queueTwo operationsWith doneWith shutWith freeWith elementsWith state soundToo isEdition partsSound marksInvalid topOf mostPending pendingWith isNoAwaited awaitsWell isNoLife isNoOwed isNoStack
 near-sound = refl
 
 -- Invalid is kept soundly under edition 1, NeverReceived under both

@@ -222,8 +222,9 @@ pub(crate) fn waiter(st: State, o: u8) -> u8 {
     while i < 32 {
         let x = slots.get(i);
         let l = x.life;
-        if l.waiting {
-            if l.on == o {
+        let a = l.awaited;
+        if a.part == numbers::TAG_OPERATION {
+            if a.on == o {
                 return i;
             }
         }

@@ -34,6 +34,7 @@ pub use Rattle.state.specs.declared.Values.{Values}
 pub use Rattle.state.specs.declared.Element.{Element}
 pub use Rattle.state.specs.declared.Operation.{Operation}
 pub use Rattle.state.specs.declared.Timer.{Timer}
+pub use Rattle.state.specs.declared.Awaited.{Awaited}
 pub use Rattle.state.specs.declared.Life.{Life}
 pub use Rattle.state.specs.declared.Owed.{Owed}
 pub use Rattle.state.specs.declared.Stack.{Stack}

@@ -20,6 +20,7 @@ use Rattle.config.specs.Tables.{runnableConfIn, operationConfIn}
 use Rattle.state.specs.Parts.{noSlot}
 use Rattle.state.specs.Start.{startOf}
 use Rattle.state.specs.Tables.{maxSlots, noSlots, slotIn, runnableIn, withSlot}
+use Rattle.rules.specs.Rows.{noPart}
 use Rattle.effects.specs.Steps.{called, callerAfter, waitingOn, closed, finishing, instanceOf, lowestEmpty, spawned, failing, hasFailed}
 use Rattle.stays_sound.specs.Facts.{Sound, CanSpawn}
 use Rattle.stays_sound.proofs.Told.{slots-length}
@@ -108,9 +109,9 @@ new-unfinished : (cfg : Config) (st : State) (r : ℕ) → instanceOf (runnableC
 unfolding instanceOf
 new-unfinished cfg st r = pick-has (λ (y : Slot). y .life .finished ≡ false) (eqb (runnableConfIn (cfg .runnables) r .capacity) 0) _ _ (λ e. refl) (λ e. refl)
 
-new-running : (cfg : Config) (st : State) (r : ℕ) → instanceOf (runnableConfIn (cfg .runnables) r) r (runnableIn (st .runnables) r) .life .waiting ≡ false
+new-running : (cfg : Config) (st : State) (r : ℕ) → instanceOf (runnableConfIn (cfg .runnables) r) r (runnableIn (st .runnables) r) .life .awaited .part ≡ noPart
 unfolding instanceOf
-new-running cfg st r = pick-has (λ (y : Slot). y .life .waiting ≡ false) (eqb (runnableConfIn (cfg .runnables) r .capacity) 0) _ _ (λ e. refl) (λ e. refl)
+new-running cfg st r = pick-has (λ (y : Slot). y .life .awaited .part ≡ noPart) (eqb (runnableConfIn (cfg .runnables) r .capacity) 0) _ _ (λ e. refl) (λ e. refl)
 
 pub backs-deed : (cfg : Config) (st : State) (s : Step) (st′ : State) (rs : List Step) → Sound cfg st → Deed cfg st s st′ → Backs (st .slots) rs → Backs (st′ .slots) (rs ++ (s ∷ []))
 unfolding called closed spawned
@@ -136,15 +137,15 @@ backs-deed cfg st s st′ rs g d l = go d
 -- ---- who has failed does not wait
 
 pub record Runs (ss : Slots) : Type 0 where
-  pub running : (i : ℕ) → slotIn ss i .life .failed ≡ true → slotIn ss i .life .waiting ≡ false
+  pub running : (i : ℕ) → slotIn ss i .life .failed ≡ true → slotIn ss i .life .awaited .part ≡ noPart
 
 pub runs-start : (cfg : Config) → Runs (startOf cfg .slots)
 unfolding startOf noSlots slotIn noSlot
-runs-start cfg = record { running = λ i f. all-alike (λ (y : Slot). y .life .waiting ≡ false) 32 noSlot i refl }
+runs-start cfg = record { running = λ i f. all-alike (λ (y : Slot). y .life .awaited .part ≡ noPart) 32 noSlot i refl }
 
 -- one slot is put
-runs-put : (ss : Slots) (i : ℕ) (x : Slot) → (x .life .failed ≡ true → x .life .waiting ≡ false) → Runs ss → Runs (withSlot ss i x)
-runs-put ss i x f r = record { running = slot-has (λ k y. y .life .failed ≡ true → y .life .waiting ≡ false) ss i x f (r .running) }
+runs-put : (ss : Slots) (i : ℕ) (x : Slot) → (x .life .failed ≡ true → x .life .awaited .part ≡ noPart) → Runs ss → Runs (withSlot ss i x)
+runs-put ss i x f r = record { running = slot-has (λ k y. y .life .failed ≡ true → y .life .awaited .part ≡ noPart) ss i x f (r .running) }
 
 pub runs-deed : (cfg : Config) (st : State) (s : Step) (st′ : State) → Deed cfg st s st′ → Runs (st .slots) → Runs (st′ .slots)
 unfolding called closed spawned callerAfter noSlot
@@ -153,7 +154,7 @@ runs-deed cfg st s st′ d r = go d
     x : Slot
     x = slotIn (st .slots) (s .who)
 
-    asks : hasFailed st (s .who) ≡ false → (b : Bool) → pick b x (waitingOn x (s .what)) .life .failed ≡ true → pick b x (waitingOn x (s .what)) .life .waiting ≡ false
+    asks : hasFailed st (s .who) ≡ false → (b : Bool) → pick b x (waitingOn x (s .what)) .life .failed ≡ true → pick b x (waitingOn x (s .what)) .life .awaited .part ≡ noPart
     asks f true e = r .running (s .who) e
     asks f false e = absurd (clash (x .life .failed) e f)
 

@@ -24,7 +24,7 @@ use Rattle.values.specs.Values.{voidV, numberV, okV, limitV, noDataV, serverErr
 use Rattle.config.specs.Tables.{requiredConfIn}
 use Rattle.entries.specs.Faults.{isServer}
 use Rattle.state.specs.Tables.{areaIn, elementIn, operationIn, slotIn}
-use Rattle.rules.specs.Sound.{isStored, valuesSound, elementSound, elementsSound, timesIn, holders, isNoSlot, slotSound, slotsSound, isBound}
+use Rattle.rules.specs.Sound.{isStored, valuesSound, elementSound, elementsSound, timesIn, holders, isNoStack, isNoSlot, slotSound, slotsSound, isBound}
 use Rattle.effects.specs.Steps.{isOpen, isBusy, answers, clientOf, hasFailed, lowestEmpty}
 use Rattle.stays_sound.specs.Facts.{Sound, CanSpawn}
 use Rattle.stays_sound.proofs.Ways.{Way, callBusy, call, pollOpen, poll, collect, answer, late}
@@ -37,14 +37,14 @@ use Rattle.history.proofs.Ended.{answer-latest, back-void}
 
 -- a slot whose stack has something is in use: the stack of an empty one is empty
 holder-used : (cfg : Config) (st : State) (a i : ℕ) → Sound cfg st → i < 32 → 1 ≤ timesIn a (slotIn (st .slots) i .stack) → slotIn (st .slots) i .used ≡ true
-unfolding slotsSound slotSound isNoSlot timesIn
+unfolding slotsSound slotSound isNoSlot isNoStack timesIn
 holder-used cfg st a i g b h = go (slotIn (st .slots) i .used) refl
   where
     go : (u : Bool) → slotIn (st .slots) i .used ≡ u → slotIn (st .slots) i .used ≡ true
     go true e = e
     go false e =
         let s = all-told _ (rw e at (all-at (λ (k : ℕ). slotSound cfg (slotIn (st .slots) k)) 32 (g .slots) i b)) in
-        let z : slotIn (st .slots) i .stack .held ≡ 0 = eqb-true _ 0 (s .1 .1 .1 .1 .1 .1 .1 .0) in
+        let z : slotIn (st .slots) i .stack .held ≡ 0 = eqb-true _ 0 (both-left (eqb (slotIn (st .slots) i .stack .held) 0) _ (s .1 .1 .0)) in
         absurd (omega (arith, h, count-most (λ (j : ℕ). eqb (getD (slotIn (st .slots) i .stack .at) j 0) a) (slotIn (st .slots) i .stack .held)))
 
 pub holder : (cfg : Config) (st : State) (a : ℕ) → Sound cfg st → a < 16 → areaIn (st .areas) a .taken ≡ true

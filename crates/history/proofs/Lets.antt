@@ -11,9 +11,10 @@ use Rattle.faces.specs.Types.{Value, Step, Taken, Config, State}
 use Rattle.config.specs.Tables.{providedConfIn, operationConfIn}
 use Rattle.entries.specs.Entries.{entryOf}
 use Rattle.state.specs.Tables.{slotIn}
+use Rattle.numbers.specs.Tags.{operationTag}
 use Rattle.rules.specs.Rows.{aSlot, rows, rowOf}
-use Rattle.rules.specs.Sound.{componentOf}
-use Rattle.rules.specs.Refusals.{queuesAs, partOwn, finishedLets, failedLets, lifeLets, refusalOf}
+use Rattle.rules.specs.Sound.{componentOf, isCaller}
+use Rattle.rules.specs.Refusals.{queuesAs, partOwn, finishedLets, failedLets, endsWaiting, waitingLets, lifeLets, refusalOf}
 use Rattle.effects.specs.Steps.{isOpen, collectOf, resultOf, hasFailed}
 use Rattle.effects.specs.Step.{stepOf}
 use Rattle.effects.proofs.Codes.{never, result, possible-by, possible-let}
@@ -35,10 +36,11 @@ module _ (cfg : Config) (st : State) (s : Step) {v : Value} (a : stepOf cfg st s
   unfolding lifeLets finishedLets
   finished-lets w f = rw f at (all-told _ (let-told cfg st s refl let-through w .life) .1 .0)
 
-  pub waiting-lets : rowOf (s .code) .who ≡ aSlot → slotIn (st .slots) (s .who) .life .waiting ≡ true → (s .code ≡ resultCode) × (slotIn (st .slots) (s .who) .life .on ≡ s .what)
-  unfolding lifeLets
+  pub waiting-lets : rowOf (s .code) .who ≡ aSlot → isCaller (slotIn (st .slots) (s .who) .life) ≡ true → (s .code ≡ resultCode) × (slotIn (st .slots) (s .who) .life .awaited .on ≡ s .what)
+  unfolding lifeLets waitingLets endsWaiting
   waiting-lets w f =
-      let t = rw f at (all-told _ (let-told cfg st s refl let-through w .life) .0) in
+      let p = eqb-true (slotIn (st .slots) (s .who) .life .awaited .part) operationTag f in
+      let t = rw p at (all-told _ (let-told cfg st s refl let-through w .life) .0) in
       (eqb-true _ _ (both-left (eqb (s .code) resultCode) _ t), eqb-true _ _ (both-right (eqb (s .code) resultCode) _ t))
 
   -- a send is of a queued element

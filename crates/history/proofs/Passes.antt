@@ -15,8 +15,9 @@ use Rattle.faces.specs.Types.{Value, Config, Elements, Operation, Operations, S
 use Rattle.config.specs.Tables.{runnableConfIn, timerConfIn}
 use Rattle.state.specs.Parts.{noOperation}
 use Rattle.state.specs.Tables.{runnableIn, areaIn, operationIn, slotIn, withSlot, withAreas, withElements, withSlots}
+use Rattle.rules.specs.Rows.{noPart}
 use Rattle.rules.specs.Sound.{timesIn, operationSound, operationsSound}
-use Rattle.effects.specs.Steps.{stored, entered, exited, fed, isOpen, runningOn, collected, woken, ticked, operationLets, operationsLet, operationAfter, operationsAfter, waited}
+use Rattle.effects.specs.Steps.{stored, entered, exited, fed, isOpen, runningOn, goneOn, woken, ticked, operationLets, operationsLet, operationAfter, operationsAfter, waited}
 use Rattle.stays_sound.specs.Facts.{Sound, CanWait}
 use Rattle.stays_sound.proofs.Told.{operations-length}
 use Rattle.stays_sound.proofs.Kept.{runnable-kept, slot-kept, slot-has, fed-kept, after-kept, waited-kept}
@@ -68,14 +69,14 @@ fed-calm cfg st p v = still st _ refl refl refl (record { operations = same-call
 -- ---- a slot that owes what it owed, has failed and is finished as before, and does not begin to wait
 
 slot-alike : (st m : State) (i : ℕ) (x : Slot) → m .operations ≡ st .operations → m .runnables ≡ st .runnables → x .owed ≡ slotIn (st .slots) i .owed → x .life .failed ≡ slotIn (st .slots) i .life .failed → x .life .finished ≡ slotIn (st .slots) i .life .finished
-    → (slotIn (st .slots) i .life .waiting ≡ false → x .life .waiting ≡ false) → x .used ≡ slotIn (st .slots) i .used → Alike 0 st (withSlots m (withSlot (st .slots) i x))
+    → (slotIn (st .slots) i .life .awaited .part ≡ noPart → x .life .awaited .part ≡ noPart) → x .used ≡ slotIn (st .slots) i .used → Alike 0 st (withSlots m (withSlot (st .slots) i x))
 slot-alike st m i x e f o l n w u = record {
   operations = rw e (same-calls (st .operations));
   requests = λ r. rw f;
   owed = slot-kept (λ y. y .owed) (st .slots) i x o;
   failed = slot-kept (λ y. y .life .failed) (st .slots) i x l;
   finished = slot-kept (λ y. y .life .finished) (st .slots) i x n;
-  running = slot-has (λ k y. slotIn (st .slots) k .life .waiting ≡ false → y .life .waiting ≡ false) (st .slots) i x w (λ k r. r);
+  running = slot-has (λ k y. slotIn (st .slots) k .life .awaited .part ≡ noPart → y .life .awaited .part ≡ noPart) (st .slots) i x w (λ k r. r);
   used = slot-kept (λ y. y .used) (st .slots) i x u;
 }
 
@@ -85,7 +86,7 @@ enter-alike st i a = slot-alike st (withAreas st _) i _ refl refl refl refl refl
 pub exit-alike : (st : State) (i a : ℕ) → Alike 0 st (exited st i a)
 exit-alike st i a = slot-alike st (withAreas st _) i _ refl refl refl refl refl (λ r. r) refl
 
-pub collect-calm : (st : State) (i : ℕ) → Calm 0 st (collected st i)
+pub collect-calm : (st : State) (i : ℕ) → Calm 0 st (goneOn st i)
 collect-calm st i = record {
   alike = slot-alike st st i _ refl refl refl refl refl (λ r. refl) refl;
   unmoved = record { areas = λ a. refl; stacks = λ a. slot-kept (λ x. timesIn a (x .stack)) (st .slots) i (runningOn (slotIn (st .slots) i)) refl };

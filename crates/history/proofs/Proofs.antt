@@ -22,7 +22,7 @@ use Rattle.state.specs.Start.{startOf}
 use Rattle.state.specs.Tables.{slotIn}
 use Rattle.effects.specs.Steps.{lowestEmpty}
 use Rattle.effects.specs.Step.{stepOf}
-use Rattle.rules.specs.Sound.{waitersOf}
+use Rattle.rules.specs.Sound.{isCaller, waitersOf}
 use Rattle.stays_sound.specs.Facts.{Sound}
 use Rattle.rules.proofs.Configured.{runnables-most, areas-most, server-there}
 use Rattle.stays_sound.proofs.Kept.{here, lowest-empty}
@@ -161,10 +161,10 @@ calls-one-by-one cfg before after s st c e q =
     call-alone cfg (m .mid) s (historyOf cfg before) (boundIn cfg (s .what) before) (tied-at cfg before (m .mid) (m .before)) (bounds-at cfg before (m .mid) (m .before) .bound (s .what)) (way-there cfg before after s st c e q refl)
 
 -- who waits for a call: it does so in the state, and its call is at its place
-waits-there : (cfg : Config) (rs : List Step) (st : State) (i : ℕ) → Run cfg rs st → 0 < awaitsIn cfg i rs → slotIn (st .slots) i .life .waiting ≡ true
-waits-there cfg rs st i e p = by (slotIn (st .slots) i .life .waiting) refl
+waits-there : (cfg : Config) (rs : List Step) (st : State) (i : ℕ) → Run cfg rs st → 0 < awaitsIn cfg i rs → isCaller (slotIn (st .slots) i .life) ≡ true
+waits-there cfg rs st i e p = by (isCaller (slotIn (st .slots) i .life)) refl
   where
-    by : (b : Bool) → slotIn (st .slots) i .life .waiting ≡ b → slotIn (st .slots) i .life .waiting ≡ true
+    by : (b : Bool) → isCaller (slotIn (st .slots) i .life) ≡ b → isCaller (slotIn (st .slots) i .life) ≡ true
     by true w = w
     by false w = absurd (omega (arith, p, awaits-at cfg rs st e .idle i w))
 
@@ -286,9 +286,9 @@ pub finished-followed : OfRuns FinishedFollowed
 finished-followed cfg rs st c e i b = backs-at cfg rs st e .finished i
 
 pub waiting-followed : OfRuns WaitingFollowed
-waiting-followed cfg rs st c e i b = by (slotIn (st .slots) i .life .waiting) refl
+waiting-followed cfg rs st c e i b = by (isCaller (slotIn (st .slots) i .life)) refl
   where
-    by : (w : Bool) → slotIn (st .slots) i .life .waiting ≡ w → slotIn (st .slots) i .life .waiting ≡ ltb 0 (awaitsIn cfg i rs)
+    by : (w : Bool) → isCaller (slotIn (st .slots) i .life) ≡ w → isCaller (slotIn (st .slots) i .life) ≡ ltb 0 (awaitsIn cfg i rs)
     by true w = w ∙ sym (lt-ltb 0 (awaitsIn cfg i rs) (omega (arith, awaits-at cfg rs st e .each i w .place)))
     by false w = w ∙ sym (ap (ltb 0) (awaits-at cfg rs st e .idle i w))
 

@@ -25,15 +25,15 @@ use Rattle.config.specs.Tables.{runnableConfIn, operationConfIn}
 use Rattle.state.specs.Parts.{noSlot}
 use Rattle.state.specs.Start.{startOf}
 use Rattle.state.specs.Tables.{noSlots, runnableIn, slotIn, withSlot}
-use Rattle.rules.specs.Sound.{waitsOn, waitersOf, isBound}
+use Rattle.rules.specs.Sound.{isCaller, waitsOn, waitersOf, isBound}
 use Rattle.rules.specs.Refusals.{asksSynchronous}
 use Rattle.rules.proofs.Configured.{operations-most}
-use Rattle.effects.specs.Steps.{entering, exiting, fed, called, callerAfter, waitingOn, runningOn, collected, closed, finishing, failing, instanceOf, lowestEmpty, spawned, waited}
+use Rattle.effects.specs.Steps.{entering, exiting, fed, called, callerAfter, waitingOn, runningOn, goneOn, closed, finishing, failing, instanceOf, lowestEmpty, spawned, waited}
 use Rattle.effects.specs.Step.{stepOf}
 use Rattle.stays_sound.specs.Facts.{Sound, CanCall, CanCollect}
 use Rattle.stays_sound.proofs.Told.{told, slots-length}
 use Rattle.stays_sound.proofs.Kept.{lowest-empty, slot-kept, slot-inside}
-use Rattle.stays_sound.proofs.Waiters.{waits-none, empty-runs, new-runs, call-waiters, collect-waiters}
+use Rattle.stays_sound.proofs.Waiters.{no-caller, waits-none, empty-runs, new-runs, call-waiters, collect-waiters}
 use Rattle.stays_sound.proofs.Ways.{Way}
 use Rattle.stays_sound.proofs.Ways as go
 use Rattle.stays_sound.proofs.Accepted.{accepted, claim-told, gone, way, call-told, end-told, spawn-told}
@@ -51,7 +51,7 @@ use Rattle.history.proofs.Lives.{Lives, lives-one, lives-on}
 pub data Waits (cfg : Config) (st : State) (s : Step) (st′ : State) : Type 0 where
   calls : s .code ≡ callCode → s .claim ≡ okV → operationConfIn (cfg .operations) (s .what) .asynchronous ≡ false → CanCall cfg st (s .who) (s .what) (s .argument)
       → st′ .slots ≡ called cfg st (s .who) (s .what) (s .argument) .slots → Waits cfg st s st′
-  collects : s .code ≡ resultCode → CanCollect cfg st (s .who) (s .what) → st′ .slots ≡ collected st (s .who) .slots → Waits cfg st s st′
+  collects : s .code ≡ resultCode → CanCollect cfg st (s .who) (s .what) → st′ .slots ≡ goneOn st (s .who) .slots → Waits cfg st s st′
   rests : binds cfg s ≡ false → frees cfg s ≡ false → ((o k : ℕ) → waitsOn o (slotIn (st′ .slots) k) ≡ waitsOn o (slotIn (st .slots) k)) → Waits cfg st s st′
 
 module _ (cfg : Config) (st : State) (s : Step) where
@@ -102,11 +102,11 @@ module _ (cfg : Config) (st : State) (s : Step) where
   waits-way g c k (go.collect z) = collects c z refl
   waits-way g c k (go.answer z e) = one (s .who) (finishing (slotIn (st .slots) (s .who))) c refl refl refl (λ o. refl)
   waits-way g c k (go.late z e) = one (s .who) (finishing (slotIn (st .slots) (s .who))) c refl refl refl (λ o. refl)
-  waits-way g c k (go.end z) = one (s .who) noSlot c refl refl refl (λ o. sym (waits-none o (slotIn (st .slots) (s .who)) (z .running)))
+  waits-way g c k (go.end z) = one (s .who) noSlot c refl refl refl (λ o. sym (waits-none o (slotIn (st .slots) (s .who)) (no-caller (slotIn (st .slots) (s .who) .life) (z .running))))
   waits-way g c k (go.spawn z) =
       let x = instanceOf (runnableConfIn (cfg .runnables) (s .what)) (s .what) (runnableIn (st .runnables) (s .what)) in
       one (lowestEmpty (st .slots)) x c refl refl refl
-      (λ o. waits-none o x (new-runs cfg st (s .what)) ∙ sym (waits-none o (slotIn (st .slots) (lowestEmpty (st .slots))) (empty-runs cfg st (lowestEmpty (st .slots)) g (z .slot) (lowest-empty (st .slots) (z .slot)))))
+      (λ o. waits-none o x (no-caller (x .life) (new-runs cfg st (s .what))) ∙ sym (waits-none o (slotIn (st .slots) (lowestEmpty (st .slots))) (no-caller (slotIn (st .slots) (lowestEmpty (st .slots)) .life) (empty-runs cfg st (lowestEmpty (st .slots)) g (z .slot) (lowest-empty (st .slots) (z .slot))))))
   waits-way g c k (go.timeout z) = same c refl refl refl
   waits-way g c k (go.tick z) = same c refl refl refl
   waits-way g c k (go.wait z) = same c refl refl refl
@@ -198,9 +198,9 @@ module _ (cfg : Config) (st : State) (s : Step) (st′ : State) (rs : List Step)
           other o n = call-waiters cfg st (s .who) (s .what) (s .argument) g z o ∙ rw (ne-eqb (s .what) o (λ d. n (sym d)), both-no (not (operationConfIn (cfg .operations) (s .what) .asynchronous)) false refl) (add-zero _)
       go (collects c z q) o (yes d) =
           rw (q, d, eq-eqb (s .what) (s .what) refl, result-binds cfg s c, frees-told cfg s c (z .synchronous))
-          (le-ltb 0 (waitersOf (collected st (s .who) .slots) (s .what)) (omega (arith, collect-waiters cfg st (s .who) (s .what) g z (s .what), ap bit (eq-eqb (s .what) (s .what) refl), g .waiters .most (s .what) (omega (arith, z .inside, operations-most cfg (g .config))))))
+          (le-ltb 0 (waitersOf (goneOn st (s .who) .slots) (s .what)) (omega (arith, collect-waiters cfg st (s .who) (s .what) g z (s .what), ap bit (eq-eqb (s .what) (s .what) refl), g .waiters .most (s .what) (omega (arith, z .inside, operations-most cfg (g .config))))))
       go (collects c z q) o (no n) =
-          let w : waitersOf (collected st (s .who) .slots) o ≡ waitersOf (st .slots) o = omega (arith, collect-waiters cfg st (s .who) (s .what) g z o, ap bit (ne-eqb (s .what) o (λ d. n (sym d)))) in
+          let w : waitersOf (goneOn st (s .who) .slots) o ≡ waitersOf (st .slots) o = omega (arith, collect-waiters cfg st (s .who) (s .what) g z o, ap bit (ne-eqb (s .what) o (λ d. n (sym d)))) in
           rw q (ap (ltb 0) w ∙ l .bound o ∙ sym (bound-other cfg s o (boundIn cfg o rs) (λ d. n (sym d))))
       go (rests a b e) o d = ap (ltb 0) (same-waiters (st .slots) (st′ .slots) o (e o)) ∙ l .bound o ∙ sym (bound-rests cfg s o (boundIn cfg o rs) a b)
 
@@ -220,13 +220,13 @@ pub record Waiter (rs : List Step) (h : History) (i o k : ℕ) : Type 0 where
   pub newest : k ≡ latestOn h o
 
 pub record Awaits (cfg : Config) (ss : Slots) (rs : List Step) (h : History) : Type 0 where
-  pub each : (i : ℕ) → slotIn ss i .life .waiting ≡ true → Waiter rs h i (slotIn ss i .life .on) (awaitsIn cfg i rs)
-  pub idle : (i : ℕ) → slotIn ss i .life .waiting ≡ false → awaitsIn cfg i rs ≡ 0
+  pub each : (i : ℕ) → isCaller (slotIn ss i .life) ≡ true → Waiter rs h i (slotIn ss i .life .awaited .on) (awaitsIn cfg i rs)
+  pub idle : (i : ℕ) → isCaller (slotIn ss i .life) ≡ false → awaitsIn cfg i rs ≡ 0
 
 pub awaits-start : (cfg : Config) → Awaits cfg (startOf cfg .slots) [] nothing
 unfolding startOf noSlots slotIn noSlot awaitsIn awaitsFrom
 awaits-start cfg = record {
-  each = λ i e. absurd (clash _ e (all-alike (λ (y : Slot). y .life .waiting ≡ false) 32 noSlot i refl));
+  each = λ i e. absurd (clash _ e (all-alike (λ (y : Slot). isCaller (y .life) ≡ false) 32 noSlot i refl));
   idle = λ i e. refl;
 }
 
@@ -277,19 +277,19 @@ waiter-on cfg rs h s i o k n l w = record {
 -- ---- slots that wait on the same
 
 module _ (x y : Slot) (e : (o : ℕ) → waitsOn o y ≡ waitsOn o x) where
-  same-waits : y .life .waiting ≡ true → (x .life .waiting ≡ true) × (x .life .on ≡ y .life .on)
+  same-waits : isCaller (y .life) ≡ true → (isCaller (x .life) ≡ true) × (x .life .awaited .on ≡ y .life .awaited .on)
   unfolding waitsOn
   same-waits w =
-      let t : waitsOn (y .life .on) x ≡ true = sym (e (y .life .on)) ∙ rw (w, eq-eqb (y .life .on) (y .life .on) refl) in
-      (both-left (x .life .waiting) _ t, eqb-true _ _ (both-right (x .life .waiting) _ t))
+      let t : waitsOn (y .life .awaited .on) x ≡ true = sym (e (y .life .awaited .on)) ∙ rw (w, eq-eqb (y .life .awaited .on) (y .life .awaited .on) refl) in
+      (both-left (isCaller (x .life)) _ t, eqb-true _ _ (both-right (isCaller (x .life)) _ t))
 
-  same-rests : y .life .waiting ≡ false → x .life .waiting ≡ false
+  same-rests : isCaller (y .life) ≡ false → isCaller (x .life) ≡ false
   unfolding waitsOn
-  same-rests w = by (x .life .waiting) refl
+  same-rests w = by (isCaller (x .life)) refl
     where
-      by : (b : Bool) → x .life .waiting ≡ b → x .life .waiting ≡ false
+      by : (b : Bool) → isCaller (x .life) ≡ b → isCaller (x .life) ≡ false
       by false q = q
-      by true q = absurd (clash _ (e (x .life .on) ∙ rw (q, eq-eqb (x .life .on) (x .life .on) refl)) (waits-none (x .life .on) y w))
+      by true q = absurd (clash _ (e (x .life .awaited .on) ∙ rw (q, eq-eqb (x .life .awaited .on) (x .life .awaited .on) refl)) (waits-none (x .life .awaited .on) y w))
 
 -- ---- every accepted step
 
@@ -301,29 +301,29 @@ module _ (cfg : Config) (st : State) (s : Step) {u : Value} (a : stepOf cfg st s
   waits-by = waits-way cfg st s fine refl (claim-told cfg st s a) (gone cfg st s refl a)
 
   -- who waits neither ends nor finds another in its slot
-  still : (rs : List Step) (i : ℕ) → slotIn (st .slots) i .life .waiting ≡ true → livesIn i (rs ++ (s ∷ [])) ≡ livesIn i rs
+  still : (rs : List Step) (i : ℕ) → isCaller (slotIn (st .slots) i .life) ≡ true → livesIn i (rs ++ (s ∷ [])) ≡ livesIn i rs
   still rs i w =
       lives-one i rs s
       ∙ lives-on i (length rs + 1) (livesIn i rs) s
       (λ c e. let z = spawn-told cfg st s (way cfg st s c refl a) in
       let k = lowestEmpty (st .slots) in
       let q : k ≡ i = sym (ap (λ (v : Value). v .number) (z .1)) ∙ e in
-      clash _ w (ap (λ (j : ℕ). slotIn (st .slots) j .life .waiting) (sym q) ∙ empty-runs cfg st k fine (z .0 .slot) (lowest-empty (st .slots) (z .0 .slot))))
-      (λ c e. clash _ w (ap (λ (j : ℕ). slotIn (st .slots) j .life .waiting) (sym e) ∙ end-told cfg st s (way cfg st s c refl a) .running))
+      clash _ w (ap (λ (j : ℕ). isCaller (slotIn (st .slots) j .life)) (sym q) ∙ no-caller (slotIn (st .slots) k .life) (empty-runs cfg st k fine (z .0 .slot) (lowest-empty (st .slots) (z .0 .slot)))))
+      (λ c e. clash _ w (ap (λ (j : ℕ). isCaller (slotIn (st .slots) j .life)) (sym e) ∙ no-caller (slotIn (st .slots) (s .who) .life) (end-told cfg st s (way cfg st s c refl a) .running)))
 
   -- no call starts where one waits
-  kept-out : (i : ℕ) → slotIn (st .slots) i .life .waiting ≡ true → s .code ≡ callCode → s .claim ≡ okV → s .what ≡ slotIn (st .slots) i .life .on → ⊥
+  kept-out : (i : ℕ) → isCaller (slotIn (st .slots) i .life) ≡ true → s .code ≡ callCode → s .claim ≡ okV → s .what ≡ slotIn (st .slots) i .life .awaited .on → ⊥
   unfolding waitersOf waitsOn slotIn noSlot
   kept-out i w c k e =
       let z = call-told cfg st s k (way cfg st s c refl a) in
-      let b = inside-of (λ (y : Slot). y .life .waiting ≡ true) (st .slots .at) i noSlot (λ q. clash false q refl) w in
-      let t : waitsOn (s .what) (slotIn (st .slots) i) ≡ true = rw (w, eq-eqb (slotIn (st .slots) i .life .on) (s .what) (sym e)) in
+      let b = inside-of (λ (y : Slot). isCaller (y .life) ≡ true) (st .slots .at) i noSlot (λ q. clash false q refl) w in
+      let t : waitsOn (s .what) (slotIn (st .slots) i) ≡ true = rw (w, eq-eqb (slotIn (st .slots) i .life .awaited .on) (s .what) (sym e)) in
       omega (arith, z .free, sum-term (λ (j : ℕ). bit (waitsOn (s .what) (slotIn (st .slots) j))) i 32 (omega (arith, b, slots-length cfg st fine)), ap bit t)
 
   module _ (rs : List Step) (h : History) (t : Tied st h) (n : Named rs h) (v : Lives (st .slots) rs) (l : Awaits cfg (st .slots) rs h) where
     -- who waited before goes on waiting
-    goes : (i : ℕ) → slotIn (st .slots) i .life .waiting ≡ true → Waiter (rs ++ (s ∷ [])) (observe cfg h s) i (slotIn (st .slots) i .life .on) (awaitsIn cfg i rs)
-    goes i w = waiter-on cfg rs h s i (slotIn (st .slots) i .life .on) (awaitsIn cfg i rs) (kept-out i w) (still rs i w) (l .each i w)
+    goes : (i : ℕ) → isCaller (slotIn (st .slots) i .life) ≡ true → Waiter (rs ++ (s ∷ [])) (observe cfg h s) i (slotIn (st .slots) i .life .awaited .on) (awaitsIn cfg i rs)
+    goes i w = waiter-on cfg rs h s i (slotIn (st .slots) i .life .awaited .on) (awaitsIn cfg i rs) (kept-out i w) (still rs i w) (l .each i w)
 
     -- the caller of a synchronous operation begins to wait
     begin : s .code ≡ callCode → s .claim ≡ okV → operationConfIn (cfg .operations) (s .what) .asynchronous ≡ false → CanCall cfg st (s .who) (s .what) (s .argument) → Waiter (rs ++ (s ∷ [])) (observe cfg h s) (s .who) (s .what) (length rs + 1)
@@ -357,28 +357,28 @@ module _ (cfg : Config) (st : State) (s : Step) {u : Value} (a : stepOf cfg st s
         old : (i : ℕ) → (i ≡ s .who → ⊥) → getD (called cfg st (s .who) (s .what) (s .argument) .slots .at) i noSlot ≡ slotIn (st .slots) i
         old i d = getD-set-other (st .slots .at) (s .who) i _ noSlot d
 
-        each : (i : ℕ) → Dec (i ≡ s .who) → slotIn (called cfg st (s .who) (s .what) (s .argument) .slots) i .life .waiting ≡ true
-            → Waiter (rs ++ (s ∷ [])) (observe cfg h s) i (slotIn (called cfg st (s .who) (s .what) (s .argument) .slots) i .life .on) (awaitsIn cfg i (rs ++ (s ∷ [])))
+        each : (i : ℕ) → Dec (i ≡ s .who) → isCaller (slotIn (called cfg st (s .who) (s .what) (s .argument) .slots) i .life) ≡ true
+            → Waiter (rs ++ (s ∷ [])) (observe cfg h s) i (slotIn (called cfg st (s .who) (s .what) (s .argument) .slots) i .life .awaited .on) (awaitsIn cfg i (rs ++ (s ∷ [])))
         each i (yes d) w = rw (d, new, awaits-one cfg (s .who) rs s, eq-eqb (s .who) (s .who) refl, binds-told cfg s c k e) (begin c k e z)
         each i (no d) w = rw (old i d, awaits-one cfg i rs s, awaits-other cfg s i (length rs + 1) (awaitsIn cfg i rs) (λ y. d (sym y))) (goes i (rw (old i d) at w))
 
-        idle : (i : ℕ) → Dec (i ≡ s .who) → slotIn (called cfg st (s .who) (s .what) (s .argument) .slots) i .life .waiting ≡ false → awaitsIn cfg i (rs ++ (s ∷ [])) ≡ 0
+        idle : (i : ℕ) → Dec (i ≡ s .who) → isCaller (slotIn (called cfg st (s .who) (s .what) (s .argument) .slots) i .life) ≡ false → awaitsIn cfg i (rs ++ (s ∷ [])) ≡ 0
         idle i (yes d) w = absurd (clash true refl (rw (d, new) at w))
         idle i (no d) w = awaits-one cfg i rs s ∙ awaits-other cfg s i (length rs + 1) (awaitsIn cfg i rs) (λ y. d (sym y)) ∙ l .idle i (rw (old i d) at w)
     awaits-went st′ (collects c z q) = record { each = λ i. rw q (each i (ℕ-discrete i (s .who))); idle = λ i. rw q (idle i (ℕ-discrete i (s .who))) }
       where
-        new : getD (collected st (s .who) .slots .at) (s .who) noSlot ≡ runningOn (slotIn (st .slots) (s .who))
+        new : getD (goneOn st (s .who) .slots .at) (s .who) noSlot ≡ runningOn (slotIn (st .slots) (s .who))
         new = getD-set-same (st .slots .at) (s .who) _ noSlot (slot-inside (st .slots) (s .who) (z .there .used))
 
-        old : (i : ℕ) → (i ≡ s .who → ⊥) → getD (collected st (s .who) .slots .at) i noSlot ≡ slotIn (st .slots) i
+        old : (i : ℕ) → (i ≡ s .who → ⊥) → getD (goneOn st (s .who) .slots .at) i noSlot ≡ slotIn (st .slots) i
         old i d = getD-set-other (st .slots .at) (s .who) i _ noSlot d
 
-        each : (i : ℕ) → Dec (i ≡ s .who) → slotIn (collected st (s .who) .slots) i .life .waiting ≡ true
-            → Waiter (rs ++ (s ∷ [])) (observe cfg h s) i (slotIn (collected st (s .who) .slots) i .life .on) (awaitsIn cfg i (rs ++ (s ∷ [])))
+        each : (i : ℕ) → Dec (i ≡ s .who) → isCaller (slotIn (goneOn st (s .who) .slots) i .life) ≡ true
+            → Waiter (rs ++ (s ∷ [])) (observe cfg h s) i (slotIn (goneOn st (s .who) .slots) i .life .awaited .on) (awaitsIn cfg i (rs ++ (s ∷ [])))
         each i (yes d) w = absurd (clash false (rw (d, new) at w) refl)
         each i (no d) w = rw (old i d, awaits-one cfg i rs s, awaits-other cfg s i (length rs + 1) (awaitsIn cfg i rs) (λ y. d (sym y))) (goes i (rw (old i d) at w))
 
-        idle : (i : ℕ) → Dec (i ≡ s .who) → slotIn (collected st (s .who) .slots) i .life .waiting ≡ false → awaitsIn cfg i (rs ++ (s ∷ [])) ≡ 0
+        idle : (i : ℕ) → Dec (i ≡ s .who) → isCaller (slotIn (goneOn st (s .who) .slots) i .life) ≡ false → awaitsIn cfg i (rs ++ (s ∷ [])) ≡ 0
         idle i (yes d) w = rw (d, awaits-one cfg (s .who) rs s, eq-eqb (s .who) (s .who) refl, result-binds cfg s c, frees-told cfg s c (z .synchronous))
         idle i (no d) w = awaits-one cfg i rs s ∙ awaits-other cfg s i (length rs + 1) (awaitsIn cfg i rs) (λ y. d (sym y)) ∙ l .idle i (rw (old i d) at w)
     awaits-went st′ (rests x y e) = record {

@@ -21,7 +21,7 @@ use Rattle.state.specs.Queues.{topArea}
 use Rattle.state.specs.Tables.{maxSlots, runnableIn, areaIn, elementIn, operationIn, slotIn}
 use Rattle.state.specs.Start.{startOf}
 use Rattle.rules.specs.Rows.{aSlot, rowOf}
-use Rattle.rules.specs.Sound.{timesIn, isBound, soundOf}
+use Rattle.rules.specs.Sound.{isCaller, timesIn, isBound, soundOf}
 use Rattle.effects.specs.Step.{agrees, possibleOf, stepOf}
 use Rattle.history.specs.History.{Request, noRequest, byInstance, byFailure, Ending, historyOf, queuedAt, takenBy, failedBy, latestOn, endsOf, endedOn, lastOn, isUnended, given, delivered, endedCall, Started, EndedBy, timeSince, lastTick, InTime, livesIn, backIn, boundIn, awaitsIn, holderOf, allQueued, allSpawns}
 
@@ -262,7 +262,7 @@ FinishedFollowed cfg rs st = (i : ℕ) → i < maxSlots → slotIn (st .slots) i
 
 -- an instance waits exactly if it has a call that it has not collected (W-202)
 abbrev pub WaitingFollowed : Config → List Step → State → Type 0
-WaitingFollowed cfg rs st = (i : ℕ) → i < maxSlots → slotIn (st .slots) i .life .waiting ≡ ltb 0 (awaitsIn cfg i rs)
+WaitingFollowed cfg rs st = (i : ℕ) → i < maxSlots → isCaller (slotIn (st .slots) i .life) ≡ ltb 0 (awaitsIn cfg i rs)
 
 -- an operation is bound, by an instance that waits on it, exactly if the recording says so; and so is every synchronous one whose latest call has no ending yet (W-202)
 abbrev pub BoundFollowed : Config → List Step → State → Type 0

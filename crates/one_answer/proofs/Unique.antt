@@ -357,6 +357,9 @@ refusals-row-of κs a x y s t = same
 pub refusals-formed : One Rattle.refusals.proofs.formed.Kinds.ps Rattle.refusals.proofs.formed.Kinds.r Rattle.refusals.proofs.formed.Reads.Post
 refusals-formed κs a x y s t = same
 
+pub refusals-waiting-lets : One Rattle.refusals.proofs.waiting_lets.Kinds.ps Rattle.refusals.proofs.waiting_lets.Kinds.r Rattle.refusals.proofs.waiting_lets.Reads.Post
+refusals-waiting-lets κs a x y s t = same
+
 pub refusals-instance-refusal : One Rattle.refusals.proofs.instance_refusal.Kinds.ps Rattle.refusals.proofs.instance_refusal.Kinds.r Rattle.refusals.proofs.instance_refusal.Reads.Post
 refusals-instance-refusal κs a x y s t = same
 
@@ -375,6 +378,12 @@ shared-steps-refuse κs a x y s t = same
 
 pub shared-steps-take : One Rattle.shared_steps.proofs.take.Kinds.ps Rattle.shared_steps.proofs.take.Kinds.r Rattle.shared_steps.proofs.take.Reads.Post
 shared-steps-take κs a x y s t = same
+
+pub shared-steps-awaiting : One Rattle.shared_steps.proofs.awaiting.Kinds.ps Rattle.shared_steps.proofs.awaiting.Kinds.r Rattle.shared_steps.proofs.awaiting.Reads.Post
+shared-steps-awaiting κs a x y s t = same
+
+pub shared-steps-gone-on : One Rattle.shared_steps.proofs.gone_on.Kinds.ps Rattle.shared_steps.proofs.gone_on.Kinds.r Rattle.shared_steps.proofs.gone_on.Reads.Post
+shared-steps-gone-on κs a x y s t = same
 
 pub shared-steps-within : One Rattle.shared_steps.proofs.within.Kinds.ps Rattle.shared_steps.proofs.within.Kinds.r Rattle.shared_steps.proofs.within.Reads.Post
 shared-steps-within κs a x y s t p q = same (p .1) (q .1)

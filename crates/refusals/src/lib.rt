@@ -1,11 +1,10 @@
 // Refusals 2 to 5, and 30 behind 2; a slot's steps have all of them, the scheduler's steps have refusals 2 and 3 only. What a code's entries are to be, whether the edition has it, whether the parts are there, whose they are, and what an instance may do as it lives.
 ghost use mathlib.Core.Path.{_≡_};
 ghost use mathlib.Core.Bool.{not};
-ghost use lib.Dec.{eqb};
-ghost use Rattle.laws.specs.Choice.{both, either};
-ghost use Rattle.numbers.specs.Codes.{resultCode};
+ghost use Rattle.laws.specs.Choice.{either};
+ghost use Rattle.rules.specs.Sound.{isWaiting};
 ghost use Rattle.rules.specs.Rows.{rowOf};
-ghost use Rattle.rules.specs.Refusals.{argues, formed, partThere, queuesAs, partOwn, asksSynchronous, finishedLets, failedLets, lifeLets, ownedRefusal, instanceRefusal, schedulerRefusal};
+ghost use Rattle.rules.specs.Refusals.{argues, formed, partThere, queuesAs, partOwn, asksSynchronous, finishedLets, failedLets, endsWaiting, waitingLets, lifeLets, ownedRefusal, instanceRefusal, schedulerRefusal};
 use config::Config;
 use rules::Row;
 use state::Life;
@@ -155,11 +154,11 @@ fn asks_synchronous(cfg: Config, code: u8, what: u8) -> bool
 }
 
 // The last test of what an instance may do: a synchronous result is for one that waits.
-fn may_ask(cfg: Config, waiting: bool, code: u8, what: u8) -> bool
-    ensures { λ r. ⌜ r ≡ either (not (asksSynchronous cfg code what)) waiting ⌝ }
+fn may_ask(cfg: Config, l: Life, code: u8, what: u8) -> bool
+    ensures { λ r. ⌜ r ≡ either (not (asksSynchronous cfg code what)) (isWaiting l) ⌝ }
 {
     if asks_synchronous(cfg, code, what) {
-        return waiting;
+        return is_waiting(l);
     }
     true
 }
@@ -185,12 +184,31 @@ fn failed_lets(l: Life, code: u8) -> bool
     true
 }
 
-// A waiting instance may ask for that result alone.
-fn waiting_lets(waiting: bool, on: u8, code: u8, what: u8) -> bool
-    ensures { λ r. ⌜ r ≡ either (not waiting) (both (eqb code resultCode) (eqb on what)) ⌝ }
+// What ends the waiting of an instance: the result on its operation.
+fn ends_waiting(l: Life, code: u8, what: u8) -> bool
+    ensures { λ r. ⌜ r ≡ endsWaiting l code what ⌝ }
 {
-    if waiting {
-        return code == numbers::CODE_RESULT && on == what;
+    let a = l.awaited;
+    if a.part == numbers::TAG_OPERATION {
+        return code == numbers::CODE_RESULT && a.on == what;
+    }
+    false
+}
+
+// The instance waits.
+fn is_waiting(l: Life) -> bool
+    ensures { λ r. ⌜ r ≡ isWaiting l ⌝ }
+{
+    let a = l.awaited;
+    NO_PART < a.part
+}
+
+// A waiting instance may take only what ends its waiting.
+pub fn waiting_lets(l: Life, code: u8, what: u8) -> bool
+    ensures { λ r. ⌜ r ≡ waitingLets l code what ⌝ }
+{
+    if is_waiting(l) {
+        return ends_waiting(l, code, what);
     }
     true
 }
@@ -198,8 +216,8 @@ fn waiting_lets(waiting: bool, on: u8, code: u8, what: u8) -> bool
 fn life_lets(cfg: Config, l: Life, code: u8, what: u8) -> bool
     ensures { λ r. ⌜ r ≡ lifeLets cfg l code what ⌝ }
 {
-    waiting_lets(l.waiting, l.on, code, what)
-        && (finished_lets(l, code) && (failed_lets(l, code) && may_ask(cfg, l.waiting, code, what)))
+    waiting_lets(l, code, what)
+        && (finished_lets(l, code) && (failed_lets(l, code) && may_ask(cfg, l, code, what)))
 }
 
 // For a step of a slot: the first of 2, 3, 4 and 5 that holds, or 0.

@@ -14,7 +14,7 @@ use Rattle.config.specs.Tables.{operationConfIn}
 use Rattle.entries.specs.Entries.{countOf, entryOf}
 use Rattle.state.specs.Tables.{slotIn}
 use Rattle.rules.specs.declared.Row.{Row}
-use Rattle.rules.specs.Sound.{componentOf}
+use Rattle.rules.specs.Sound.{componentOf, isWaiting, isCaller}
 use Rattle.rules.specs.Rows.{aSlot, scheduler, noPart, anyhow, queued, nothing, aPayload, rowOf}
 
 -- ---- 2: an entry that the code leaves empty is filled, or the argument is of a kind that it does not take, as every bad value is
@@ -58,14 +58,22 @@ finishedLets l code = either (not (l .finished)) (either (eqb code endCode) (bot
 unfoldable pub failedLets : Life → ℕ → Bool
 failedLets l code = either (not (l .failed)) (either (eqb code handBackCode) (either (eqb code exitCode) (eqb code endCode)))
 
--- a waiting instance may ask for that result alone, a finished one and one that has failed may do only what is left to them, and a synchronous result is for one that waits ("Numbers of refusal", 5; W-205)
+-- what ends the waiting of an instance: the result on its operation ("Numbers of refusal", 5)
+unfoldable pub endsWaiting : Life → ℕ → ℕ → Bool
+endsWaiting l code what = both (isCaller l) (both (eqb code resultCode) (eqb (l .awaited .on) what))
+
+-- a waiting instance may take only what ends its waiting ("Numbers of refusal", 5)
+unfoldable pub waitingLets : Life → ℕ → ℕ → Bool
+waitingLets l code what = either (not (isWaiting l)) (endsWaiting l code what)
+
+-- a waiting instance, a finished one and one that has failed may do only what is left to them, and a synchronous result is for one that waits ("Numbers of refusal", 5; W-205)
 unfoldable pub lifeLets : Config → Life → ℕ → ℕ → Bool
 lifeLets cfg l code what =
     allOf
-    (either (not (l .waiting)) (both (eqb code resultCode) (eqb (l .on) what))
+    (waitingLets l code what
     ∷ finishedLets l code
     ∷ failedLets l code
-    ∷ either (not (asksSynchronous cfg code what)) (l .waiting)
+    ∷ either (not (asksSynchronous cfg code what)) (isWaiting l)
     ∷ [])
 
 -- ---- the first that holds, or 0: for steps of a slot, and for the scheduler's, in which who is unused

@@ -6,16 +6,18 @@ use mathlib.Core.Bool.{Bool, not}
 use mathlib.Core.List.{List, [], _∷_}
 use lib.Dec.{ltb, leb, eqb}
 use lib.ListN.{length, getD}
+use Rattle.numbers.specs.Tags.{operationTag}
 use Rattle.laws.specs.Choice.{pick, both, either, alike, bit, allOf}
 use Rattle.laws.specs.Loop.{allBelow, sumBelow, countBelow}
 use Rattle.laws.specs.Row.{filled}
 use Rattle.values.specs.Values.{voidV, timeoutV, serverErrV, neverReceivedV, invalidV, isVoid, isPayload}
-use Rattle.faces.specs.Types.{Value, Config, Client, Requests, Runnable, Runnables, Variable, Variables, Areas, Element, Elements, Operation, Operations, Timer, Timers, Life, Owed, Stack, Slot, Slots, State}
+use Rattle.faces.specs.Types.{Value, Config, Client, Requests, Runnable, Runnables, Variable, Variables, Areas, Element, Elements, Operation, Operations, Timer, Timers, Life, Owed, Stack, Slot, Slots, State, Awaited}
 use Rattle.config.specs.Editions.{marksInvalid}
 use Rattle.config.specs.Tables.{maxRunnableConfs, maxVariableConfs, maxAreaConfs, maxRequiredConfs, maxOperationConfs, maxTimerConfs, runnableConfIn, areaConfIn, requiredConfIn, operationConfIn, timerConfIn, topOf}
 use Rattle.entries.specs.Faults.{isServer, configSound}
 use Rattle.state.specs.Parts.{lastNumber, noClient, maxRequests, maxValues}
 use Rattle.state.specs.Tables.{maxSlots, runnableIn, variableIn, areaIn, elementIn, operationIn, timerIn, slotIn}
+use Rattle.rules.specs.Rows.{noPart}
 
 -- the component of a runnable ("The parts, and how many")
 abbrev pub componentOf : Config → ℕ → ℕ
@@ -103,22 +105,38 @@ timerSound cfg t x = leb (x .count) (timerConfIn (cfg .timers) t .period)
 
 -- ---- one slot at a time
 
+-- an instance waits: it names a kind of part to wait for ("A sound state", waiting)
+abbrev pub isWaiting : Life → Bool
+isWaiting l = ltb noPart (l .awaited .part)
+
+-- it waits on an operation ("A sound state", waiting)
+abbrev pub isCaller : Life → Bool
+isCaller l = eqb (l .awaited .part) operationTag
+
+-- nothing to wait for ("A sound state", unused places)
+unfoldable pub isNoAwaited : Awaited → Bool
+isNoAwaited a = both (eqb (a .part) noPart) (eqb (a .on) 0)
+
 -- a waiter's operation is there, is synchronous, and belongs to the waiter's component ("A sound state", waiting)
 unfoldable pub waitsWell : Config → Life → Bool
 waitsWell cfg l =
     allOf
-    (ltb (l .on) (cfg .operations .n)
-    ∷ not (operationConfIn (cfg .operations) (l .on) .asynchronous)
-    ∷ eqb (operationConfIn (cfg .operations) (l .on) .component) (componentOf cfg (l .runnable))
+    (ltb (l .awaited .on) (cfg .operations .n)
+    ∷ not (operationConfIn (cfg .operations) (l .awaited .on) .asynchronous)
+    ∷ eqb (operationConfIn (cfg .operations) (l .awaited .on) .component) (componentOf cfg (l .runnable))
     ∷ [])
 
--- an instance is of a runnable that is there; a plain one is never finished; it waits well, or names no operation ("A sound state", instances)
+-- an instance waits well on an operation, or for nothing ("A sound state", waiting)
+unfoldable pub awaitsWell : Config → Life → Bool
+awaitsWell cfg l = pick (isCaller l) (waitsWell cfg l) (isNoAwaited (l .awaited))
+
+-- an instance is of a runnable that is there; a plain one is never finished; what it waits for is as it should be ("A sound state", instances)
 unfoldable pub lifeSound : Config → Life → Bool
 lifeSound cfg l =
     allOf
     (ltb (l .runnable) (cfg .runnables .n)
     ∷ either (not (l .finished)) (isServer cfg (l .runnable))
-    ∷ pick (l .waiting) (waitsWell cfg l) (eqb (l .on) 0)
+    ∷ awaitsWell cfg l
     ∷ [])
 
 -- who owes an answer: every unfinished instance of a server and no other; its client is one of that server, and where nobody is owed the place is blank ("A sound state", clients of instances)
@@ -140,20 +158,21 @@ unfoldable pub stackSound : Config → Life → Stack → Bool
 stackSound cfg l s =
     both (leb (s .held) maxAreaConfs) (filled (areaFits cfg (componentOf cfg (l .runnable))) isZero 0 maxAreaConfs (s .held) (s .at))
 
+-- the life of no instance ("A sound state", unused places)
+unfoldable pub isNoLife : Life → Bool
+isNoLife l = allOf (eqb (l .runnable) 0 ∷ isNoAwaited (l .awaited) ∷ not (l .finished) ∷ not (l .failed) ∷ [])
+
+-- nobody is owed ("A sound state", unused places)
+unfoldable pub isNoOwed : Owed → Bool
+isNoOwed w = both (not (w .serving)) (isNoClient (w .client))
+
+-- no area is held ("A sound state", unused places)
+unfoldable pub isNoStack : Stack → Bool
+isNoStack s = both (eqb (s .held) 0) (filled isZero isZero 0 maxAreaConfs 0 (s .at))
+
 -- an empty slot is blank ("A sound state", unused places)
 unfoldable pub isNoSlot : Slot → Bool
-isNoSlot x =
-    allOf
-    (eqb (x .life .runnable) 0
-    ∷ not (x .life .waiting)
-    ∷ eqb (x .life .on) 0
-    ∷ not (x .life .finished)
-    ∷ not (x .life .failed)
-    ∷ not (x .owed .serving)
-    ∷ isNoClient (x .owed .client)
-    ∷ eqb (x .stack .held) 0
-    ∷ filled isZero isZero 0 maxAreaConfs 0 (x .stack .at)
-    ∷ [])
+isNoSlot x = allOf (isNoLife (x .life) ∷ isNoOwed (x .owed) ∷ isNoStack (x .stack) ∷ [])
 
 -- a slot: empty, or with a sound instance in it ("A sound state", instances)
 unfoldable pub slotSound : Config → Slot → Bool
@@ -229,7 +248,7 @@ calledSound os rs ss o = either (not (operationIn os o .calling)) (eqb (clientsA
 
 -- the instance of a slot waits on the operation o (W-202)
 unfoldable pub waitsOn : ℕ → Slot → Bool
-waitsOn o x = both (x .life .waiting) (eqb (x .life .on) o)
+waitsOn o x = both (isCaller (x .life)) (eqb (x .life .awaited .on) o)
 
 -- how many instances wait on the operation o (W-202)
 unfoldable pub waitersOf : Slots → ℕ → ℕ

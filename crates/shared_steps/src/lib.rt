@@ -1,11 +1,13 @@
-// What the code of all steps shares: a step refused or taken, a runnable woken, and how far a loop over a table goes.
+// What the code of all steps shares: a step refused or taken, what an instance waits for, a runnable woken, and how far a loop over a table goes.
 ghost use mathlib.Core.Path.{_≡_};
 ghost use Prim.Native.Nat.{_≤_};
 ghost use lib.Dec.{ltb};
 ghost use Rattle.laws.specs.Choice.{pick};
-ghost use Rattle.effects.specs.Steps.{refused, took, oneMore, woken};
 use config::RunnableConf;
+use state::Awaited;
+ghost use Rattle.effects.specs.Steps.{refused, took, oneMore, woken, awaiting, goneOn};
 use state::Runnable;
+use state::Slot;
 use state::State;
 use state::Stepped;
 use values::Answer;
@@ -29,6 +31,27 @@ pub fn take(v: Value, st: State) -> Stepped
         answer: Answer::Taken(v),
         state: st,
     }
+}
+
+// The slot with what its instance waits for.
+pub fn awaiting(x: Slot, a: Awaited) -> Slot
+    ensures { λ r. ⌜ r ≡ awaiting x a ⌝ }
+{
+    let mut life = x.life;
+    life.awaited = a;
+    let mut y = x;
+    y.life = life;
+    y
+}
+
+// The state after the instance i has gone on: it waits no longer.
+pub fn gone_on(st: State, i: u8) -> State
+    ensures { λ r. ⌜ r ≡ goneOn st i ⌝ }
+{
+    let slots = st.slots;
+    let mut next = st;
+    next.slots = slots.with(i, awaiting(slots.get(i), Awaited::BLANK));
+    next
 }
 
 // How many places of a table a loop goes over: those in use, which are no more than there are.

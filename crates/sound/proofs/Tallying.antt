@@ -17,7 +17,7 @@ use Rattle.laws.proofs.Choosing.{both-left, both-true, all-told}
 use Rattle.laws.proofs.Looping.{all-at, sum-more, sum-same, sum-bound, count-most}
 use Rattle.faces.specs.Types.{Config, Client, Owed, Stack, Slot, Slots}
 use Rattle.state.specs.Tables.{slotIn}
-use Rattle.rules.specs.Sound.{slotSound, lifeSound, owedSound, stackSound, isNoSlot, ofRunnable, timesIn, isClient, servedAs, waitsOn}
+use Rattle.rules.specs.Sound.{isCaller, slotSound, lifeSound, owedSound, stackSound, isNoStack, isNoSlot, ofRunnable, timesIn, isClient, servedAs, waitsOn}
 use Rattle.sound.specs.declared.Held.{Held}
 use Rattle.sound.specs.declared.Noted.{Noted}
 use Rattle.sound.specs.Tally.{noTally, counted, entered, heldBelow, noting, tallied, tallyOf, notedAt, notedAs, Tallies}
@@ -135,13 +135,13 @@ module _ (l : Noted) (w : Owed) (ops : length (l .operations) ≡ 32) (nums : le
 
 -- a sound slot holds as many areas as there are at most
 slot-held : (cfg : Config) (x : Slot) → slotSound cfg x ≡ true → x .stack .held ≤ 16
-unfolding slotSound stackSound isNoSlot
+unfolding slotSound stackSound isNoSlot isNoStack
 slot-held cfg x h = go (x .used) refl h
   where
     go : (b : Bool) → x .used ≡ b → pick b (allOf (lifeSound cfg (x .life) ∷ owedSound cfg (x .life) (x .owed) ∷ stackSound cfg (x .life) (x .stack) ∷ [])) (isNoSlot x) ≡ true → x .stack .held ≤ 16
     go true e q = leb-true _ _ (both-left (leb (x .stack .held) 16) _ (all-told _ q .1 .1 .0))
     go false e q =
-        let z : x .stack .held ≡ 0 = eqb-true _ _ (all-told _ q .1 .1 .1 .1 .1 .1 .1 .0) in
+        let z : x .stack .held ≡ 0 = eqb-true _ _ (both-left (eqb (x .stack .held) 0) _ (all-told _ q .1 .1 .0)) in
         omega arith
 
 module _ (cfg : Config) (ss : Slots) where
@@ -157,7 +157,7 @@ module _ (cfg : Config) (ss : Slots) where
   tally-long zero = (refl, refl, refl)
   tally-long (suc k) = (
     counted-long (tallyOf ss k .instances) (slotIn ss k .used) (slotIn ss k .life .runnable) ∙ tally-long k .0,
-    counted-long (tallyOf ss k .waiters) (slotIn ss k .life .waiting) (slotIn ss k .life .on) ∙ tally-long k .1,
+    counted-long (tallyOf ss k .waiters) (isCaller (slotIn ss k .life)) (slotIn ss k .life .awaited .on) ∙ tally-long k .1,
     held-long (slotIn ss k .stack) (slotIn ss k .stack .held) (tallyOf ss k .held) ∙ tally-long k .2,
   )
 
@@ -179,7 +179,7 @@ module _ (cfg : Config) (ss : Slots) where
   unfolding tallyOf tallied noTally sumBelow waitsOn
   tally-waiters zero b o l = getD-replicate 8 o 0 0 l
   tally-waiters (suc k) b o l =
-      counted-more (tallyOf ss k .waiters) (slotIn ss k .life .waiting) (slotIn ss k .life .on) o (λ (j : ℕ). waitsOn o (slotIn ss j)) k (omega arith) (omega (arith, tally-long k .1)) (tally-waiters k (omega arith) o l)
+      counted-more (tallyOf ss k .waiters) (isCaller (slotIn ss k .life)) (slotIn ss k .life .awaited .on) o (λ (j : ℕ). waitsOn o (slotIn ss j)) k (omega arith) (omega (arith, tally-long k .1)) (tally-waiters k (omega arith) o l)
 
   tally-held : (k : ℕ) → k ≤ 32 → Sound k → (a : ℕ) → a < 16 → getD (tallyOf ss k .held .at) a 0 ≡ sumBelow (λ (j : ℕ). timesIn a (slotIn ss j .stack)) k
   unfolding tallyOf tallied noTally sumBelow timesIn

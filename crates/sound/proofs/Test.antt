@@ -21,7 +21,7 @@ use Rattle.config.specs.Tables.{runnableConfIn, operationConfIn}
 use Rattle.entries.specs.Faults.{isServer, configSound}
 use Rattle.state.specs.Parts.{noClient, noRequests}
 use Rattle.state.specs.Tables.{runnableIn, areaIn, operationIn, slotIn}
-use Rattle.rules.specs.Sound.{clientFits, isNoClient, requestsSound, runnableSound, operationSound, callingSound, doneSound, lifeSound, owedSound, stackSound, isNoSlot, slotSound, slotsOf, countSound, holders, areaSound, isClient, queuedAs, servedAs, clientsAs, clientSound, queuedSound, servedSound, calledSound, waitersOf, waiterSound, runnablesSound, operationsSound, slotsSound, countsSound, areasSound, clientsSound, waitersSound, shaped, soundOf}
+use Rattle.rules.specs.Sound.{clientFits, isNoClient, requestsSound, runnableSound, operationSound, callingSound, doneSound, lifeSound, owedSound, stackSound, isNoOwed, isNoSlot, slotSound, slotsOf, countSound, holders, areaSound, isClient, queuedAs, servedAs, clientsAs, clientSound, queuedSound, servedSound, calledSound, waitersOf, waiterSound, runnablesSound, operationsSound, slotsSound, countsSound, areasSound, clientsSound, waitersSound, shaped, soundOf}
 use Rattle.rules.proofs.Configured.{runnables-most, capacity-most, operation-there}
 use Rattle.sound.specs.declared.Tally.{Tally}
 use Rattle.sound.specs.declared.Walked.{Walked}
@@ -49,12 +49,12 @@ fits-told cfg r c h = (
 
 -- the client of a sound slot fits
 slot-fits : (cfg : Config) (x : Slot) → slotSound cfg x ≡ true → x .owed .serving ≡ true → clientFits cfg (x .life .runnable) (x .owed .client) ≡ true
-unfolding slotSound owedSound isNoSlot
+unfolding slotSound owedSound isNoSlot isNoOwed
 slot-fits cfg x h s = go (x .used) h
   where
     go : (b : Bool) → pick b (allOf (lifeSound cfg (x .life) ∷ owedSound cfg (x .life) (x .owed) ∷ stackSound cfg (x .life) (x .stack) ∷ [])) (isNoSlot x) ≡ true → clientFits cfg (x .life .runnable) (x .owed .client) ≡ true
     go true q = rw s at (both-right (alike (x .owed .serving) (both (isServer cfg (x .life .runnable)) (not (x .life .finished)))) (pick (x .owed .serving) (clientFits cfg (x .life .runnable) (x .owed .client)) (isNoClient (x .owed .client))) (all-told _ q .1 .0))
-    go false q = absurd (clash (not (x .owed .serving)) (all-told _ q .1 .1 .1 .1 .1 .0) (rw s))
+    go false q = absurd (clash (not (x .owed .serving)) (both-left (not (x .owed .serving)) _ (all-told _ q .1 .0)) (rw s))
 
 bit-one : (b : Bool) → 1 ≤ bit b → b ≡ true
 bit-one true h = refl

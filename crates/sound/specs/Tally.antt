@@ -12,7 +12,7 @@ use Rattle.config.specs.Tables.{maxRunnableConfs, maxAreaConfs, maxOperationCon
 use Rattle.faces.specs.Types.{Client, Owed, Stack, Slot, Slots}
 use Rattle.state.specs.Queues.{upOne}
 use Rattle.state.specs.Tables.{maxSlots, slotIn}
-use Rattle.rules.specs.Sound.{ofRunnable, timesIn, isClient, servedAs, waitsOn}
+use Rattle.rules.specs.Sound.{isCaller, ofRunnable, timesIn, isClient, servedAs, waitsOn}
 use Rattle.sound.specs.declared.Held.{Held}
 use Rattle.sound.specs.declared.Noted.{Noted}
 use Rattle.sound.specs.declared.Tally.{Tally}
@@ -46,7 +46,7 @@ unfoldable pub tallied : Tally → Slot → Tally
 tallied t x =
     record {
       instances = counted (t .instances) (x .used) (x .life .runnable);
-      waiters = counted (t .waiters) (x .life .waiting) (x .life .on);
+      waiters = counted (t .waiters) (isCaller (x .life)) (x .life .awaited .on);
       held = heldBelow (x .stack) (x .stack .held) (t .held);
       noted = noting (t .noted) (x .owed);
     }

@@ -11,7 +11,7 @@ ghost use Rattle.values.specs.Values.{voidV, timeoutV, serverErrV, isVoid, isPa
 ghost use Rattle.config.specs.Tables.{maxAreaConfs, requiredConfIn};
 ghost use Rattle.entries.specs.Faults.{isServer};
 ghost use Rattle.state.specs.Parts.{noClient, maxRequests, maxValues};
-ghost use Rattle.rules.specs.Sound.{isNoClient, clientFits, requestsSound, valuesSound, mostPending, runnableSound, variableSound, isStored, elementSound, isOutcome, callingSound, doneSound, operationSound, timerSound, waitsWell, lifeSound, owedSound, areaFits, isZero, stackSound, isNoSlot, slotSound, isClient, queuedAs, variablesSound, elementsSound, timersSound, soundOf};
+ghost use Rattle.rules.specs.Sound.{isNoClient, clientFits, requestsSound, valuesSound, mostPending, runnableSound, variableSound, isStored, elementSound, isOutcome, callingSound, doneSound, operationSound, timerSound, waitsWell, lifeSound, owedSound, areaFits, isZero, stackSound, isNoSlot, slotSound, isClient, queuedAs, variablesSound, elementsSound, timersSound, soundOf, isNoAwaited, awaitsWell, isNoLife, isNoOwed, isNoStack};
 ghost use Rattle.sound.specs.Only.{onlyVariables, onlyAreas, onlyRequired, onlyOperations, onlyTimers};
 ghost use Rattle.sound.specs.Tally.{counted, entered, heldBelow, noting, tallied, notedAt, notedAs};
 ghost use Rattle.sound.specs.Walk.{clientsWith, clientAlone, queueAlone, queueOf, notedAlone, runnableTallied, waiterTallied, operationTallied, areaTallied, runnablesTallied, operationsTallied, areasTallied, restTests, walkOf};
@@ -24,6 +24,7 @@ use config::TimerConfs;
 use config::VariableConfs;
 use state::Area;
 use state::Areas;
+use state::Awaited;
 use state::Client;
 use state::Element;
 use state::Elements;
@@ -345,12 +346,20 @@ fn timer_sound(t: TimerConfs, k: u8, x: Timer) -> bool
 
 // ---- one slot at a time
 
+// Nothing to wait for.
+fn is_no_awaited(a: Awaited) -> bool
+    ensures { λ b. ⌜ b ≡ isNoAwaited a ⌝ }
+{
+    a.part == 0 && a.on == 0
+}
+
 // A waiter's operation is there, is synchronous, and belongs to the waiter's component.
 fn waits_well(cfg: Config, l: Life) -> bool
     ensures { λ b. ⌜ b ≡ waitsWell cfg l ⌝ }
 {
     let t = cfg.operations;
-    let o = l.on;
+    let a = l.awaited;
+    let o = a.on;
     if o >= t.n {
         return false;
     }
@@ -361,6 +370,17 @@ fn waits_well(cfg: Config, l: Life) -> bool
     let rs = cfg.runnables;
     let r = rs.get(l.runnable);
     x.component == r.component
+}
+
+// An instance waits well on an operation, or for nothing.
+fn awaits_well(cfg: Config, l: Life) -> bool
+    ensures { λ b. ⌜ b ≡ awaitsWell cfg l ⌝ }
+{
+    let a = l.awaited;
+    if a.part == numbers::TAG_OPERATION {
+        return waits_well(cfg, l);
+    }
+    is_no_awaited(a)
 }
 
 // A plain instance is never finished.
@@ -383,10 +403,7 @@ fn life_sound(cfg: Config, l: Life) -> bool
     if !finishes_well(cfg, l) {
         return false;
     }
-    if l.waiting {
-        return waits_well(cfg, l);
-    }
-    l.on == 0
+    awaits_well(cfg, l)
 }
 
 // A server's instance has a client until it is finished.
@@ -490,39 +507,49 @@ fn stack_blank(s: Stack) -> bool
     true
 }
 
-// An empty slot is blank.
-fn is_no_slot(x: Slot) -> bool
-    ensures { λ b. ⌜ b ≡ isNoSlot x ⌝ }
+// The life of no instance.
+fn is_no_life(l: Life) -> bool
+    ensures { λ b. ⌜ b ≡ isNoLife l ⌝ }
 {
-    let l = x.life;
     if l.runnable != 0 {
         return false;
     }
-    if l.waiting {
-        return false;
-    }
-    if l.on != 0 {
+    let a = l.awaited;
+    if !is_no_awaited(a) {
         return false;
     }
     if l.finished {
         return false;
     }
-    if l.failed {
-        return false;
-    }
-    let w = x.owed;
+    !l.failed
+}
+
+// Nobody is owed.
+fn is_no_owed(w: Owed) -> bool
+    ensures { λ b. ⌜ b ≡ isNoOwed w ⌝ }
+{
     if w.serving {
         return false;
     }
     let c = w.client;
-    if !is_no_client(c) {
-        return false;
-    }
+    is_no_client(c)
+}
+
+// No area is held.
+fn is_no_stack(s: Stack) -> bool
+    ensures { λ b. ⌜ b ≡ isNoStack s ⌝ }
+{
+    s.held == 0 && stack_blank(s)
+}
+
+// An empty slot is blank.
+fn is_no_slot(x: Slot) -> bool
+    ensures { λ b. ⌜ b ≡ isNoSlot x ⌝ }
+{
+    let l = x.life;
+    let w = x.owed;
     let s = x.stack;
-    if s.held != 0 {
-        return false;
-    }
-    stack_blank(s)
+    is_no_life(l) && (is_no_owed(w) && is_no_stack(s))
 }
 
 fn slot_sound(cfg: Config, x: Slot) -> bool
@@ -673,11 +700,12 @@ fn tallied(t: Tally, x: Slot) -> Tally
     let held = t.held;
     let clients = t.noted;
     let l = x.life;
+    let a = l.awaited;
     let w = x.owed;
     let s = x.stack;
     Tally {
         instances: counted(instances, x.used, l.runnable),
-        waiters: counted_waiter(waiters, l.waiting, l.on),
+        waiters: counted_waiter(waiters, a.part == numbers::TAG_OPERATION, a.on),
         held: held_by(held, s),
         noted: noting(clients, w),
     }

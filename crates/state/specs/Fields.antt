@@ -8,10 +8,12 @@ use Rattle.state.specs.declared.Runnable.{Runnable}
 use Rattle.state.specs.declared.Values.{Values}
 use Rattle.state.specs.declared.Element.{Element}
 use Rattle.state.specs.declared.Operation.{Operation}
+use Rattle.state.specs.declared.Awaited.{Awaited}
 use Rattle.state.specs.declared.Life.{Life}
 use Rattle.state.specs.declared.Owed.{Owed}
 use Rattle.state.specs.declared.Stack.{Stack}
 use Rattle.state.specs.declared.Slot.{Slot}
+use Rattle.state.specs.Parts.{noAwaited}
 
 -- ---- of a runnable
 
@@ -55,23 +57,19 @@ withCount x n = record { number = x .number; calling = x .calling; count = n; do
 
 -- the life of a new instance of the runnable r: it neither waits nor is finished, and has not failed (ours)
 abbrev pub lifeOf : ℕ → Life
-lifeOf r = record { runnable = r; waiting = false; on = 0; finished = false; failed = false }
+lifeOf r = record { runnable = r; awaited = noAwaited; finished = false; failed = false }
 
--- it waits on the operation o (ours)
-abbrev pub lifeWaiting : Life → ℕ → Life
-lifeWaiting x o = record { runnable = x .runnable; waiting = true; on = o; finished = x .finished; failed = x .failed }
-
--- it waits no longer (ours)
-abbrev pub lifeRunning : Life → Life
-lifeRunning x = record { runnable = x .runnable; waiting = false; on = 0; finished = x .finished; failed = x .failed }
+-- it waits for this, or for nothing (ours)
+abbrev pub lifeAwaiting : Life → Awaited → Life
+lifeAwaiting x a = record { runnable = x .runnable; awaited = a; finished = x .finished; failed = x .failed }
 
 -- it is finished (ours)
 abbrev pub lifeFinished : Life → Life
-lifeFinished x = record { runnable = x .runnable; waiting = x .waiting; on = x .on; finished = true; failed = x .failed }
+lifeFinished x = record { runnable = x .runnable; awaited = x .awaited; finished = true; failed = x .failed }
 
 -- it has failed (W-205)
 abbrev pub lifeFailed : Life → Life
-lifeFailed x = record { runnable = x .runnable; waiting = x .waiting; on = x .on; finished = x .finished; failed = true }
+lifeFailed x = record { runnable = x .runnable; awaited = x .awaited; finished = x .finished; failed = true }
 
 -- ---- of a slot
 

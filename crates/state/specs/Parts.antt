@@ -14,6 +14,7 @@ use Rattle.state.specs.declared.Values.{Values}
 use Rattle.state.specs.declared.Element.{Element}
 use Rattle.state.specs.declared.Operation.{Operation}
 use Rattle.state.specs.declared.Timer.{Timer}
+use Rattle.state.specs.declared.Awaited.{Awaited}
 use Rattle.state.specs.declared.Life.{Life}
 use Rattle.state.specs.declared.Owed.{Owed}
 use Rattle.state.specs.declared.Stack.{Stack}
@@ -67,9 +68,13 @@ noTimer = record { count = 0 }
 abbrev pub lastNumber : ℕ
 lastNumber = 65535
 
+-- nothing to wait for ("A sound state", unused places)
+abbrev pub noAwaited : Awaited
+noAwaited = record { part = 0; on = 0 }
+
 -- the life of no instance ("A sound state", unused places)
 abbrev pub noLife : Life
-noLife = record { runnable = 0; waiting = false; on = 0; finished = false; failed = false }
+noLife = record { runnable = 0; awaited = noAwaited; finished = false; failed = false }
 
 -- no client that an answer is owed to ("A sound state", unused places)
 abbrev pub noOwed : Owed

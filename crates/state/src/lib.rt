@@ -221,11 +221,20 @@ impl Timer {
     pub const BLANK: Timer = Timer { count: 0 };
 }
 
-// How an instance lives: whose it is, whether and on which operation it waits, whether it is finished, whether it has failed.
+// What an instance waits for: the tag of its kind of part, 0 while it waits for nothing, and its number.
+pub struct Awaited {
+    pub part: u8,
+    pub on: u8,
+}
+
+impl Awaited {
+    pub const BLANK: Awaited = Awaited { part: 0, on: 0 };
+}
+
+// How an instance lives: whose it is, what it waits for, whether it is finished, whether it has failed.
 pub struct Life {
     pub runnable: u8,
-    pub waiting: bool,
-    pub on: u8,
+    pub awaited: Awaited,
     pub finished: bool,
     pub failed: bool,
 }
@@ -233,8 +242,7 @@ pub struct Life {
 impl Life {
     pub const BLANK: Life = Life {
         runnable: 0,
-        waiting: false,
-        on: 0,
+        awaited: Awaited::BLANK,
         finished: false,
         failed: false,
     };

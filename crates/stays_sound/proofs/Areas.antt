@@ -21,8 +21,8 @@ use Rattle.config.specs.Tables.{maxAreaConfs, runnableConfIn}
 use Rattle.state.specs.Parts.{noArea, noStack, noSlot}
 use Rattle.state.specs.Queues.{upOne, pushArea, topArea, popArea}
 use Rattle.state.specs.Tables.{maxSlots, runnableIn, areaIn, slotIn, withArea, withSlot}
-use Rattle.rules.specs.Sound.{componentOf, areaFits, isZero, stackSound, lifeSound, owedSound, isNoSlot, slotSound, slotsSound, timesIn, holders}
-use Rattle.effects.specs.Steps.{entering, exiting, entered, exited, callerAfter, called, collected, finished, failed, emptied, instanceOf, lowestEmpty, spawned}
+use Rattle.rules.specs.Sound.{componentOf, areaFits, isZero, stackSound, lifeSound, owedSound, isNoStack, isNoSlot, slotSound, slotsSound, timesIn, holders}
+use Rattle.effects.specs.Steps.{entering, exiting, entered, exited, callerAfter, called, goneOn, finished, failed, emptied, instanceOf, lowestEmpty, spawned}
 use Rattle.stays_sound.specs.Facts.{Held, Sound, CanEnter, CanExit, CanCall, CanCollect, CanHandBack, CanEnd, CanSpawn, CanFail, HeldIn}
 use Rattle.rules.proofs.Configured.{areas-most}
 use Rattle.stays_sound.proofs.Told.{areas-length, slots-length}
@@ -37,7 +37,7 @@ pub record Stacked (cfg : Config) (x : Slot) : Type 0 where
   pub blank : x .used ≡ false → x .stack .held ≡ 0
 
 pub stacked : (cfg : Config) (x : Slot) → slotSound cfg x ≡ true → Stacked cfg x
-unfolding slotSound stackSound isNoSlot areaFits
+unfolding slotSound stackSound isNoSlot isNoStack areaFits
 stacked cfg x h = go (x .used) refl h
   where
     go : (b : Bool) → x .used ≡ b → pick b (allOf (lifeSound cfg (x .life) ∷ owedSound cfg (x .life) (x .owed) ∷ stackSound cfg (x .life) (x .stack) ∷ [])) (isNoSlot x) ≡ true → Stacked cfg x
@@ -52,11 +52,11 @@ stacked cfg x h = go (x .used) refl h
           blank = λ n. absurd (clash (x .used) e n);
         }
     go false e g =
-        let t = all-told _ g .1 .1 .1 .1 .1 .1 .1 in
-        let none = eqb-true (x .stack .held) 0 (t .0) in
+        let t = all-told _ g .1 .1 .0 in
+        let none = eqb-true (x .stack .held) 0 (both-left (eqb (x .stack .held) 0) _ t) in
         record {
           most = omega (arith, none);
-          long = filled-length isZero isZero 0 maxAreaConfs 0 (x .stack .at) (t .1 .0);
+          long = filled-length isZero isZero 0 maxAreaConfs 0 (x .stack .at) (both-right (eqb (x .stack .held) 0) _ t);
           named = λ j l. absurd (omega (arith, none, l));
           blank = λ n. none;
         }
@@ -197,7 +197,7 @@ pub call-keeps-areas : (cfg : Config) (st : State) (i o : ℕ) (v : Value) → S
 unfolding called
 call-keeps-areas cfg st i o v s z = held-slot cfg (st .areas) (st .slots) i _ (call-stack cfg o (slotIn (st .slots) i)) (s .areas)
 
-pub collect-keeps-areas : (cfg : Config) (st : State) (i o : ℕ) → Sound cfg st → CanCollect cfg st i o → HeldIn cfg (collected st i)
+pub collect-keeps-areas : (cfg : Config) (st : State) (i o : ℕ) → Sound cfg st → CanCollect cfg st i o → HeldIn cfg (goneOn st i)
 collect-keeps-areas cfg st i o s z = held-slot cfg (st .areas) (st .slots) i _ (λ a. refl) (s .areas)
 
 pub fail-keeps-areas : (cfg : Config) (st : State) (i : ℕ) → Sound cfg st → CanFail st i → HeldIn cfg (failed st i)

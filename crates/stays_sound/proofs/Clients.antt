@@ -2,7 +2,7 @@
 -- nobody bears. What a sound state tells of a queue, an open call and an empty slot, and then step by step, by the tallies.
 -- Assumes nothing.
 use Prim.Native.Nat.{ℕ, _+_, _-_, _≤_, _<_}
-use mathlib.Core.Bool.{Bool, true, false}
+use mathlib.Core.Bool.{Bool, true, false, not}
 use mathlib.Core.Path.{_≡_, refl, sym, _∙_, ap}
 use native.Mathlib.Decide.{ℕ-discrete}
 use native.Mathlib.Omega.{arith}
@@ -20,8 +20,8 @@ use Rattle.state.specs.Parts.{noClient, maxRequests, noOperation, noOwed, noSlo
 use Rattle.state.specs.Queues.{pushRequest, firstRequest, restRequests}
 use Rattle.state.specs.Fields.{withPending, withRequests}
 use Rattle.state.specs.Tables.{maxSlots, runnableIn, operationIn, slotIn, withRunnable, withOperation, withSlot}
-use Rattle.rules.specs.Sound.{isNoClient, clientFits, requestsSound, runnableSound, runnablesSound, isNoSlot, slotSound, slotsSound, isClient, queuedAs, servedAs, clientsAs}
-use Rattle.effects.specs.Steps.{entering, exiting, entered, exited, fed, asking, called, runningOn, collected, closing, returnedRunnables, closed, answers, finishing, failing, failed, clientOf, finished, handedBack, answered, emptied, isDue, begun, starting, fresh, instanceOf, lowestEmpty, spawned, ticked, waited}
+use Rattle.rules.specs.Sound.{isNoClient, clientFits, requestsSound, runnableSound, runnablesSound, isNoOwed, isNoSlot, slotSound, slotsSound, isClient, queuedAs, servedAs, clientsAs}
+use Rattle.effects.specs.Steps.{entering, exiting, entered, exited, fed, asking, called, runningOn, goneOn, closing, returnedRunnables, closed, answers, finishing, failing, failed, clientOf, finished, handedBack, answered, emptied, isDue, begun, starting, fresh, instanceOf, lowestEmpty, spawned, ticked, waited}
 use Rattle.stays_sound.specs.Facts.{Clients, Sound, CanEnter, CanExit, CanFeed, CanCall, CanCollect, CanHandBack, CanEnd, CanSpawn, CanTimeout, CanTick, CanWait, CanFail, ClientsIn}
 use Rattle.rules.proofs.Configured.{runnables-most, operations-most, capacity-most, operation-there}
 use Rattle.stays_sound.proofs.Told.{runnables-length, operations-length, slots-length}
@@ -46,9 +46,9 @@ calling-inside os o h = inside-of (λ y. y .calling ≡ true) (os .at) o noOpera
 
 -- an empty slot owes nothing
 empty-idle : (cfg : Config) (st : State) (k : ℕ) → Sound cfg st → k < maxSlots → slotIn (st .slots) k .used ≡ false → slotIn (st .slots) k .owed .serving ≡ false
-unfolding slotsSound slotSound isNoSlot
+unfolding slotsSound slotSound isNoSlot isNoOwed
 empty-idle cfg st k s b e =
-    not-true _ (all-told _ (rw e at (all-at (λ (k : ℕ). slotSound cfg (slotIn (st .slots) k)) maxSlots (s .slots) k b)) .1 .1 .1 .1 .1 .0)
+    not-true _ (both-left (not (slotIn (st .slots) k .owed .serving)) _ (all-told _ (rw e at (all-at (λ (k : ℕ). slotSound cfg (slotIn (st .slots) k)) maxSlots (s .slots) k b)) .1 .0))
 
 -- ---- step by step
 
@@ -90,7 +90,7 @@ call-keeps-clients cfg st i o v s z =
     more : (k m : ℕ) → queuedAs k m (pushRequest (x .requests) c) ≡ queuedAs k m (x .requests) + bit (isClient k m c)
     more k m = asked k m (x .requests) c (omega (arith, room, requests-told cfg st r s b .1)) room
 
-pub collect-keeps-clients : (cfg : Config) (st : State) (i o : ℕ) → Sound cfg st → CanCollect cfg st i o → ClientsIn (collected st i)
+pub collect-keeps-clients : (cfg : Config) (st : State) (i o : ℕ) → Sound cfg st → CanCollect cfg st i o → ClientsIn (goneOn st i)
 collect-keeps-clients cfg st i o s z = clients-slot (st .operations) (st .runnables) (st .slots) i (runningOn (slotIn (st .slots) i)) refl (s .clients)
 
 pub fail-keeps-clients : (cfg : Config) (st : State) (i : ℕ) → Sound cfg st → CanFail st i → ClientsIn (failed st i)

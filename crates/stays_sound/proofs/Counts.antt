@@ -20,7 +20,7 @@ use Rattle.state.specs.Parts.{noRunnable, noSlot}
 use Rattle.state.specs.Queues.{upOne}
 use Rattle.state.specs.Tables.{maxSlots, runnableIn, slotIn, withRunnable, withSlot}
 use Rattle.rules.specs.Sound.{ofRunnable, slotsOf}
-use Rattle.effects.specs.Steps.{entering, exiting, entered, exited, fed, callerAfter, called, runningOn, collected, closed, finishing, failing, failed, finished, handedBack, answered, emptied, starting, instanceOf, lowestEmpty, spawned, ticked, waited}
+use Rattle.effects.specs.Steps.{entering, exiting, entered, exited, fed, callerAfter, called, runningOn, goneOn, closed, finishing, failing, failed, finished, handedBack, answered, emptied, starting, instanceOf, lowestEmpty, spawned, ticked, waited}
 use Rattle.stays_sound.specs.Facts.{Counted, Sound, CanEnter, CanExit, CanFeed, CanCall, CanCollect, CanHandBack, CanEnd, CanSpawn, CanTimeout, CanTick, CanWait, CanFail, CountedIn}
 use Rattle.stays_sound.proofs.Told.{runnables-length, slots-length}
 use Rattle.stays_sound.proofs.Kept.{here, lowest-empty, runnable-kept, slot-kept, fed-kept, returned-kept, after-kept, caller-kept}
@@ -81,7 +81,7 @@ call-keeps-counts cfg st i o v s z =
     (caller-kept (λ x. x .life .runnable) (λ x n. refl) cfg o (slotIn (st .slots) i))
     (counted-runnables (st .runnables) _ (st .slots) (runnable-kept (λ x. x .instances) (st .runnables) (operationConfIn (cfg .operations) o .server) _ refl) (s .counts))
 
-pub collect-keeps-counts : (cfg : Config) (st : State) (i o : ℕ) → Sound cfg st → CanCollect cfg st i o → CountedIn (collected st i)
+pub collect-keeps-counts : (cfg : Config) (st : State) (i o : ℕ) → Sound cfg st → CanCollect cfg st i o → CountedIn (goneOn st i)
 collect-keeps-counts cfg st i o s z = counted-slot (st .runnables) (st .slots) i (runningOn (slotIn (st .slots) i)) refl refl (s .counts)
 
 pub fail-keeps-counts : (cfg : Config) (st : State) (i : ℕ) → Sound cfg st → CanFail st i → CountedIn (failed st i)

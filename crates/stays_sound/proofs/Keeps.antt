@@ -9,7 +9,7 @@ use Rattle.laws.proofs.Choosing.{pick-has}
 use Rattle.values.specs.Values.{timeoutV}
 use Rattle.faces.specs.Types.{Value, Step, Answer, Taken, Refused, Config, State, Stepped}
 use Rattle.rules.specs.Sound.{soundOf}
-use Rattle.effects.specs.Steps.{refused, stored, entered, exited, looked, fed, invalidated, received, called, collected, closed, answers, clientOf, finished, handedBack, answered, failed, emptied, lowestEmpty, spawned, ticked, waited}
+use Rattle.effects.specs.Steps.{refused, stored, entered, exited, looked, fed, invalidated, received, called, goneOn, closed, answers, clientOf, finished, handedBack, answered, failed, emptied, lowestEmpty, spawned, ticked, waited}
 use Rattle.effects.specs.Step.{possibleOf, onAnswer, agrees, claimedOf, innerOf, stepOf}
 use Rattle.stays_sound.specs.Facts.{Sound, CanWriteVariable, CanEnter, CanExit, CanRead, CanFeed, CanInvalidate, CanReceive, CanCall, CanCollect, CanHandBack, CanEnd, CanSpawn, CanTimeout, CanTick, CanWait, CanFail}
 use Rattle.stays_sound.proofs.Told.{told, made}
@@ -55,7 +55,7 @@ module _ (cfg : Config) (st : State) (s : Sound cfg st) where
   unfolding called
   call-keeps i o v z = search (call-keeps-shape, call-keeps-runnables, call-keeps-operations, call-keeps-slots, call-keeps-counts, call-keeps-areas, call-keeps-clients, call-keeps-waiters)
 
-  pub collect-keeps : (i o : ℕ) → CanCollect cfg st i o → Sound cfg (collected st i)
+  pub collect-keeps : (i o : ℕ) → CanCollect cfg st i o → Sound cfg (goneOn st i)
   collect-keeps i o z = search (collect-keeps-shape, collect-keeps-slots, collect-keeps-counts, collect-keeps-areas, collect-keeps-clients, collect-keeps-waiters)
 
   -- a hand back that ends the client's call, and one that comes late

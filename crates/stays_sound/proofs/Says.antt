@@ -10,15 +10,15 @@ use Rattle.numbers.specs.Refusals.{malformed, notThere, notOwn, barred, stepGon
 use Rattle.numbers.specs.Codes.{writeVariableCode, enterCode, exitCode, readCode, writeCode, invalidateCode, receiveCode, sendCode, callCode, resultCode, handBackCode, endCode, spawnCode, timeoutCode, tickCode, failCode}
 use Rattle.laws.specs.Choice.{both, either, bit}
 use Rattle.laws.proofs.Choosing.{clash, both-left, both-right, both-no, alike-is, all-told, pick-on}
-use Rattle.faces.specs.Types.{Value, Step, Config, State}
+use Rattle.faces.specs.Types.{Value, Step, Config, State, Life}
 use Rattle.config.specs.Editions.{hasStep}
 use Rattle.config.specs.Tables.{runnableConfIn, areaConfIn, requiredConfIn, operationConfIn, providedConfIn}
 use Rattle.entries.specs.Entries.{countOf, entryOf}
 use Rattle.entries.specs.Faults.{isQueued}
 use Rattle.state.specs.Tables.{maxSlots, runnableIn, elementIn, operationIn, slotIn}
-use Rattle.rules.specs.Sound.{componentOf, clientsAs, waitersOf}
-use Rattle.rules.specs.Rows.{aSlot, scheduler, rows, rowOf}
-use Rattle.rules.specs.Refusals.{argues, formed, partThere, queuesAs, partOwn, asksSynchronous, finishedLets, failedLets, lifeLets, ownedRefusal, instanceRefusal, schedulerRefusal, refusalBy, refusalOf}
+use Rattle.rules.specs.Sound.{componentOf, isWaiting, isCaller, clientsAs, waitersOf}
+use Rattle.rules.specs.Rows.{noPart, aSlot, scheduler, rows, rowOf}
+use Rattle.rules.specs.Refusals.{argues, formed, partThere, queuesAs, partOwn, asksSynchronous, finishedLets, failedLets, endsWaiting, waitingLets, lifeLets, ownedRefusal, instanceRefusal, schedulerRefusal, refusalBy, refusalOf}
 use Rattle.effects.specs.Steps.{isTaken, onTop, isBare, isOpen, isBorne, isBusy, requestsFull, serves, hasFailed, handsNumber, holds, isOver, maySpawn, lowestEmpty, isUp, operationsLet, allLet}
 use Rattle.stays_sound.specs.Facts.{Acts, CanWriteVariable, CanEnter, CanExit, CanRead, CanFeed, CanInvalidate, CanReceive, CanCall, CanCollect, CanHandBack, CanEnd, CanSpawn, CanTimeout, CanTick, CanWait, CanFail}
 
@@ -66,13 +66,17 @@ rests : (b c : Bool) → c ≡ false → either (not b) c ≡ true → b ≡ fal
 rests true c e h = absurd (clash c h e)
 rests false c e h = refl
 
+-- who does not wait names nothing to wait for
+rests-none : (l : Life) → isWaiting l ≡ false → l .awaited .part ≡ noPart
+rests-none l e = omega (arith, ltb-false noPart (l .awaited .part) e)
+
 module _ (cfg : Config) (st : State) (code i k : ℕ) (v : Value) (z : Let cfg st code i k v) where
   acts : eqb code resultCode ≡ false → eqb code endCode ≡ false → eqb code exitCode ≡ false → Acts st i
-  unfolding lifeLets finishedLets
+  unfolding lifeLets waitingLets endsWaiting finishedLets
   acts a b c =
       let l = slotIn (st .slots) i .life in
       let t = all-told _ (rw (a, b, c) at (z .life)) in
-      record { there = record { used = z .used }; running = rests (l .waiting) false refl (t .0); unfinished = rests (l .finished) (both (l .failed) false) (both-no (l .failed) false refl) (t .1 .0) }
+      record { there = record { used = z .used }; running = rests-none l (rests (isWaiting l) (both (isCaller l) false) (both-no (isCaller l) false refl) (t .0)); unfinished = rests (l .finished) (both (l .failed) false) (both-no (l .failed) false refl) (t .1 .0) }
 
 -- neither of two tests holds
 either-no : (a b : Bool) → either a b ≡ false → (a ≡ false) × (b ≡ false)
@@ -158,16 +162,18 @@ module _ (cfg : Config) (st : State) (i k : ℕ) (v : Value) where
 
   -- a synchronous result
   pub says-collect : Let cfg st resultCode i k v → operationConfIn (cfg .operations) k .asynchronous ≡ false → isOpen st k ≡ false → CanCollect cfg st i k
-  unfolding partThere rowOf rows countOf lifeLets asksSynchronous
+  unfolding partThere rowOf rows countOf lifeLets waitingLets endsWaiting asksSynchronous
   says-collect z a e =
       let t = all-told _ (z .life) in
-      let w : slotIn (st .slots) i .life .waiting ≡ true = rw a at (t .1 .1 .1 .0) in
+      let l = slotIn (st .slots) i .life in
+      let w : isWaiting l ≡ true = rw a at (t .1 .1 .1 .0) in
+      let e′ = rw w at (t .0) in
       record {
         there = record { used = z .used };
         inside = ltb-true _ _ (z .part);
         synchronous = a;
-        waiting = w;
-        on = eqb-true _ _ (rw w at (t .0));
+        waiting = both-left (isCaller l) _ e′;
+        on = eqb-true _ _ (both-right (isCaller l) _ e′);
         shut = e;
       }
 
@@ -176,10 +182,10 @@ module _ (cfg : Config) (st : State) (i k : ℕ) (v : Value) where
   says-hand-back z f e = record { who = acts cfg st handBackCode i k v z refl refl refl; payload = both-right (eqb k 0) _ (z .form); honest = f; serving = e }
 
   pub says-end : Let cfg st endCode i k v → serves st i ≡ false → holds st i ≡ false → CanEnd st i
-  unfolding lifeLets
+  unfolding lifeLets waitingLets endsWaiting
   says-end z e f = record {
     there = record { used = z .used };
-    running = rests (slotIn (st .slots) i .life .waiting) false refl (all-told _ (z .life) .0);
+    running = let l = slotIn (st .slots) i .life in rests-none l (rests (isWaiting l) (both (isCaller l) false) (both-no (isCaller l) false refl) (all-told _ (z .life) .0));
     none = e;
     flat = omega (arith, ltb-false 0 (slotIn (st .slots) i .stack .held) f);
   }

@@ -12,7 +12,7 @@ use Rattle.config.specs.Tables.{runnableConfIn, operationConfIn, timerConfIn}
 use Rattle.state.specs.Parts.{noSlot, noRunnable, noElement, noOperation, noTimer}
 use Rattle.state.specs.Tables.{runnableIn, elementIn, operationIn, slotIn, withRunnables, withVariables, withAreas, withElements, withOperations, withTimers, withSlots, withRunnable, withVariable, withArea, withElement, withOperation, withTimer, withSlot}
 use Rattle.rules.specs.Sound.{shaped}
-use Rattle.effects.specs.Steps.{stored, entering, exiting, entered, exited, seen, looked, fedElement, fedElements, woken, isFed, fedRunnables, fed, invalidated, receiving, received, opening, asking, callerAfter, called, runningOn, collected, closing, isReturned, returnedRunnables, closed, finishing, failing, failed, clientOf, finished, answered, emptied, lowestEmpty, spawned, ticked, operationAfter, timerAfter, runnableAfter, operationsAfter, timersAfter, runnablesAfter, waited}
+use Rattle.effects.specs.Steps.{stored, entering, exiting, entered, exited, seen, looked, fedElement, fedElements, woken, isFed, fedRunnables, fed, invalidated, receiving, received, opening, asking, callerAfter, called, runningOn, goneOn, closing, isReturned, returnedRunnables, closed, finishing, failing, failed, clientOf, finished, answered, emptied, lowestEmpty, spawned, ticked, operationAfter, timerAfter, runnableAfter, operationsAfter, timersAfter, runnablesAfter, waited}
 use Rattle.stays_sound.proofs.Told.{Shape, shape-told, shape-made}
 use Rattle.stays_sound.specs.Facts.{Sound}
 
@@ -145,7 +145,7 @@ module _ (cfg : Config) (st : State) where
       (asking (runnableIn (st .runnables) (operationConfIn (cfg .operations) o .server)) (record { operation = o; number = operationIn (st .operations) o .number; argument = v }))))
       _ (slot-length (st .slots) i (callerAfter cfg o (slotIn (st .slots) i))))
 
-  pub collect-keeps-shape : (i : ℕ) → Sound cfg st → shaped (collected st i) ≡ true
+  pub collect-keeps-shape : (i : ℕ) → Sound cfg st → shaped (goneOn st i) ≡ true
   collect-keeps-shape i s = shape-made _ (in-slots st (now cfg st s) _ (slot-length (st .slots) i (runningOn (slotIn (st .slots) i))))
 
   pub fail-keeps-shape : (i : ℕ) → Sound cfg st → shaped (failed st i) ≡ true

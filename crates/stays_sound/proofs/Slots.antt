@@ -16,12 +16,12 @@ use Rattle.values.specs.Values.{isVoid}
 use Rattle.faces.specs.Types.{Value, Config, RunnableConf, Life, Runnable, Owed, Stack, Slot, Slots, State}
 use Rattle.config.specs.Tables.{maxAreaConfs, runnableConfIn, areaConfIn, operationConfIn}
 use Rattle.entries.specs.Faults.{isServer}
-use Rattle.state.specs.Parts.{noOwed, noStack, noSlot}
+use Rattle.state.specs.Parts.{noAwaited, noOwed, noStack, noSlot}
 use Rattle.state.specs.Queues.{upOne, pushArea, popArea, firstRequest}
-use Rattle.state.specs.Fields.{lifeOf, lifeWaiting, lifeRunning, lifeFinished}
+use Rattle.state.specs.Fields.{lifeOf, lifeAwaiting, lifeFinished}
 use Rattle.state.specs.Tables.{maxSlots, slotIn, withSlot, runnableIn}
-use Rattle.rules.specs.Sound.{componentOf, isNoClient, waitsWell, lifeSound, owedSound, areaFits, isZero, stackSound, isNoSlot, slotSound, slotsSound}
-use Rattle.effects.specs.Steps.{entering, exiting, entered, exited, waitingOn, callerAfter, called, runningOn, collected, finishing, finished, failing, failed, emptied, isDue, fresh, instanceOf, lowestEmpty, spawned}
+use Rattle.rules.specs.Sound.{componentOf, isNoClient, isNoAwaited, waitsWell, awaitsWell, lifeSound, owedSound, areaFits, isZero, stackSound, isNoLife, isNoOwed, isNoStack, isNoSlot, slotSound, slotsSound}
+use Rattle.effects.specs.Steps.{entering, exiting, entered, exited, onOperation, waitingOn, callerAfter, called, runningOn, goneOn, finishing, finished, failing, failed, emptied, isDue, fresh, instanceOf, lowestEmpty, spawned}
 use Rattle.stays_sound.specs.Facts.{Sound, CanEnter, CanExit, CanCall, CanCollect, CanHandBack, CanEnd, CanSpawn, CanFail}
 use Rattle.rules.proofs.Configured.{areas-most}
 use Rattle.stays_sound.proofs.Areas.{free-room}
@@ -66,22 +66,22 @@ module _ (cfg : Config) (l : Life) (k : Stack) where
 -- ---- lives
 
 life-waits : (cfg : Config) (l : Life) (o : ℕ) → o < cfg .operations .n → operationConfIn (cfg .operations) o .asynchronous ≡ false → operationConfIn (cfg .operations) o .component ≡ componentOf cfg (l .runnable) → lifeSound cfg l ≡ true
-    → lifeSound cfg (lifeWaiting l o) ≡ true
-unfolding lifeSound waitsWell
+    → lifeSound cfg (lifeAwaiting l (onOperation o)) ≡ true
+unfolding lifeSound awaitsWell waitsWell
 life-waits cfg l o b y c h =
     let t = all-told _ h in
     all-made _ (t .0, (t .1 .0, (all-made _ (lt-ltb _ _ b, (ap not y, (eq-eqb _ _ c, tt))), tt)))
 
-life-runs : (cfg : Config) (l : Life) → lifeSound cfg l ≡ true → lifeSound cfg (lifeRunning l) ≡ true
-unfolding lifeSound
+life-runs : (cfg : Config) (l : Life) → lifeSound cfg l ≡ true → lifeSound cfg (lifeAwaiting l noAwaited) ≡ true
+unfolding lifeSound awaitsWell isNoAwaited
 life-runs cfg l h = let t = all-told _ h in all-made _ (t .0, (t .1 .0, (refl, tt)))
 
 life-finishes : (cfg : Config) (l : Life) → isServer cfg (l .runnable) ≡ true → lifeSound cfg l ≡ true → lifeSound cfg (lifeFinished l) ≡ true
-unfolding lifeSound waitsWell
+unfolding lifeSound awaitsWell waitsWell
 life-finishes cfg l e h = let t = all-told _ h in all-made _ (t .0, (e, (t .1 .1 .0, tt)))
 
 pub life-fresh : (cfg : Config) (r : ℕ) → r < cfg .runnables .n → lifeSound cfg (lifeOf r) ≡ true
-unfolding lifeSound
+unfolding lifeSound awaitsWell isNoAwaited
 life-fresh cfg r b = all-made _ (lt-ltb _ _ b, (refl, (refl, tt)))
 
 -- a blank stack and a blank slot
@@ -90,7 +90,7 @@ unfolding stackSound filled placeFilled allBelow noStack
 stack-fresh cfg l = refl
 
 pub blank-slot : (cfg : Config) → slotSound cfg noSlot ≡ true
-unfolding slotSound isNoSlot isNoClient isVoid allOf filled placeFilled allBelow noSlot noStack
+unfolding slotSound isNoSlot isNoLife isNoAwaited isNoOwed isNoStack isNoClient isVoid allOf filled placeFilled allBelow noSlot noStack
 blank-slot cfg = refl
 
 -- ---- step by step
@@ -123,7 +123,7 @@ module _ (cfg : Config) (st : State) where
           changed cfg st s i (waitingOn x o) (z .who .there .used)
           (record { life = life-waits cfg (x .life) o (z .inside) e (z .own) (h .life); owed = h .owed; stack = h .stack })
 
-  pub collect-keeps-slots : (i o : ℕ) → Sound cfg st → CanCollect cfg st i o → slotsSound cfg (collected st i .slots) ≡ true
+  pub collect-keeps-slots : (i o : ℕ) → Sound cfg st → CanCollect cfg st i o → slotsSound cfg (goneOn st i .slots) ≡ true
   unfolding owedSound stackSound
   collect-keeps-slots i o s z =
       let x = slotIn (st .slots) i in
@@ -140,7 +140,7 @@ module _ (cfg : Config) (st : State) where
       (record { life = life-finishes cfg (x .life) e (h .life); owed = rw e; stack = h .stack })
 
   pub fail-keeps-slots : (i : ℕ) → Sound cfg st → CanFail st i → slotsSound cfg (failed st i .slots) ≡ true
-  unfolding lifeSound waitsWell owedSound stackSound
+  unfolding lifeSound awaitsWell waitsWell owedSound stackSound
   fail-keeps-slots i s z =
       let x = slotIn (st .slots) i in
       let h = instance-at cfg st s i (z .who .there .used) in

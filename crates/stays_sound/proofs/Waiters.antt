@@ -9,18 +9,19 @@ use native.Mathlib.Omega.{arith}
 use lib.Dec.{eqb}
 use lib.ListN.{length, getD}
 use lib.Seq.{getD-set-other}
-use borrow.Author.Tests.{not-true, eq-eqb, ne-eqb}
+use borrow.Author.Tests.{eqb-true, eq-eqb, ne-eqb}
 use Rattle.laws.specs.Choice.{pick, both, bit}
-use Rattle.laws.proofs.Choosing.{clash, all-told, pick-has}
+use Rattle.laws.proofs.Choosing.{clash, both-left, all-told, pick-has}
 use Rattle.laws.proofs.Looping.{sum-same}
 use Rattle.laws.proofs.Places.{sum-put, put-each}
 use Rattle.values.specs.Values.{timeoutV}
-use Rattle.faces.specs.Types.{Value, Config, Operation, Operations, Slot, Slots, State}
+use Rattle.faces.specs.Types.{Value, Config, Operation, Operations, Life, Slot, Slots, State}
 use Rattle.config.specs.Tables.{maxOperationConfs, runnableConfIn, operationConfIn}
 use Rattle.state.specs.Parts.{noOperation, noSlot}
 use Rattle.state.specs.Tables.{maxSlots, runnableIn, operationIn, slotIn, withOperation, withSlot}
-use Rattle.rules.specs.Sound.{isNoSlot, slotSound, waitsOn, waitersOf}
-use Rattle.effects.specs.Steps.{entering, exiting, entered, exited, opening, waitingOn, callerAfter, called, runningOn, collected, closing, closed, clientOf, finishing, finished, failing, failed, handedBack, answered, emptied, instanceOf, lowestEmpty, spawned, waited}
+use Rattle.rules.specs.Rows.{noPart}
+use Rattle.rules.specs.Sound.{isCaller, isNoAwaited, isNoLife, isNoSlot, slotSound, waitsOn, waitersOf}
+use Rattle.effects.specs.Steps.{entering, exiting, entered, exited, opening, waitingOn, callerAfter, called, runningOn, goneOn, closing, closed, clientOf, finishing, finished, failing, failed, handedBack, answered, emptied, instanceOf, lowestEmpty, spawned, waited}
 use Rattle.stays_sound.specs.Facts.{Waiters, Sound, CanEnter, CanExit, CanCall, CanCollect, CanHandBack, CanEnd, CanSpawn, CanTimeout, CanWait, CanFail, WaitersIn}
 use Rattle.stays_sound.proofs.Told.{slots-length}
 use Rattle.stays_sound.proofs.Kept.{here, lowest-empty, slot-kept, waited-kept}
@@ -48,15 +49,18 @@ closed-calls : (os : Operations) (o : ℕ) (v : Value) (p : ℕ) → operationIn
 unfolding operationIn withOperation closing
 closed-calls os o v p = put-each (λ k y. y .calling ≡ true → getD (os .at) k noOperation .calling ≡ true) (os .at) o _ noOperation (λ e. absurd (clash false e refl)) p (λ e. e)
 
--- who does not wait waits on nothing
-pub waits-none : (o : ℕ) (x : Slot) → x .life .waiting ≡ false → waitsOn o x ≡ false
+-- who does not wait waits on no operation
+pub no-caller : (l : Life) → l .awaited .part ≡ noPart → isCaller l ≡ false
+no-caller l e = rw e
+
+pub waits-none : (o : ℕ) (x : Slot) → isCaller (x .life) ≡ false → waitsOn o x ≡ false
 unfolding waitsOn
 waits-none o x e = rw e
 
 -- nobody waits in an empty slot
-pub empty-runs : (cfg : Config) (st : State) (k : ℕ) → Sound cfg st → k < maxSlots → slotIn (st .slots) k .used ≡ false → slotIn (st .slots) k .life .waiting ≡ false
-unfolding slotSound isNoSlot
-empty-runs cfg st k s l u = not-true _ (all-told _ (rw u at (slot-at cfg (st .slots) (s .slots) k l)) .1 .0)
+pub empty-runs : (cfg : Config) (st : State) (k : ℕ) → Sound cfg st → k < maxSlots → slotIn (st .slots) k .used ≡ false → slotIn (st .slots) k .life .awaited .part ≡ noPart
+unfolding slotSound isNoSlot isNoLife isNoAwaited
+empty-runs cfg st k s l u = eqb-true _ _ (both-left (eqb (slotIn (st .slots) k .life .awaited .part) noPart) _ (all-told _ (all-told _ (rw u at (slot-at cfg (st .slots) (s .slots) k l)) .0) .1 .0))
 
 -- ---- the steps that change waiters
 
@@ -68,7 +72,7 @@ call-waiters cfg st i o v s z p =
     let x = slotIn (st .slots) i in
     let l = here cfg st i s (z .who .there) in
     let put = waiters-put (st .slots) i (callerAfter cfg o x) p l (omega (arith, l, slots-length cfg st s)) in
-    let old = waits-none p x (z .who .running) in
+    let old = waits-none p x (no-caller (x .life) (z .who .running)) in
     omega (arith, put, ap bit old, ap bit (new (operationConfIn (cfg .operations) o .asynchronous)))
   where
     new : (b : Bool) → waitsOn p (pick b (slotIn (st .slots) i) (waitingOn (slotIn (st .slots) i) o)) ≡ both (not b) (eqb o p)
@@ -76,7 +80,7 @@ call-waiters cfg st i o v s z p =
     new false = refl
 
 -- who collects is one waiter less
-pub collect-waiters : (cfg : Config) (st : State) (i o : ℕ) → Sound cfg st → CanCollect cfg st i o → (p : ℕ) → waitersOf (collected st i .slots) p + bit (eqb o p) ≡ waitersOf (st .slots) p
+pub collect-waiters : (cfg : Config) (st : State) (i o : ℕ) → Sound cfg st → CanCollect cfg st i o → (p : ℕ) → waitersOf (goneOn st i .slots) p + bit (eqb o p) ≡ waitersOf (st .slots) p
 unfolding waitsOn
 collect-waiters cfg st i o s z p =
     let x = slotIn (st .slots) i in
@@ -116,12 +120,12 @@ timeout-keeps-waiters cfg st o s z = waiters-kept cfg (st .operations) _ (st .sl
 pub end-keeps-waiters : (cfg : Config) (st : State) (i : ℕ) → Sound cfg st → CanEnd st i → WaitersIn cfg (emptied st i)
 unfolding noSlot
 end-keeps-waiters cfg st i s z =
-    waiters-kept cfg (st .operations) _ (st .slots) _ (λ o e. e) (waiters-slot (st .slots) i noSlot (λ o. waits-none o noSlot refl ∙ sym (waits-none o (slotIn (st .slots) i) (z .running)))) (s .waiters)
+    waiters-kept cfg (st .operations) _ (st .slots) _ (λ o e. e) (waiters-slot (st .slots) i noSlot (λ o. waits-none o noSlot refl ∙ sym (waits-none o (slotIn (st .slots) i) (no-caller (slotIn (st .slots) i .life) (z .running))))) (s .waiters)
 
 -- a new instance does not wait
-pub new-runs : (cfg : Config) (st : State) (r : ℕ) → instanceOf (runnableConfIn (cfg .runnables) r) r (runnableIn (st .runnables) r) .life .waiting ≡ false
+pub new-runs : (cfg : Config) (st : State) (r : ℕ) → instanceOf (runnableConfIn (cfg .runnables) r) r (runnableIn (st .runnables) r) .life .awaited .part ≡ noPart
 unfolding instanceOf
-new-runs cfg st r = pick-has (λ (y : Slot). y .life .waiting ≡ false) (eqb (runnableConfIn (cfg .runnables) r .capacity) 0) _ _ (λ e. refl) (λ e. refl)
+new-runs cfg st r = pick-has (λ (y : Slot). y .life .awaited .part ≡ noPart) (eqb (runnableConfIn (cfg .runnables) r .capacity) 0) _ _ (λ e. refl) (λ e. refl)
 
 pub spawn-keeps-waiters : (cfg : Config) (st : State) (r : ℕ) → Sound cfg st → CanSpawn cfg st r → WaitersIn cfg (spawned cfg st r (lowestEmpty (st .slots)))
 unfolding spawned
@@ -129,7 +133,7 @@ spawn-keeps-waiters cfg st r s z =
     let k = lowestEmpty (st .slots) in
     let x = instanceOf (runnableConfIn (cfg .runnables) r) r (runnableIn (st .runnables) r) in
     waiters-kept cfg (st .operations) _ (st .slots) _ (λ o e. e)
-    (waiters-slot (st .slots) k x (λ o. waits-none o x (new-runs cfg st r) ∙ sym (waits-none o (slotIn (st .slots) k) (empty-runs cfg st k s (z .slot) (lowest-empty (st .slots) (z .slot))))))
+    (waiters-slot (st .slots) k x (λ o. waits-none o x (no-caller (x .life) (new-runs cfg st r)) ∙ sym (waits-none o (slotIn (st .slots) k) (no-caller (slotIn (st .slots) k .life) (empty-runs cfg st k s (z .slot) (lowest-empty (st .slots) (z .slot)))))))
     (s .waiters)
 
 pub wait-keeps-waiters : (cfg : Config) (st : State) (t : ℕ) → Sound cfg st → CanWait cfg st t → WaitersIn cfg (waited cfg st t)
@@ -164,12 +168,12 @@ call-keeps-waiters cfg st i o v s z = record { most = λ p l. most p l (ℕ-disc
     bound p l a (yes e) c = let f : operationConfIn (cfg .operations) o .asynchronous ≡ false = ap (λ (k : ℕ). operationConfIn (cfg .operations) k .asynchronous) (sym e) ∙ a in rw (e, more o, f, eq-eqb o o refl) (omega arith)
     bound p l a (no n) c = omega (arith, more p, s .waiters .bound p l (rw (opened-other (st .operations) o (opening (operationConfIn (cfg .operations) o .timeout) (operationIn (st .operations) o)) p n) at c) a)
 
-pub collect-keeps-waiters : (cfg : Config) (st : State) (i o : ℕ) → Sound cfg st → CanCollect cfg st i o → WaitersIn cfg (collected st i)
+pub collect-keeps-waiters : (cfg : Config) (st : State) (i o : ℕ) → Sound cfg st → CanCollect cfg st i o → WaitersIn cfg (goneOn st i)
 collect-keeps-waiters cfg st i o s z = record {
   most = λ p l. omega (arith, collect-waiters cfg st i o s z p, s .waiters .most p l);
   bound = λ p l e a. bound p l e a (ℕ-discrete p o);
 }
   where
-    bound : (p : ℕ) → p < maxOperationConfs → operationIn (st .operations) p .calling ≡ true → operationConfIn (cfg .operations) p .asynchronous ≡ false → Dec (p ≡ o) → 0 < waitersOf (collected st i .slots) p
+    bound : (p : ℕ) → p < maxOperationConfs → operationIn (st .operations) p .calling ≡ true → operationConfIn (cfg .operations) p .asynchronous ≡ false → Dec (p ≡ o) → 0 < waitersOf (goneOn st i .slots) p
     bound p l e a (yes q) = absurd (clash (operationIn (st .operations) o .calling) (ap (λ (k : ℕ). operationIn (st .operations) k .calling) (sym q) ∙ e) (z .shut))
     bound p l e a (no n) = omega (arith, s .waiters .bound p l e a, collect-waiters cfg st i o s z p, ap bit (ne-eqb o p (λ q. n (sym q))))

@@ -17,7 +17,7 @@ use Rattle.state.specs.Queues.{firstValue}
 use Rattle.state.specs.Tables.{maxSlots, runnableIn, variableIn, elementIn, operationIn, slotIn}
 use Rattle.rules.specs.Rows.{rows, rowOf}
 use Rattle.rules.specs.Refusals.{refusalOf}
-use Rattle.effects.specs.Steps.{refused, took, stored, isTaken, entered, onTop, exited, looked, fed, invalidated, fullMask, sentOf, isBare, received, isOpen, isBorne, isBusy, requestsFull, called, collected, closed, answers, serves, clientOf, finished, answered, handsNumber, handedBack, failed, isOver, holds, emptied, maySpawn, lowestEmpty, spawned, isUp, ticked, allLet, waited, readVariableOf, writeVariableOf, enterOf, exitOf, readOf, writeOf, updatedOf, invalidateOf, receiveOf, sendOf, callOf, pollOf, collectOf, resultOf, handBackOf, endOf, spawnOf, timeoutOf, tickOf, waitOf, failOf}
+use Rattle.effects.specs.Steps.{refused, took, stored, isTaken, entered, onTop, exited, looked, fed, invalidated, fullMask, sentOf, isBare, received, isOpen, isBorne, isBusy, requestsFull, called, goneOn, closed, answers, serves, clientOf, finished, answered, handsNumber, handedBack, failed, isOver, holds, emptied, maySpawn, lowestEmpty, spawned, isUp, ticked, allLet, waited, readVariableOf, writeVariableOf, enterOf, exitOf, readOf, writeOf, updatedOf, invalidateOf, receiveOf, sendOf, callOf, pollOf, collectOf, resultOf, handBackOf, endOf, spawnOf, timeoutOf, tickOf, waitOf, failOf}
 use Rattle.effects.specs.Step.{possibleOf}
 use Rattle.effects.proofs.Codes.{Code, coded, actBy, possible-by, possible-barred}
 use Rattle.effects.proofs.Codes as code
@@ -42,7 +42,7 @@ pub data Way (cfg : Config) (st : State) (s : Step) : ℕ → Value → State �
   call : CanCall cfg st (s .who) (s .what) (s .argument) → Way cfg st s callCode okV (called cfg st (s .who) (s .what) (s .argument))
   pollOpen : operationConfIn (cfg .operations) (s .what) .asynchronous ≡ true → isOpen st (s .what) ≡ true → Way cfg st s resultCode noDataV st
   poll : operationConfIn (cfg .operations) (s .what) .asynchronous ≡ true → isOpen st (s .what) ≡ false → Way cfg st s resultCode (operationIn (st .operations) (s .what) .done) st
-  collect : CanCollect cfg st (s .who) (s .what) → Way cfg st s resultCode (operationIn (st .operations) (s .what) .done) (collected st (s .who))
+  collect : CanCollect cfg st (s .who) (s .what) → Way cfg st s resultCode (operationIn (st .operations) (s .what) .done) (goneOn st (s .who))
   answer : CanHandBack cfg st (s .who) (s .argument) → answers (st .operations) (clientOf st (s .who)) ≡ true → Way cfg st s handBackCode (numberV 1) (answered cfg st (s .who) (handedBack st (s .who) (s .argument)))
   late : CanHandBack cfg st (s .who) (s .argument) → answers (st .operations) (clientOf st (s .who)) ≡ false → Way cfg st s handBackCode (numberV 0) (finished st st (s .who))
   end : CanEnd st (s .who) → Way cfg st s endCode voidV (emptied st (s .who))

@@ -12,7 +12,8 @@ use Rattle.config.specs.Tables.{maxRunnableConfs, maxAreaConfs, maxOperationCon
 use Rattle.entries.specs.Faults.{isQueued, configSound}
 use Rattle.state.specs.Tables.{maxSlots, runnableIn, areaIn, elementIn, operationIn, timerIn, slotIn}
 use Rattle.state.specs.Queues.{topArea}
-use Rattle.rules.specs.Sound.{componentOf, slotsOf, holders, clientsAs, waitersOf, shaped, runnablesSound, variablesSound, elementsSound, operationsSound, timersSound, slotsSound}
+use Rattle.rules.specs.Rows.{noPart}
+use Rattle.rules.specs.Sound.{componentOf, isCaller, slotsOf, holders, clientsAs, waitersOf, shaped, runnablesSound, variablesSound, elementsSound, operationsSound, timersSound, slotsSound}
 use Rattle.effects.specs.Steps.{isTaken, isOpen, serves, hasFailed, handsNumber, isDue, lowestEmpty, operationsLet, timersLet}
 
 -- ---- the clauses over two tables and more, at every place
@@ -80,7 +81,7 @@ pub record There (st : State) (i : ℕ) : Type 0 where
 -- it neither waits nor is finished
 pub record Acts (st : State) (i : ℕ) : Type 0 where
   pub there : There st i
-  pub running : slotIn (st .slots) i .life .waiting ≡ false
+  pub running : slotIn (st .slots) i .life .awaited .part ≡ noPart
   pub unfinished : slotIn (st .slots) i .life .finished ≡ false
 
 -- a payload for a variable that is there
@@ -146,8 +147,8 @@ pub record CanCollect (cfg : Config) (st : State) (i o : ℕ) : Type 0 where
   pub there : There st i
   pub inside : o < cfg .operations .n
   pub synchronous : operationConfIn (cfg .operations) o .asynchronous ≡ false
-  pub waiting : slotIn (st .slots) i .life .waiting ≡ true
-  pub on : slotIn (st .slots) i .life .on ≡ o
+  pub waiting : isCaller (slotIn (st .slots) i .life) ≡ true
+  pub on : slotIn (st .slots) i .life .awaited .on ≡ o
   pub shut : isOpen st o ≡ false
 
 -- a payload for the client that is served, and no Number from an instance that has failed
@@ -160,7 +161,7 @@ pub record CanHandBack (cfg : Config) (st : State) (i : ℕ) (v : Value) : Type 
 -- it does not wait, and neither a client nor an area is left
 pub record CanEnd (st : State) (i : ℕ) : Type 0 where
   pub there : There st i
-  pub running : slotIn (st .slots) i .life .waiting ≡ false
+  pub running : slotIn (st .slots) i .life .awaited .part ≡ noPart
   pub none : serves st i ≡ false
   pub flat : slotIn (st .slots) i .stack .held ≡ 0
 

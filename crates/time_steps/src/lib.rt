@@ -7,6 +7,7 @@ use config::Config;
 use config::RunnableConf;
 use config::RunnableConfs;
 use effects::Found;
+use state::Awaited;
 use state::Life;
 use state::Operation;
 use state::Operations;
@@ -72,8 +73,7 @@ fn fresh(r: u8, w: Owed) -> Slot
         used: true,
         life: Life {
             runnable: r,
-            waiting: false,
-            on: 0,
+            awaited: Awaited::BLANK,
             finished: false,
             failed: false,
         },

@@ -1,13 +1,13 @@
 -- Why a step is refused, finer than its number: for each number the cases that it stands for, and what tells them apart ("Numbers of refusal").
 -- Assumes nothing.
 use Prim.Native.Nat.{ℕ}
-use mathlib.Core.Bool.{Bool, not}
+use mathlib.Core.Bool.{Bool}
 use lib.Dec.{ltb, leb, eqb}
 use lib.ListN.{getD}
 use Rattle.laws.specs.Choice.{pick, both}
 use Rattle.laws.specs.Loop.{anyBelow, firstBelow}
 use Rattle.numbers.specs.Refusals.{malformed, stepGone, notThere, notOwn, barred, areaTaken, notOnTop, queueFull, numberBorne, stillOpen, notDue, noSlotFree, tooFar, notOver, areasHeld, wrongClient, otherAnswer}
-use Rattle.numbers.specs.Codes.{resultCode, timeoutCode}
+use Rattle.numbers.specs.Codes.{timeoutCode}
 use Rattle.numbers.specs.Tags.{operationTag, timerTag}
 use Rattle.faces.specs.Types.{Step, Config, RunnableConf, Life, Owed, Stack, Runnable, Slots, State}
 use Rattle.config.specs.Tables.{runnableConfIn, operationConfIn}
@@ -17,7 +17,7 @@ use Rattle.state.specs.Queues.{topArea}
 use Rattle.rules.specs.declared.Row.{Row}
 use Rattle.rules.specs.Sound.{componentOf, isClient}
 use Rattle.rules.specs.Rows.{aSlot, scheduler, noPart, rowOf}
-use Rattle.rules.specs.Refusals.{formed}
+use Rattle.rules.specs.Refusals.{formed, waitingLets}
 use Rattle.whys.specs.declared.Cause.{Cause}
 use Rattle.whys.specs.declared.Cause.the-variants.{NoCause, NoCode, HasWho, HasWhat, BadArgument, HandsNumber, StepGone, NoSlot, EmptySlot, NoPart, Foreign, IsQueued, NotQueued, WaitsOn, IsFinished, HasFailed, FailedBack, NotWaiting, HeldBy, NoneHeld, OnTop, QueueFull, StillServed, StillQueued, CallOpen, InInterval, Runs, NotPending, NoRequest, NoRoom, Stops, NotOpen, CallRuns, TimerRuns, StillHeld, NoClient, HasClient, Differs}
 use Rattle.passing.specs.Passing.{passesOf, operationStop, timerStop}
@@ -105,16 +105,13 @@ ownCause cfg ss r s =
 
 -- ---- 5
 
--- it waits, and for something else ("Numbers of refusal", 5)
-unfoldable pub waitsElse : Life → Step → Bool
-waitsElse l s = both (l .waiting) (not (both (eqb (s .code) resultCode) (eqb (l .on) (s .what))))
-
 -- it waits, and for something else; it has failed, and handed back or not yet; it is finished; or it asks without waiting ("Numbers of refusal", 5; W-205)
 unfoldable pub lifeCause : Life → Step → Cause
 lifeCause l s =
-    pick (waitsElse l s) (WaitsOn (l .on))
+    pick (waitingLets l (s .code) (s .what))
     (pick (l .failed) (pick (l .finished) FailedBack HasFailed)
     (pick (l .finished) IsFinished NotWaiting))
+    (WaitsOn (l .awaited .on))
 
 -- ---- 6, 7, 15: areas
 

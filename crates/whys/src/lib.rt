@@ -3,7 +3,7 @@ ghost use mathlib.Core.Path.{_≡_};
 ghost use lib.ListN.{getD};
 ghost use Rattle.config.specs.Tables.{runnableConfIn};
 ghost use Rattle.state.specs.Tables.{runnableIn};
-ghost use Rattle.whys.specs.Whys.{formCause, slotCause, codeCause, thereCause, ownCause, waitsElse, lifeCause, holdsOf, holderOf, topCause, fullCause, servesAs, bearerOf, borneCause, openCause, dueCause, spawnCause, stopCause, earlyCause, stillCause, owedCause, whyOf};
+ghost use Rattle.whys.specs.Whys.{formCause, slotCause, codeCause, thereCause, ownCause, lifeCause, holdsOf, holderOf, topCause, fullCause, servesAs, bearerOf, borneCause, openCause, dueCause, spawnCause, stopCause, earlyCause, stillCause, owedCause, whyOf};
 use config::AreaConfs;
 use config::Config;
 use config::RunnableConf;
@@ -159,36 +159,24 @@ fn own_cause(cfg: Config, slots: Slots, row: Row, s: Step) -> Cause
     Cause::Foreign(e.first, c.component)
 }
 
-// It waits, and for something else.
-fn waits_else(l: Life, s: Step) -> bool
-    ensures { λ r. ⌜ r ≡ waitsElse l s ⌝ }
-{
-    if l.waiting {
-        if s.code == numbers::CODE_RESULT {
-            return l.on != s.what;
-        }
-        return true;
-    }
-    false
-}
-
 // 5: the instance waits, has failed, is finished, or does not wait.
 fn life_cause(l: Life, s: Step) -> Cause
     ensures { λ r. ⌜ r ≡ lifeCause l s ⌝ }
 {
-    if waits_else(l, s) {
-        return Cause::WaitsOn(l.on);
-    }
-    if l.failed {
-        if l.finished {
-            return Cause::FailedBack;
+    if refusals::waiting_lets(l, s.code, s.what) {
+        if l.failed {
+            if l.finished {
+                return Cause::FailedBack;
+            }
+            return Cause::HasFailed;
         }
-        return Cause::HasFailed;
+        if l.finished {
+            return Cause::IsFinished;
+        }
+        return Cause::NotWaiting;
     }
-    if l.finished {
-        return Cause::IsFinished;
-    }
-    Cause::NotWaiting
+    let a = l.awaited;
+    Cause::WaitsOn(a.on)
 }
 
 fn area_at(s: Stack, j: u8) -> u8

@@ -10,8 +10,7 @@ returns c = rw (c .refuse .ensures, ← c .before .before .get .ensures, c .befo
 
 returns-2 : tie.Need-returns-2
 unfolding collectOf
-returns-2 c = rw (c .take .ensures, c .before .with .ensures, c .before .before .running-on .ensures, c .before .before .before .get2 .ensures, ← c .before .before .before .before .before .before .get .ensures, c .before .before .before .before .before .if1 .left, isOpen)
+returns-2 c = rw (c .take .ensures, c .before .gone-on .ensures, ← c .before .before .before .get .ensures, c .before .before .if1 .left, isOpen)
 
 pub collect-spec : {M : Type 1} → statement M
-collect-spec =
-    tie.close (tie.spec (λ c κs. tt) (λ c κs. tt) returns (λ c κs. tt) (λ c κs. tt) (λ c κs. tt) (λ c κs. tt) returns-2)
+collect-spec = tie.close (tie.spec (λ c κs. tt) (λ c κs. tt) returns (λ c κs. tt) (λ c κs. tt) returns-2)

@@ -17,12 +17,7 @@ returns-2 c = rw (lt-ltb _ _ (c .before .before .if1 .left), ← c .before .fini
 
 returns-3 : tie.Need-returns-3
 unfolding lifeSound allOf
-returns-3 c = rw (← c .waits-well .ensures, lt-ltb _ _ (c .before .before .before .before .if1 .left), ← c .before .before .before .finishes-well .ensures, not-false (c .before .before .before .finishes-well .result) (c .before .before .if2 .left), c .before .if3 .taken) (both-true _)
-
-returns-4 : tie.Need-returns-4
-unfolding lifeSound allOf
-returns-4 c = rw (lt-ltb _ _ (c .before .before .before .before .if1 .left), ← c .before .before .before .finishes-well .ensures, not-false (c .before .before .before .finishes-well .result) (c .before .before .if2 .left), c .before .if3 .left) (both-true _)
+returns-3 c = rw (← c .awaits-well .ensures, lt-ltb _ _ (c .before .before .before .if1 .left), ← c .before .before .finishes-well .ensures, not-false (c .before .before .finishes-well .result) (c .before .if2 .left)) (both-true _)
 
 pub life-sound-spec : {M : Type 1} → statement M
-life-sound-spec =
-    tie.close (tie.spec returns (λ c κs. tt) returns-2 (λ c κs. tt) returns-3 returns-4)
+life-sound-spec = tie.close (tie.spec returns (λ c κs. tt) returns-2 (λ c κs. tt) returns-3)
