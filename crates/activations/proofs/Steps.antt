@@ -169,7 +169,7 @@ module _ (cfg : Config) (st : State) (s : Step) (r : ℕ) (p : Plain cfg r) (g :
   counts-way c (go.write z) = wakes (isFed cfg (st .elements) (s .what) r) (trigger c) (spawn c) (fed-pending (s .what) (s .argument))
   counts-way c go.updated = calm (trigger c) (spawn c) refl
   counts-way c (go.invalidate z) = calm (trigger c) (spawn c) refl
-  counts-way c (go.receiveNone e) = calm (trigger c) (spawn c) refl
+  counts-way c (go.receiveNone e i) = calm (trigger c) (spawn c) refl
   counts-way c (go.receive z) = calm (trigger c) (spawn c) refl
   counts-way c (go.send z) = wakes (isFed cfg (st .elements) (s .what) r) (trigger c) (spawn c) (fed-pending (s .what) (s .argument))
   counts-way c (go.callBusy e) = calm (trigger c) (spawn c) refl
@@ -186,6 +186,8 @@ module _ (cfg : Config) (st : State) (s : Step) (r : ℕ) (p : Plain cfg r) (g :
   counts-way c (go.tick z) = wakes (eqb (timerConfIn (cfg .timers) (s .what) .runnable) r) (trigger c) (spawn c) (tick-pending (timerConfIn (cfg .timers) (s .what) .runnable))
   counts-way c (go.wait z) = calm (trigger c) (spawn c) (after-kept (λ x. x .pending) (s .argument .number) (λ x. refl) cfg (st .runnables) r)
   counts-way c (go.fail z) = calm (trigger c) (spawn c) refl
+  counts-way c (go.hold z) = calm (trigger c) (spawn c) refl
+  counts-way c (go.giveUp z) = calm (trigger c) (spawn c) refl
 
 pub step-counts : StepCounts
 step-counts cfg st s r p a =

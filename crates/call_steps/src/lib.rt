@@ -176,6 +176,7 @@ fn waiting_on(x: Slot, o: u8) -> Slot
         Awaited {
             part: numbers::TAG_OPERATION,
             on: o,
+            left: 0,
         },
     )
 }
@@ -245,7 +246,7 @@ fn collect(st: State, i: u8, o: u8) -> Stepped
     let t = st.operations;
     let x = t.get(o);
     if x.calling {
-        return shared_steps::refuse(numbers::STILL_OPEN, st);
+        return shared_steps::refuse(numbers::STILL_WAITS, st);
     }
     shared_steps::take(x.done, shared_steps::gone_on(st, i))
 }

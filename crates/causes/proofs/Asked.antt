@@ -10,13 +10,14 @@ use lib.Dec.{ltb, eqb}
 use Rattle.numbers.specs.Refusals.{malformed}
 use Rattle.numbers.specs.Codes.{handBackCode, waitCode}
 use Rattle.laws.specs.Choice.{pick, both, either}
-use Rattle.values.specs.Values.{voidV, numberV, isVoid, isPayload}
+use Rattle.values.specs.Values.{voidV, numberV, isVoid, isPayload, isNumber}
 use Rattle.faces.specs.Types.{Value, Step, Refused, Config, State, Stepped}
 use Rattle.config.specs.Tables.{operationConfIn}
 use Rattle.rules.specs.declared.Row.{Row}
 use Rattle.rules.specs.Rows.{noPart, rowOf, rows}
 use Rattle.rules.specs.Refusals.{argues, formed, instanceRefusal, schedulerRefusal, refusalBy, refusalOf}
-use Rattle.effects.specs.Steps.{requestsFull, isBusy, isBorne, serves, clientOf, answers, hasFailed, handsNumber, writeVariableOf, writeOf, sendOf, callOf, handBackOf}
+use Rattle.entries.specs.Faults.{isTime}
+use Rattle.effects.specs.Steps.{requestsFull, isBusy, isBorne, serves, clientOf, answers, hasFailed, handsNumber, writeVariableOf, writeOf, sendOf, callOf, handBackOf, holdOf}
 use Rattle.effects.specs.Step.{possibleOf}
 use Rattle.effects.proofs.Codes.{Code, coded, actBy, possible-by, possible-barred}
 use Rattle.effects.proofs.Codes as code
@@ -25,12 +26,16 @@ use Rattle.causes.specs.Allowed.{sampleOf, probeOf, allowedOf}
 -- the sample is of its kind
 sample-argues : (k : ℕ) → argues k (sampleOf k) ≡ true
 unfolding argues sampleOf isVoid isPayload
-sample-argues k = go (eqb k 0) (eqb k 1)
+sample-argues k = go (eqb k 0) (eqb k 1) (eqb k 3)
   where
-    go : (a b : Bool) → pick a (isVoid (pick a voidV (pick b voidV (numberV 0)))) (pick b (isPayload (pick a voidV (pick b voidV (numberV 0)))) (eqb (pick a voidV (pick b voidV (numberV 0)) .kind) 1)) ≡ true
-    go true b = refl
-    go false true = refl
-    go false false = refl
+    sample : Bool → Bool → Bool → Value
+    sample a b c = pick a voidV (pick b voidV (pick c (numberV 1) (numberV 0)))
+
+    go : (a b c : Bool) → pick a (isVoid (sample a b c)) (pick b (isPayload (sample a b c)) (pick c (both (isNumber (sample a b c)) (isTime (sample a b c .number))) (isNumber (sample a b c)))) ≡ true
+    go true b c = refl
+    go false true c = refl
+    go false false true = refl
+    go false false false = refl
 
 -- two arguments of the kind are as good as each other
 formed-same : (r : Row) (what : ℕ) (v w : Value) → argues (r .argument) v ≡ true → argues (r .argument) w ≡ true → formed r what v ≡ formed r what w
@@ -54,7 +59,7 @@ module _ (cfg : Config) (st : State) where
 
   -- what a step answers does not depend on what it hands over, but for a wait, and for a Number from an instance that has failed
   act-answers : {n : ℕ} (c : Code n) → (n ≡ waitCode → ⊥) → (i k : ℕ) (v w : Value) → Spoken n i v → Spoken n i w → actBy c cfg st i k v .answer ≡ actBy c cfg st i k w .answer
-  unfolding writeVariableOf writeOf sendOf callOf handBackOf
+  unfolding writeVariableOf writeOf sendOf callOf handBackOf holdOf
   act-answers code.readVariable l i k v w p q = refl
   act-answers code.writeVariable l i k v w p q = refl
   act-answers code.enter l i k v w p q = refl
@@ -78,6 +83,8 @@ module _ (cfg : Config) (st : State) where
   act-answers code.tick l i k v w p q = refl
   act-answers code.wait l i k v w p q = absurd (l refl)
   act-answers code.fail l i k v w p q = refl
+  act-answers code.hold l i k v w p q = refl
+  act-answers code.giveUp l i k v w p q = refl
 
   module _ (s : Step) (h : argues (rowOf (s .code) .argument) (s .argument) ≡ true) where
     -- the step that is asked about

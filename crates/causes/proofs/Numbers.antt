@@ -7,8 +7,8 @@ use mathlib.Core.Path.{_≡_, refl, sym, ap, _∙_, subst}
 use lib.Dec.{ltb, leb, eqb}
 use Rattle.laws.specs.Choice.{pick, both}
 use Rattle.laws.proofs.Choosing.{pick-has}
-use Rattle.numbers.specs.Refusals.{malformed, stepGone, notThere, notOwn, barred, areaTaken, notOnTop, queueFull, numberBorne, stillOpen, notDue, noSlotFree, tooFar, notOver, areasHeld, wrongClient, otherAnswer}
-use Rattle.numbers.specs.Codes.{timeoutCode}
+use Rattle.numbers.specs.Refusals.{malformed, stepGone, notThere, notOwn, barred, areaTaken, notOnTop, queueFull, numberBorne, notDue, noSlotFree, tooFar, notOver, areasHeld, wrongClient, otherAnswer, stillWaits}
+use Rattle.numbers.specs.Codes.{timeoutCode, receiveCode, giveUpCode}
 use Rattle.values.specs.Values.{answerRefusal}
 use Rattle.faces.specs.Types.{Value, Step, Answer, Taken, Refused, Config, RunnableConf, Life, Runnable, Slots, State, Stepped}
 use Rattle.config.specs.Editions.{hasStep}
@@ -16,17 +16,17 @@ use Rattle.config.specs.Tables.{runnableConfIn}
 use Rattle.entries.specs.Entries.{entryOf}
 use Rattle.state.specs.Tables.{maxSlots, runnableIn, operationIn, slotIn}
 use Rattle.rules.specs.declared.Row.{Row}
-use Rattle.rules.specs.Sound.{componentOf, soundOf}
+use Rattle.rules.specs.Sound.{isCaller, componentOf, soundOf}
 use Rattle.rules.specs.Rows.{aSlot, scheduler, noPart, rowOf}
 use Rattle.rules.specs.Refusals.{formed, partThere, partOwn, waitingLets, lifeLets, ownedRefusal, instanceRefusal, schedulerRefusal, refusalBy, refusalOf}
 use Rattle.effects.specs.Steps.{refused}
 use Rattle.effects.specs.Step.{possibleOf, onAnswer, agrees, claimedOf, innerOf, stepOf}
 use Rattle.effects.proofs.Codes.{never}
-use Rattle.stays_sound.proofs.Ways.{Barred, shared, enterTaken, exitOther, callBorne, callFull, collectOpen, answerNumber, answerNone, endServing, endHolding, spawnNeed, spawnFull, timeoutEarly, tickEarly, waitFar, Went, bars, goes, went}
+use Rattle.stays_sound.proofs.Ways.{Barred, shared, enterTaken, exitOther, receiveHeld, callBorne, callFull, collectOpen, answerNumber, answerNone, endServing, endHolding, spawnNeed, spawnFull, timeoutEarly, tickEarly, waitFar, giveUpEarly, Went, bars, goes, went}
 use Rattle.stays_sound.proofs.Refusals.{refused-same}
 use Rattle.whys.specs.declared.Cause.{Cause}
 use Rattle.whys.specs.declared.Cause.the-variants.{NoCause, Differs}
-use Rattle.passing.specs.Passing.{passesOf, operationStop}
+use Rattle.passing.specs.Passing.{passesOf, operationStop, timerStop}
 use Rattle.whys.specs.Whys.{causeRefusal, formCause, slotCause, codeCause, thereCause, ownCause, lifeCause, topCause, stillCause, fullCause, bearerOf, borneCause, openCause, dueCause, spawnCause, stopCause, earlyCause, owedCause, whyOf}
 use Rattle.causes.specs.Causes.{claimCause, causeOf}
 
@@ -71,7 +71,7 @@ life-number l s =
     either-number (waitingLets l (s .code) (s .what)) _ _ barred
     (either-number (l .failed) _ _ barred (either-number (l .finished) _ _ barred refl refl)
     (either-number (l .finished) _ _ barred refl refl))
-    refl
+    (either-number (isCaller l) _ _ barred refl refl)
 
 top-number : (ss : Slots) (i : ℕ) → causeRefusal (topCause ss i) ≡ notOnTop
 unfolding topCause
@@ -85,9 +85,9 @@ borne-number : (cfg : Config) (st : State) (o : ℕ) → causeRefusal (borneCaus
 unfolding borneCause
 borne-number cfg st o = either-number (ltb (bearerOf (st .slots) o (operationIn (st .operations) o .number)) maxSlots) _ _ numberBorne refl refl
 
-open-number : (st : State) (o : ℕ) → causeRefusal (openCause st o) ≡ stillOpen
+open-number : (st : State) (s : Step) → causeRefusal (openCause st s) ≡ stillWaits
 unfolding openCause
-open-number st o = refl
+open-number st s = either-number (eqb (s .code) receiveCode) _ _ stillWaits refl refl
 
 due-number : (n : ℕ) → causeRefusal (dueCause n) ≡ notDue
 unfolding dueCause
@@ -102,12 +102,13 @@ spawn-number c x =
 
 stop-number : (cfg : Config) (st : State) (t : ℕ) → causeRefusal (stopCause cfg st t) ≡ tooFar
 unfolding stopCause
-stop-number cfg st t = either-number (ltb (operationStop cfg (st .operations) t) (cfg .operations .n)) _ _ tooFar refl refl
+stop-number cfg st t = either-number (ltb (operationStop cfg (st .operations) t) (cfg .operations .n)) _ _ tooFar refl (either-number (ltb (timerStop cfg (st .timers) t) (cfg .timers .n)) _ _ tooFar refl refl)
 
 early-number : (st : State) (s : Step) → causeRefusal (earlyCause st s) ≡ notOver
 unfolding earlyCause
 early-number st s =
-    either-number (eqb (s .code) timeoutCode) _ _ notOver (either-number (operationIn (st .operations) (s .what) .calling) _ _ notOver refl refl) refl
+    either-number (eqb (s .code) timeoutCode) _ _ notOver (either-number (operationIn (st .operations) (s .what) .calling) _ _ notOver refl refl)
+    (either-number (eqb (s .code) giveUpCode) _ _ notOver refl refl)
 
 still-number : (ss : Slots) (i : ℕ) → causeRefusal (stillCause ss i) ≡ areasHeld
 unfolding stillCause
@@ -159,9 +160,9 @@ module _ (cfg : Config) (st : State) (s : Step) where
   unfolding whyOf
   named-number-borne = borne-number cfg st (s .what)
 
-  named-still-open : Named stillOpen
+  named-still-waits : Named stillWaits
   unfolding whyOf
-  named-still-open = open-number st (s .what)
+  named-still-waits = open-number st s
 
   named-not-due : Named notDue
   unfolding whyOf
@@ -223,7 +224,8 @@ module _ (cfg : Config) (st : State) (s : Step) where
   barred-named (exitOther e) = named-not-on-top
   barred-named (callBorne a b) = named-number-borne
   barred-named (callFull a b) = named-queue-full
-  barred-named (collectOpen e) = named-still-open
+  barred-named (receiveHeld e w) = named-still-waits
+  barred-named (collectOpen e) = named-still-waits
   barred-named (answerNumber e) = named-malformed
   barred-named (answerNone e) = named-wrong-client
   barred-named (endServing e) = named-wrong-client
@@ -233,6 +235,7 @@ module _ (cfg : Config) (st : State) (s : Step) where
   barred-named (timeoutEarly e) = named-not-over
   barred-named (tickEarly e) = named-not-over
   barred-named (waitFar e) = named-too-far
+  barred-named (giveUpEarly e) = named-not-over
 
   went-fair : {n : ℕ} {r : Stepped} → Went cfg st s n r → Fair r
   went-fair (bars b) n e = subst Named (refused-same _ n e) (barred-named b)

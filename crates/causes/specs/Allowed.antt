@@ -5,12 +5,12 @@ use lib.Dec.{eqb}
 use Rattle.laws.specs.Choice.{pick}
 use Rattle.values.specs.Values.{voidV, numberV}
 use Rattle.faces.specs.Types.{Value, Step, Answer, Config, State}
-use Rattle.rules.specs.Rows.{nothing, aPayload, rowOf}
+use Rattle.rules.specs.Rows.{nothing, aPayload, aTime, rowOf}
 use Rattle.effects.specs.Step.{possibleOf}
 
--- an argument of a kind: Void for none and for a payload, else a Number ("The eighteen steps", the column of arguments)
+-- an argument of a kind: Void for none and for a payload, else a Number, for a time the least ("The eighteen steps", the column of arguments; W-210)
 unfoldable pub sampleOf : ℕ → Value
-sampleOf k = pick (eqb k nothing) voidV (pick (eqb k aPayload) voidV (numberV 0))
+sampleOf k = pick (eqb k nothing) voidV (pick (eqb k aPayload) voidV (pick (eqb k aTime) (numberV 1) (numberV 0)))
 
 -- the step that is asked about: Void where a payload or nothing is handed over, a wait of 0 ("The eighteen steps", the column of arguments)
 unfoldable pub probeOf : ℕ → ℕ → ℕ → Step

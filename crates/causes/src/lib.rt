@@ -14,6 +14,8 @@ const NOTHING: u8 = 0;
 
 const A_PAYLOAD: u8 = 1;
 
+const A_TIME: u8 = 3;
+
 // 17, or no cause: by the answer that the step would have.
 fn claim_cause(code: u8, v: Value, claim: Value) -> Cause
     ensures { λ r. ⌜ r ≡ claimCause code v claim ⌝ }
@@ -62,6 +64,9 @@ fn sample(kind: u8) -> Value
     }
     if kind == A_PAYLOAD {
         return Value::VOID;
+    }
+    if kind == A_TIME {
+        return Value::of(1);
     }
     Value::of(0)
 }

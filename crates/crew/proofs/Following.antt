@@ -4,7 +4,7 @@
 use Prim.Native.Nat.{ℕ, _+_, _≤_, _<_}
 use mathlib.Core.Bool.{Bool, true, false, not}
 use mathlib.Core.List.{List, [], _∷_, _++_}
-use mathlib.Core.Logic.{⊎-elim}
+use mathlib.Core.Logic.{inl, inr, ⊎-elim}
 use mathlib.Core.Path.{_≡_, refl, sym, ap, _∙_, subst}
 use native.Mathlib.Decide.{ℕ-discrete, decLt}
 use native.Mathlib.Nat.{mod-eq-of-lt}
@@ -13,14 +13,14 @@ use lib.Dec.{ltb, leb, eqb}
 use lib.ListN.{length, getD, set, drop, length-append, length-drop}
 use lib.Seq.{getD-set-same, getD-set-other}
 use borrow.Author.Tests.{ltb-true, eqb-true, eq-eqb, ne-eqb}
-use Rattle.numbers.specs.Codes.{writeCode, receiveCode, sendCode}
+use Rattle.numbers.specs.Codes.{writeCode, receiveCode, sendCode, giveUpCode}
 use Rattle.laws.specs.Choice.{pick, both, bit}
 use Rattle.laws.specs.Mask.{isSet}
 use Rattle.laws.proofs.Choosing.{clash, both-right, alike-is, pick-has}
 use Rattle.laws.proofs.Looping.{all-at}
 use Rattle.laws.proofs.Places.{filled-length, each-has}
 use Rattle.faces.specs.Types.{Value, Step, Taken, RequiredConf, Config, Element, Elements, State}
-use Rattle.values.specs.Values.{voidV, limitV, noDataV, neverReceivedV, fullV, isVoid, isPayload}
+use Rattle.values.specs.Values.{voidV, limitV, noDataV, neverReceivedV, fullV, isVoid, isPayload, timeoutV}
 use Rattle.config.specs.Tables.{requiredConfIn, providedConfIn}
 use Rattle.entries.specs.Entries.{entryOf}
 use Rattle.entries.specs.Faults.{isQueued, configSound}
@@ -44,6 +44,8 @@ use Rattle.stays_sound.proofs.Elements.{linked-alike}
 use Rattle.stays_sound.proofs.Ways.{Way}
 use Rattle.stays_sound.proofs.Ways as go
 use Rattle.stays_sound.proofs.Accepted.{accepted, answerIn, gone, way}
+use Rattle.history.specs.History.{timeSince, heldIn}
+use Rattle.history.proofs.Proofs.{held-goes-on}
 use Rattle.history.specs.Promises.{Run, OfSteps}
 use Rattle.history.specs.Sends.{Said}
 use Rattle.history.proofs.Beside.{all-alike, Beside, beside-none, beside-push, beside-pop}
@@ -52,7 +54,7 @@ use Rattle.history.proofs.Lets.{sent-queued}
 use Rattle.history.proofs.Runs.{Halves, halves, first, along}
 use Rattle.history.proofs.Sends.{said}
 use Rattle.crew.specs.Crew.{NamesParts}
-use Rattle.crew.specs.Values.{valuesAfter, valuesFrom, valuesIn, ValuesWaitingFit, OkHadRoom, FullNamesSpent, ReceivesOldest}
+use Rattle.crew.specs.Values.{valuesAfter, valuesFrom, valuesIn, ValuesWaitingFit, OkHadRoom, FullNamesSpent, ReceivesOldest, HeldWaits}
 
 -- ---- the followed values, step by step
 
@@ -226,11 +228,11 @@ module _ (cfg : Config) (c : configSound cfg ≡ true) (q : ℕ) (y : isQueued c
     unfolding restValues
     taken w r = beside-pop (λ (a b : Value). a ≡ b) voidV voidV (x .queue .queued) (x .queue .at) w (omega (arith, most, length-most cfg c q, places)) r
 
-    follows-receive : (s : Step) (w : List Value) → s .code ≡ receiveCode → Follows (st .elements) q w → Follows (received st (s .what) .elements) q (valuesAfter cfg q w s)
+    follows-receive : (s : Step) (w : List Value) → s .code ≡ receiveCode → Follows (st .elements) q w → Follows (received st (s .who) (s .what) .elements) q (valuesAfter cfg q w s)
     unfolding valuesAfter elementIn withElement
     follows-receive s w k r = go (ℕ-discrete (s .what) q)
       where
-        go : Dec (s .what ≡ q) → Follows (received st (s .what) .elements) q (valuesAfter cfg q w s)
+        go : Dec (s .what ≡ q) → Follows (received st (s .who) (s .what) .elements) q (valuesAfter cfg q w s)
         go (yes e) = rw (k, e, eq-eqb q q refl, getD-set-same (st .elements .at) q (receiving x) noElement inside) (taken w r)
         go (no n) = rw (k, ne-eqb (s .what) q n, getD-set-other (st .elements .at) (s .what) q (receiving (elementIn (st .elements) (s .what))) noElement (λ e. n (sym e))) r
 
@@ -257,7 +259,7 @@ module _ (cfg : Config) (c : configSound cfg ≡ true) (q : ℕ) (y : isQueued c
     follows-way s w a k (go.write z) r = follows-other s _ w k refl refl (unfed (s .what) (s .argument) (written-unqueued cfg st s a k)) r
     follows-way s w a k go.updated r = follows-other s _ w k refl refl refl r
     follows-way s w a k (go.invalidate z) r = follows-other s _ w k refl refl (unfed (s .what) _ (z .unqueued)) r
-    follows-way s w a k (go.receiveNone e) r = follows-bare s w k e r
+    follows-way s w a k (go.receiveNone e i) r = follows-bare s w k e r
     follows-way s w a k (go.receive z) r = follows-receive s w k r
     follows-way s w a k (go.send z) r = follows-send s w k r
     follows-way s w a k (go.callBusy e) r = follows-other s _ w k refl refl refl r
@@ -273,6 +275,8 @@ module _ (cfg : Config) (c : configSound cfg ≡ true) (q : ℕ) (y : isQueued c
     follows-way s w a k (go.tick z) r = follows-other s _ w k refl refl refl r
     follows-way s w a k (go.wait z) r = follows-other s _ w k refl refl refl r
     follows-way s w a k (go.fail z) r = follows-other s _ w k refl refl refl r
+    follows-way s w a k (go.hold z) r = follows-other s _ w k refl refl refl r
+    follows-way s w a k (go.giveUp z) r = follows-other s _ w k refl refl refl r
 
   follows-at : (rs : List Step) (st : State) → Run cfg rs st → Follows (st .elements) q (valuesIn cfg q rs)
   unfolding valuesIn valuesFrom
@@ -291,8 +295,8 @@ names-parts cfg before after s st c e =
 -- the answer to a receive, by its way
 oldest : (cfg : Config) (st : State) (s : Step) (w : List Value) {u : Value} {t : State} → Follows (st .elements) (s .what) w → Way cfg st s receiveCode u t → u ≡ getD w 0 noDataV
 unfolding firstValue
-oldest cfg st s [] r (go.receiveNone e) = refl
-oldest cfg st s (v ∷ w) r (go.receiveNone e) = absurd (omega (arith, r .size, eqb-true (elementIn (st .elements) (s .what) .queue .queued) 0 e))
+oldest cfg st s [] r (go.receiveNone e i) = refl
+oldest cfg st s (v ∷ w) r (go.receiveNone e i) = absurd (omega (arith, r .size, eqb-true (elementIn (st .elements) (s .what) .queue .queued) 0 e))
 oldest cfg st s [] r (go.receive z) = absurd (omega (arith, r .size, z .some))
 oldest cfg st s (v ∷ w) r (go.receive z) = r .each 0 (z .some)
 
@@ -301,6 +305,25 @@ receives-oldest cfg before after s st c e k =
     let m = halves cfg (startOf cfg) st before (s ∷ after) e in
     let a = first cfg (m .mid) st s after (m .after) in
     oldest cfg (m .mid) s (valuesIn cfg (s .what) before) (follows-at cfg c (s .what) (received-queued cfg (m .mid) s a k) before (m .mid) (m .before)) (way cfg (m .mid) s k refl a)
+
+-- who is held and receives finds a value: its queue is not empty, and as many are followed
+pub held-waits : OfSteps HeldWaits
+held-waits cfg before after s st c e w h =
+    let x = held-goes-on cfg before after s st c e w h in
+    (x .0, x .1, x .2, ⊎-elim (λ (g : Got (x .0)). inl (g .0, g .1, some (x .0) g)) (λ (g : Spent (x .1)). inr g) (x .3))
+  where
+    Got : ℕ → Type 0
+    Got q = (s .code ≡ receiveCode) × (s .what ≡ q) × ((m : State) × Run cfg before m × (0 < elementIn (m .elements) q .queue .queued) × (s .claim ≡ firstValue (elementIn (m .elements) q .queue)))
+
+    Spent : ℕ → Type 0
+    Spent t = (s .code ≡ giveUpCode) × (s .claim ≡ timeoutV) × (timeSince (heldIn (s .who) before) before ≡ t)
+
+    some : (q : ℕ) → Got q → 0 < length (valuesIn cfg q before)
+    some q g =
+        let m = halves cfg (startOf cfg) st before (s ∷ after) e in
+        let a = first cfg (m .mid) st s after (m .after) in
+        let r = follows-at cfg c q (subst (λ (k : ℕ). isQueued cfg k ≡ true) (g .1) (received-queued cfg (m .mid) s a (g .0))) before (g .2 .0) (g .2 .1) in
+        omega (arith, r .size, g .2 .2)
 
 -- a linked queue has as many values as are followed, so it is full exactly if those are as many as it holds
 module _ (cfg : Config) (before after : List Step) (s : Step) (st : State) (c : configSound cfg ≡ true) (e : Run cfg (before ++ (s ∷ after)) st) (k : s .code ≡ sendCode) where

@@ -15,7 +15,7 @@ use Rattle.history.specs.Promises.{Run, OfRuns, Demand3}
 use Rattle.history.proofs.Together.{demand3}
 use Rattle.claims.proofs.FromBytes.{accepted-is-run}
 use Rattle.crew.specs.Crew.{Demanded, PrintedIsRelied}
-use Rattle.crew.proofs.Following.{names-parts, values-waiting-fit, ok-had-room, full-names-spent, receives-oldest}
+use Rattle.crew.proofs.Following.{names-parts, values-waiting-fit, ok-had-room, full-names-spent, receives-oldest, held-waits}
 use Rattle.crew.proofs.Fixing.{fixed}
 use Rattle.crew.proofs.Printing.{accepted-printed}
 
@@ -38,6 +38,9 @@ demanded cfg rs st c e = record {
   send = λ b a s w. ok-had-room cfg b a s st c (whole b a s w);
   full = λ b a s w. full-names-spent cfg b a s st c (whole b a s w);
   receive = λ b a s w. receives-oldest cfg b a s st c (whole b a s w);
+  held = λ b a s w. held-waits cfg b a s st c (whole b a s w);
+  spent = λ b a s w. d .steps b a s w .spent;
+  hold = λ b a w. d .moments b a w .1 .held;
   once = λ b a w. d .moments b a w .1 .once;
   call = λ b a s w. d .steps b a s w .call;
   latest = λ b a w. d .moments b a w .1 .history .latest;

@@ -17,8 +17,8 @@ use Rattle.lines.specs.Lines.{lineBytes}
 use Rattle.judging.specs.Line.{lineOf}
 use Rattle.printing.specs.Printed.{acceptedWord, printedOf}
 use Rattle.history.specs.History.{historyOf, queuedAt}
-use Rattle.history.specs.Promises.{EntersFree, ExitsHeld, EndsEmpty, SpawnsEmpty, ActsAlive, HolderStays, FailedStops, BackIsLast, EndsPaid, CallsOneByOne, WaiterWaits, BackIsAnswered, EndsOnce, EndsProperly, TimeoutEndsOpen, TimeoutInTime, BackInTime, OpenInTime, TicksInTime, TimersInTime, ResultIsDelivered, ResultIsOwn, NumberIsFinal, FailureIsFinal, UnendedIsLatest, LatestStarted, FirstInFirstOut, SpawnTakesNext}
-use Rattle.crew.specs.Values.{ValuesWaitingFit, OkHadRoom, FullNamesSpent, ReceivesOldest}
+use Rattle.history.specs.Promises.{EntersFree, ExitsHeld, EndsEmpty, SpawnsEmpty, ActsAlive, HolderStays, FailedStops, BackIsLast, EndsPaid, CallsOneByOne, WaiterWaits, BackIsAnswered, EndsOnce, EndsProperly, TimeoutEndsOpen, TimeoutInTime, BackInTime, OpenInTime, TicksInTime, TimersInTime, ResultIsDelivered, ResultIsOwn, NumberIsFinal, FailureIsFinal, UnendedIsLatest, LatestStarted, FirstInFirstOut, SpawnTakesNext, GivesUpHeld, HeldInTime}
+use Rattle.crew.specs.Values.{ValuesWaitingFit, OkHadRoom, FullNamesSpent, ReceivesOldest, HeldWaits}
 
 -- ---- demand 3 of steps
 
@@ -58,6 +58,10 @@ pub record Demanded (cfg : Config) (rs : List Step) : Type 0 where
   pub send : EveryStep rs (OkHadRoom cfg)
   pub full : EveryStep rs (FullNamesSpent cfg)
   pub receive : EveryStep rs (ReceivesOldest cfg)
+  -- and who is held on one goes on by a value that waits there, or when exactly its time has passed
+  pub held : EveryStep rs (HeldWaits cfg)
+  pub spent : EveryStep rs (GivesUpHeld cfg)
+  pub hold : EveryMoment rs (HeldInTime cfg)
   -- each started call ends at most once
   pub once : EveryMoment rs (EndsOnce cfg)
   pub call : EveryStep rs (CallsOneByOne cfg)

@@ -1,19 +1,21 @@
--- Queues of values, as the sends and receives of a recording tell them, and what is promised of them. No state of the machine is used here; of what sends claim Ok and Full are read, and Limit, which older units record for Full, is not.
+-- Queues of values, as the sends and receives of a recording tell them, and what is promised of them and of who is held on one. No state of the machine is used here; of what sends claim Ok and Full are read, and Limit, which older units record for Full, is not.
 -- Assumes nothing.
 use Prim.Native.Nat.{ℕ, _≤_, _<_}
 use mathlib.Core.Bool.{true}
 use mathlib.Core.List.{List, [], _∷_, _++_}
-use mathlib.Core.Logic.{_↔_}
+use mathlib.Core.Logic.{_↔_, _⊎_}
 use mathlib.Core.Path.{_≡_}
 use lib.Dec.{ltb, eqb}
 use lib.ListN.{length, getD, drop}
-use Rattle.numbers.specs.Codes.{receiveCode, sendCode}
+use Rattle.numbers.specs.Codes.{receiveCode, sendCode, giveUpCode}
 use Rattle.laws.specs.Choice.{pick, both}
 use Rattle.laws.specs.Mask.{isSet}
 use Rattle.faces.specs.Types.{Value, Step, Config}
-use Rattle.values.specs.Values.{okV, noDataV, fullV}
+use Rattle.values.specs.Values.{okV, noDataV, fullV, timeoutV}
 use Rattle.config.specs.Tables.{requiredConfIn}
+use Rattle.rules.specs.Rows.{aSlot, rowOf}
 use Rattle.effects.specs.Steps.{linked}
+use Rattle.history.specs.History.{timeSince, heldIn, HeldFor}
 
 -- what waits at the required element q after the step s, if w did before: a send that is linked there adds its value as the newest while there is room, a receive there takes the oldest ("The eighteen steps", 9 and 10)
 unfoldable pub valuesAfter : Config → ℕ → List Value → Step → List Value
@@ -49,3 +51,14 @@ FullNamesSpent cfg before s after =
 -- a receive is answered with the oldest value that waits there, and NoData if none does ("The eighteen steps", 9)
 abbrev pub ReceivesOldest : Config → List Step → Step → List Step → Type 0
 ReceivesOldest cfg before s after = s .code ≡ receiveCode → s .claim ≡ getD (valuesIn cfg (s .what) before) 0 noDataV
+
+-- a held instance goes on by the step s, when q held it for t: a receive there while a value waits; or it gives up, with Timeout, when exactly its time has passed (W-210)
+abbrev pub GoesOnBy : Config → List Step → Step → ℕ → ℕ → Type 0
+GoesOnBy cfg before s q t =
+    ((s .code ≡ receiveCode) × (s .what ≡ q) × (0 < length (valuesIn cfg q before)))
+    ⊎ ((s .code ≡ giveUpCode) × (s .claim ≡ timeoutV) × (timeSince (heldIn (s .who) before) before ≡ t))
+
+-- who is held takes no step but the one by which it goes on (W-210)
+abbrev pub HeldWaits : Config → List Step → Step → List Step → Type 0
+HeldWaits cfg before s after =
+    rowOf (s .code) .who ≡ aSlot → 0 < heldIn (s .who) before → (q t : ℕ) × HeldFor before (heldIn (s .who) before) (s .who) q t × GoesOnBy cfg before s q t

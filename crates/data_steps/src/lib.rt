@@ -1,4 +1,4 @@
-// Steps 1 to 10 as code, once refusals 2 to 5 have let them through: variables, areas, and elements with the data events. Each does what its definition in crate effects says, test for test.
+// Steps 1 to 10, 20 and 21 as code, once refusals 2 to 5 have let them through: variables, areas, elements with the data events, and waiting for data. Each does what its definition in crate effects says, test for test.
 ghost use mathlib.Core.Path.{_≡_};
 ghost use mathlib.Core.Bool.{not};
 ghost use Prim.Native.Nat.{ℕ};
@@ -6,18 +6,22 @@ ghost use lib.Dec.{ltb};
 ghost use Rattle.laws.specs.Choice.{either};
 ghost use Rattle.laws.specs.Loop.{anyBelow};
 ghost use Rattle.config.specs.Tables.{linkIn};
+ghost use Rattle.state.specs.Tables.{slotIn};
+ghost use Rattle.rules.specs.Sound.{isWaiting};
 ghost use Rattle.data_steps.specs.Rooms.{roomIn, roomsOf, feedsBy, isFedBy, fedRunnablesBy, isFullBy, fullMaskBy};
-ghost use Rattle.effects.specs.Steps.{readVariableOf, writeVariableOf, entering, exiting, enterOf, onTop, exitOf, seen, readOf, updatedOf, joins, storing, queueing, fedElement, fedElements, writeOf, invalidateOf, sentOf, sendOf, receiving, receiveOf};
+ghost use Rattle.effects.specs.Steps.{readVariableOf, writeVariableOf, entering, exiting, enterOf, onTop, exitOf, seen, readOf, updatedOf, joins, storing, queueing, fedElement, fedElements, writeOf, invalidateOf, sentOf, sendOf, receiving, receiveOf, holdOf, giveUpOf};
 use config::Config;
 use config::Link;
 use config::Links;
 use config::RequiredConfs;
 use config::RunnableConfs;
 use state::Area;
+use state::Awaited;
 use state::Element;
 use state::Elements;
 use state::Runnables;
 use state::Slot;
+use state::Slots;
 use state::State;
 use state::Stepped;
 use state::Variable;
@@ -396,17 +400,59 @@ fn receiving(x: Element) -> Element
     y
 }
 
-// The oldest value, removed; NoData if there is none.
-pub fn receive(st: State, q: u8) -> Stepped
-    ensures { λ r. ⌜ r ≡ receiveOf st q ⌝ }
+// The oldest value, removed, and an instance that is held goes on; if there is none, NoData, and 10 for one that is held.
+pub fn receive(st: State, i: u8, q: u8) -> Stepped
+    ensures { λ r. ⌜ r ≡ receiveOf st i q ⌝ }
 {
     let t = st.elements;
     let x = t.get(q);
     let queue = x.queue;
     if queue.queued == 0 {
+        let slots = st.slots;
+        if waits(slots, i) {
+            return shared_steps::refuse(numbers::STILL_WAITS, st);
+        }
         return shared_steps::take(Value::NO_DATA, st);
     }
     let mut next = st;
     next.elements = t.with(q, receiving(x));
-    shared_steps::take(queue.first(), next)
+    shared_steps::take(queue.first(), shared_steps::gone_on(next, i))
+}
+
+// The instance in the slot i waits.
+fn waits(slots: Slots, i: u8) -> bool
+    ensures { λ r. ⌜ r ≡ isWaiting (slotIn slots i .life) ⌝ }
+{
+    let x = slots.get(i);
+    let l = x.life;
+    let a = l.awaited;
+    0 < a.part
+}
+
+// ---- 20, 21: hold and give up
+
+// An instance is held on the element q for t milliseconds at most, whether or not there is data already.
+pub fn hold(st: State, i: u8, q: u8, t: u32) -> Stepped
+    ensures { λ r. ⌜ r ≡ holdOf st i q t ⌝ }
+{
+    let a = Awaited {
+        part: numbers::TAG_REQUIRED,
+        on: q,
+        left: t,
+    };
+    shared_steps::take(Value::VOID, shared_steps::awaited(st, i, a))
+}
+
+// A held instance whose time is up goes on, with Timeout.
+pub fn give_up(st: State, i: u8) -> Stepped
+    ensures { λ r. ⌜ r ≡ giveUpOf st i ⌝ }
+{
+    let slots = st.slots;
+    let x = slots.get(i);
+    let l = x.life;
+    let a = l.awaited;
+    if a.left == 0 {
+        return shared_steps::take(Value::TIMEOUT, shared_steps::gone_on(st, i));
+    }
+    shared_steps::refuse(numbers::NOT_OVER, st)
 }

@@ -4,15 +4,15 @@ use Prim.Native.Nat.{ℕ}
 use mathlib.Core.Bool.{Bool}
 use lib.Dec.{eqb}
 use Rattle.numbers.specs.Refusals.{notSound, otherAnswer}
-use Rattle.numbers.specs.Codes.{readVariableCode, writeVariableCode, enterCode, exitCode, readCode, writeCode, updatedCode, invalidateCode, receiveCode, sendCode, callCode, resultCode, handBackCode, endCode, spawnCode, timeoutCode, tickCode, waitCode}
+use Rattle.numbers.specs.Codes.{readVariableCode, writeVariableCode, enterCode, exitCode, readCode, writeCode, updatedCode, invalidateCode, receiveCode, sendCode, callCode, resultCode, handBackCode, endCode, spawnCode, timeoutCode, tickCode, waitCode, failCode, holdCode}
 use Rattle.laws.specs.Choice.{pick, both, either}
 use Rattle.values.specs.Values.{limitV, saysFull, sameValue}
 use Rattle.faces.specs.Types.{Value, Step, Answer, Taken, Refused, Config, State, Stepped}
 use Rattle.rules.specs.Sound.{soundOf}
 use Rattle.rules.specs.Refusals.{refusalOf}
-use Rattle.effects.specs.Steps.{refused, readVariableOf, writeVariableOf, enterOf, exitOf, readOf, writeOf, updatedOf, invalidateOf, receiveOf, sendOf, callOf, resultOf, handBackOf, endOf, spawnOf, timeoutOf, tickOf, waitOf, failOf}
+use Rattle.effects.specs.Steps.{refused, readVariableOf, writeVariableOf, enterOf, exitOf, readOf, writeOf, updatedOf, invalidateOf, receiveOf, sendOf, callOf, resultOf, handBackOf, endOf, spawnOf, timeoutOf, tickOf, waitOf, failOf, holdOf, giveUpOf}
 
--- what a step does by its code: i is the slot, k the part, v the argument ("The eighteen steps", the table; W-205)
+-- what a step does by its code: i is the slot, k the part, v the argument ("The eighteen steps", the table; W-205, W-210)
 unfoldable pub actOf : Config → State → ℕ → ℕ → ℕ → Value → Stepped
 actOf cfg st code i k v =
     pick (eqb code readVariableCode) (readVariableOf st k)
@@ -23,7 +23,7 @@ actOf cfg st code i k v =
     (pick (eqb code writeCode) (writeOf cfg st k v)
     (pick (eqb code updatedCode) (updatedOf st k)
     (pick (eqb code invalidateCode) (invalidateOf cfg st k)
-    (pick (eqb code receiveCode) (receiveOf st k)
+    (pick (eqb code receiveCode) (receiveOf st i k)
     (pick (eqb code sendCode) (sendOf cfg st k v)
     (pick (eqb code callCode) (callOf cfg st i k v)
     (pick (eqb code resultCode) (resultOf cfg st i k)
@@ -33,7 +33,9 @@ actOf cfg st code i k v =
     (pick (eqb code timeoutCode) (timeoutOf cfg st k)
     (pick (eqb code tickCode) (tickOf cfg st k)
     (pick (eqb code waitCode) (waitOf cfg st (v .number))
-    (failOf st i))))))))))))))))))
+    (pick (eqb code failCode) (failOf st i)
+    (pick (eqb code holdCode) (holdOf st i k (v .number))
+    (giveUpOf st i))))))))))))))))))))
 
 -- the step before its claim is looked at: refusals 2 to 5 first, then what it does ("Numbers of refusal", 2 to 16)
 unfoldable pub possibleOf : Config → State → Step → Stepped

@@ -1,10 +1,10 @@
--- The eighteen steps and fail, once refusals 2 to 5 have let them through: each with its own refusals, its answer and the state after it ("The eighteen steps" and the paragraphs below its table; W-201; W-205).
+-- The eighteen steps, fail, hold and give up, once refusals 2 to 5 have let them through: each with its own refusals, its answer and the state after it ("The eighteen steps" and the paragraphs below its table; W-201; W-205; W-210).
 -- Assumes nothing.
 use Prim.Native.Nat.{ℕ, _+_, _-_, _%_}
 use mathlib.Core.Bool.{Bool, true, false, not}
 use lib.Dec.{ltb, leb, eqb}
-use Rattle.numbers.specs.Tags.{operationTag}
-use Rattle.numbers.specs.Refusals.{malformed, areaTaken, notOnTop, queueFull, numberBorne, stillOpen, notDue, noSlotFree, tooFar, notOver, areasHeld, wrongClient}
+use Rattle.numbers.specs.Tags.{operationTag, requiredTag}
+use Rattle.numbers.specs.Refusals.{malformed, areaTaken, notOnTop, queueFull, numberBorne, stillWaits, notDue, noSlotFree, tooFar, notOver, areasHeld, wrongClient}
 use Rattle.laws.specs.Choice.{pick, both, either, bit}
 use Rattle.laws.specs.Loop.{allBelow, anyBelow, firstBelow}
 use Rattle.laws.specs.Mask.{maskBelow}
@@ -14,11 +14,10 @@ use Rattle.faces.specs.Types.{Value, Taken, Refused, Config, RunnableConf, Link
 use Rattle.config.specs.Tables.{runnableConfIn, requiredConfIn, linkIn, operationConfIn, timerConfIn, dataEventIn, returnEventIn, topOf}
 use Rattle.entries.specs.Faults.{isQueued}
 use Rattle.state.specs.Parts.{lastNumber, noAwaited, noOwed, noStack, noSlot, noRunnable, noElement, noOperation, noTimer}
-use Rattle.state.specs.Fields.{withInterval, withPending, withInstances, withRequests, withValue, withUpdated, withQueue, withCount, lifeAwaiting, lifeFinished, lifeFailed, lifeOf, withLife, withOwed, withStack}
+use Rattle.state.specs.Fields.{withInterval, withPending, withInstances, withRequests, withValue, withUpdated, withQueue, withCount, withLeft, lifeAwaiting, lifeFinished, lifeFailed, lifeOf, withLife, withOwed, withStack}
 use Rattle.state.specs.Tables.{maxSlots, runnableIn, variableIn, areaIn, elementIn, operationIn, timerIn, slotIn, withRunnable, withVariable, withArea, withElement, withOperation, withTimer, withSlot, withRunnables, withVariables, withAreas, withElements, withOperations, withTimers, withSlots}
 use Rattle.state.specs.Queues.{upOne, pushRequest, firstRequest, restRequests, pushValue, firstValue, restValues, pushArea, topArea, popArea}
-use Rattle.rules.specs.Sound.{isBound}
-use Rattle.rules.specs.Sound.{clientsAs}
+use Rattle.rules.specs.Sound.{isWaiting, isHeld, clientsAs, isBound}
 use Rattle.effects.specs.declared.Found.{Found}
 use Rattle.effects.specs.declared.Found.the-variants.{At, Nothing}
 
@@ -183,6 +182,28 @@ sentOf mask = pick (eqb mask 0) okV (fullV mask)
 unfoldable pub sendOf : Config → State → ℕ → Value → Stepped
 sendOf cfg st p v = took (sentOf (fullMask cfg (st .elements) p)) (fed cfg st p v)
 
+-- ---- waiting: on an operation, or for data
+
+-- the slot with what its instance waits for ("The eighteen steps", Call and Result; W-210)
+abbrev pub awaiting : Slot → Awaited → Slot
+awaiting x a = withLife x (lifeAwaiting (x .life) a)
+
+-- the slot with its instance no longer waiting ("The eighteen steps", Result; W-210)
+abbrev pub runningOn : Slot → Slot
+runningOn x = awaiting x noAwaited
+
+-- the state with what the instance i waits for ("The eighteen steps", Call and Result; W-210)
+abbrev pub awaited : State → ℕ → Awaited → State
+awaited st i a = withSlots st (withSlot (st .slots) i (awaiting (slotIn (st .slots) i) a))
+
+-- the state after the instance i has gone on: it waits no longer ("The eighteen steps", Result; W-210)
+abbrev pub goneOn : State → ℕ → State
+goneOn st i = awaited st i noAwaited
+
+-- the instance i waits ("Numbers of refusal", 5)
+abbrev pub waits : State → ℕ → Bool
+waits st i = isWaiting (slotIn (st .slots) i .life)
+
 -- ---- 9: receive
 
 -- the element without the oldest value of its queue ("The eighteen steps", 9)
@@ -193,13 +214,19 @@ receiving x = withQueue x (restValues (x .queue))
 abbrev pub isBare : State → ℕ → Bool
 isBare st q = eqb (elementIn (st .elements) q .queue .queued) 0
 
--- the state after a receive: the oldest value has left the queue ("The eighteen steps", 9)
-abbrev pub received : State → ℕ → State
-received st q = withElements st (withElement (st .elements) q (receiving (elementIn (st .elements) q)))
+-- the state with the oldest value gone from the queue of the element q ("The eighteen steps", 9)
+abbrev pub dequeued : State → ℕ → State
+dequeued st q = withElements st (withElement (st .elements) q (receiving (elementIn (st .elements) q)))
 
--- the oldest value leaves the queue and is the answer; NoData if there is none ("The eighteen steps", 9)
-unfoldable pub receiveOf : State → ℕ → Stepped
-receiveOf st q = pick (isBare st q) (took noDataV st) (took (firstValue (elementIn (st .elements) q .queue)) (received st q))
+-- the state after a receive: the oldest value has left the queue, and the instance i goes on if it was held ("The eighteen steps", 9; W-210)
+abbrev pub received : State → ℕ → ℕ → State
+received st i q = goneOn (dequeued st q) i
+
+-- the oldest value leaves the queue and is the answer; if there is none, NoData, and 10 for one that is held ("The eighteen steps", 9; W-210)
+unfoldable pub receiveOf : State → ℕ → ℕ → Stepped
+receiveOf st i q =
+    pick (isBare st q) (pick (waits st i) (refused stillWaits st) (took noDataV st))
+    (took (firstValue (elementIn (st .elements) q .queue)) (received st i q))
 
 -- ---- 11: call
 
@@ -227,13 +254,9 @@ requestsFull cfg rs r = leb (runnableConfIn (cfg .runnables) r .capacity) (runna
 abbrev pub asking : Runnable → Client → Runnable
 asking x c = withRequests x (pushRequest (x .requests) c)
 
--- the slot with what its instance waits for ("The eighteen steps", Call and Result)
-abbrev pub awaiting : Slot → Awaited → Slot
-awaiting x a = withLife x (lifeAwaiting (x .life) a)
-
 -- the operation o to wait on ("The eighteen steps", Call)
 abbrev pub onOperation : ℕ → Awaited
-onOperation o = record { part = operationTag; on = o }
+onOperation o = record { part = operationTag; on = o; left = 0 }
 
 -- the slot with its instance waiting on the operation o ("The eighteen steps", Call)
 abbrev pub waitingOn : Slot → ℕ → Slot
@@ -263,21 +286,13 @@ callOf cfg st i o v =
 
 -- ---- 12: result
 
--- the slot with its instance no longer waiting ("The eighteen steps", Result)
-abbrev pub runningOn : Slot → Slot
-runningOn x = awaiting x noAwaited
-
 -- asynchronous: NoData as long as the call has not ended, then what the operation is Done with, which it keeps ("The eighteen steps", Result)
 unfoldable pub pollOf : State → ℕ → Stepped
 pollOf st o = pick (isOpen st o) (took noDataV st) (took (operationIn (st .operations) o .done) st)
 
--- the state after the instance i has gone on: it waits no longer ("The eighteen steps", Result)
-abbrev pub goneOn : State → ℕ → State
-goneOn st i = withSlots st (withSlot (st .slots) i (runningOn (slotIn (st .slots) i)))
-
 -- synchronous: as soon as the call has ended, what the operation is Done with, which it keeps, and the caller waits no longer ("The eighteen steps", Result; "Numbers of refusal", 10)
 unfoldable pub collectOf : State → ℕ → ℕ → Stepped
-collectOf st i o = pick (isOpen st o) (refused stillOpen st) (took (operationIn (st .operations) o .done) (goneOn st i))
+collectOf st i o = pick (isOpen st o) (refused stillWaits st) (took (operationIn (st .operations) o .done) (goneOn st i))
 
 -- a result, by the kind of the operation ("The eighteen steps", Result)
 unfoldable pub resultOf : Config → State → ℕ → ℕ → Stepped
@@ -461,6 +476,10 @@ operationLets t x = either (not (x .calling)) (leb t (x .count))
 unfoldable pub timerLets : ℕ → Timer → Bool
 timerLets t x = leb t (x .count)
 
+-- a slot lets t pass: its instance is not held, or has t or more left (W-210)
+unfoldable pub slotLets : ℕ → Slot → Bool
+slotLets t x = either (not (isHeld (x .life))) (leb t (x .life .awaited .left))
+
 -- every operation lets t pass ("The eighteen steps", Wait)
 unfoldable pub operationsLet : Config → Operations → ℕ → Bool
 operationsLet cfg os t = allBelow (λ (o : ℕ). operationLets t (operationIn os o)) (cfg .operations .n)
@@ -468,6 +487,10 @@ operationsLet cfg os t = allBelow (λ (o : ℕ). operationLets t (operationIn os
 -- every timer lets t pass ("The eighteen steps", Wait)
 unfoldable pub timersLet : Config → Timers → ℕ → Bool
 timersLet cfg ts t = allBelow (λ (k : ℕ). timerLets t (timerIn ts k)) (cfg .timers .n)
+
+-- every slot lets t pass (W-210)
+unfoldable pub slotsLet : Slots → ℕ → Bool
+slotsLet ss t = allBelow (λ (i : ℕ). slotLets t (slotIn ss i)) maxSlots
 
 -- an operation in a call has t less on its count, any other is the same ("The eighteen steps", Wait)
 unfoldable pub operationAfter : ℕ → Operation → Operation
@@ -481,6 +504,10 @@ timerAfter t x = record { count = x .count - t }
 abbrev pub runnableAfter : ℕ → Runnable → Runnable
 runnableAfter t x = withInterval x (x .interval - t)
 
+-- a slot's instance has t less to be held, which is 0 for one that is not (W-210)
+abbrev pub slotAfter : ℕ → Slot → Slot
+slotAfter t x = awaiting x (withLeft (x .life .awaited) (x .life .awaited .left - t))
+
 -- every operation after t ("The eighteen steps", Wait)
 unfoldable pub operationsAfter : Config → Operations → ℕ → Operations
 operationsAfter cfg os t = record { at = eachBelow (λ (o : ℕ) (x : Operation). operationAfter t x) noOperation (cfg .operations .n) (os .at) }
@@ -493,16 +520,22 @@ timersAfter cfg ts t = record { at = eachBelow (λ (k : ℕ) (x : Timer). timerA
 unfoldable pub runnablesAfter : Config → Runnables → ℕ → Runnables
 runnablesAfter cfg rs t = record { at = eachBelow (λ (r : ℕ) (x : Runnable). runnableAfter t x) noRunnable (cfg .runnables .n) (rs .at) }
 
--- every open call and every timer lets t pass; no start interval holds it back ("The eighteen steps", Wait; W-203)
+-- every slot after t (W-210)
+unfoldable pub slotsAfter : Slots → ℕ → Slots
+slotsAfter ss t = record { at = eachBelow (λ (i : ℕ) (x : Slot). slotAfter t x) noSlot maxSlots (ss .at) }
+
+-- every open call, every timer and every held instance lets t pass; no start interval holds it back ("The eighteen steps", Wait; W-203, W-210)
 unfoldable pub allLet : Config → State → ℕ → Bool
-allLet cfg st t = both (operationsLet cfg (st .operations) t) (timersLet cfg (st .timers) t)
+allLet cfg st t = both (operationsLet cfg (st .operations) t) (both (timersLet cfg (st .timers) t) (slotsLet (st .slots) t))
 
 -- the state after t has passed ("The eighteen steps", Wait)
 unfoldable pub waited : Config → State → ℕ → State
 waited cfg st t =
-    withRunnables (withTimers (withOperations st (operationsAfter cfg (st .operations) t)) (timersAfter cfg (st .timers) t)) (runnablesAfter cfg (st .runnables) t)
+    withSlots
+    (withRunnables (withTimers (withOperations st (operationsAfter cfg (st .operations) t)) (timersAfter cfg (st .timers) t)) (runnablesAfter cfg (st .runnables) t))
+    (slotsAfter (st .slots) t)
 
--- t passes if every open call and every timer lets it, else 13 ("The eighteen steps", Wait; W-203)
+-- t passes if every open call, every timer and every held instance lets it, else 13 ("The eighteen steps", Wait; W-203, W-210)
 unfoldable pub waitOf : Config → State → ℕ → Stepped
 waitOf cfg st t = pick (allLet cfg st t) (took voidV (waited cfg st t)) (refused tooFar st)
 
@@ -519,3 +552,25 @@ failed st i = withSlots st (withSlot (st .slots) i (failing (slotIn (st .slots) 
 -- an instance fails; 5 has stopped one that waits, is finished or has failed before (W-205)
 unfoldable pub failOf : State → ℕ → Stepped
 failOf st i = took voidV (failed st i)
+
+-- ---- 20, 21: hold and give up
+
+-- the element q to wait for data on, for t milliseconds at most (W-210)
+abbrev pub onElement : ℕ → ℕ → Awaited
+onElement q t = record { part = requiredTag; on = q; left = t }
+
+-- the state after the instance i is held on the element q, for t milliseconds at most (W-210)
+abbrev pub held : State → ℕ → ℕ → ℕ → State
+held st i q t = awaited st i (onElement q t)
+
+-- an instance is held, whether or not there is data already (W-210)
+unfoldable pub holdOf : State → ℕ → ℕ → ℕ → Stepped
+holdOf st i q t = took voidV (held st i q t)
+
+-- the instance i has been held as long as it may be (W-210)
+abbrev pub isSpent : State → ℕ → Bool
+isSpent st i = eqb (slotIn (st .slots) i .life .awaited .left) 0
+
+-- a held instance whose time is up goes on, with Timeout; any other is 14 (W-210)
+unfoldable pub giveUpOf : State → ℕ → Stepped
+giveUpOf st i = pick (isSpent st i) (took timeoutV (goneOn st i)) (refused notOver st)

@@ -480,7 +480,7 @@ pub fn placed(cfg: Config, tag: u8, e: Entry) -> Config
 }
 
 // At least 1, at most an hour.
-fn is_time(n: u32) -> bool
+pub fn is_time(n: u32) -> bool
     ensures { λ r. ⌜ r ≡ isTime n ⌝ }
 {
     if 0 < n {

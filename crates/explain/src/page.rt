@@ -134,7 +134,7 @@ fn show_break(names: &[u8], w: Widths, place: usize) {
     }
 }
 
-// A lane's cell: a step, a start, or only that an instance lives there, or has failed.
+// A lane's cell: a step, a start, or only that an instance lives there, is held or has failed.
 fn put_lane(
     out: &mut [u8],
     at: usize,
@@ -162,6 +162,10 @@ fn put_lane(
     let l = y.life;
     if l.failed {
         return put(out, at, b"<td class=f>(failed)");
+    }
+    let w = l.awaited;
+    if w.part == numbers::TAG_REQUIRED {
+        return put(out, at, b"<td class=l>(held)");
     }
     if y.used {
         return put(out, at, b"<td class=l>");

@@ -53,6 +53,11 @@ fn put_asked(out: &mut [u8], at: usize, kind: u8) -> usize {
             at,
             b"this step hands over Void or a Number, and here is ",
         ),
+        3 => put(
+            out,
+            at,
+            b"this step takes a Number of 1 to 3,600,000 ms, and here is ",
+        ),
         _ => put(out, at, b"this step takes a Number, and here is "),
     }
 }
@@ -85,7 +90,7 @@ fn put_what_filled(out: &mut [u8], at: usize, s: Step) -> usize {
 
 fn put_no_code(out: &mut [u8], at: usize, s: Step) -> usize {
     let a = put_with(out, at, b"there is no step of code ", s.code as u64);
-    put(out, a, b": the codes are 1 to 19.")
+    put(out, a, b": the codes are 1 to 21.")
 }
 
 fn put_hands_number(out: &mut [u8], at: usize, s: Step) -> usize {
@@ -178,6 +183,18 @@ fn put_waits(out: &mut [u8], at: usize, names: &[u8], o: u8, s: Step) -> usize {
     )
 }
 
+fn put_held_on(out: &mut [u8], at: usize, names: &[u8], q: u8, s: Step) -> usize {
+    let a = put(out, at, b"the instance in ");
+    let b = put_slot(out, a, s.who);
+    let c = put(out, b, b" is held until there is data in ");
+    let d = put_part(out, c, names, 0x13, q);
+    put(
+        out,
+        d,
+        b", and may do nothing else before it has received from there or given up.",
+    )
+}
+
 fn put_finished(out: &mut [u8], at: usize, s: Step) -> usize {
     let a = put(out, at, b"the instance in ");
     let b = put_slot(out, a, s.who);
@@ -209,6 +226,15 @@ fn put_failed_back(out: &mut [u8], at: usize, s: Step) -> usize {
 }
 
 fn put_not_waiting(out: &mut [u8], at: usize, names: &[u8], s: Step) -> usize {
+    if s.code == 21 {
+        let d = put(
+            out,
+            at,
+            b"giving up is for an instance that is held, and the one in ",
+        );
+        let e = put_slot(out, d, s.who);
+        return put(out, e, b" is not.");
+    }
     let a = put_named(out, at, names, s);
     let b = put(
         out,
@@ -288,6 +314,19 @@ fn put_call_open(out: &mut [u8], at: usize, names: &[u8], t: u32, s: Step) -> us
     put(out, d, b" ms left: there is no result before it has ended.")
 }
 
+fn put_queue_empty(out: &mut [u8], at: usize, names: &[u8], t: u32, s: Step) -> usize {
+    let a = put(out, at, b"there is no data in ");
+    let b = put_named(out, a, names, s);
+    let c = put(out, b, b", and the instance in ");
+    let d = put_slot(out, c, s.who);
+    let e = put_with(out, d, b", which is held there for ", t as u64);
+    put(
+        out,
+        e,
+        b" ms still, does not go on before there is some, or its time is up.",
+    )
+}
+
 // 11: the need that is missing.
 fn put_interval(out: &mut [u8], at: usize, names: &[u8], t: u32, s: Step) -> usize {
     let a = put(
@@ -348,6 +387,20 @@ fn put_stops(out: &mut [u8], at: usize, names: &[u8], tag: u8, k: u8, t: u32) ->
     put(out, c, b".")
 }
 
+fn put_hold_stops(out: &mut [u8], at: usize, i: u8, t: u32) -> usize {
+    let a = put_with(out, at, b"no more than ", t as u64);
+    let b = put(out, a, b" ms may pass: so long the instance in ");
+    let c = put_slot(out, b, i);
+    put(out, c, b" is held at most, and it has not gone on.")
+}
+
+fn put_hold_runs(out: &mut [u8], at: usize, t: u32, s: Step) -> usize {
+    let a = put(out, at, b"the instance in ");
+    let b = put_slot(out, a, s.who);
+    let c = put_with(out, b, b" is held for ", t as u64);
+    put(out, c, b" ms still, so it is too early to give up.")
+}
+
 fn put_not_open(out: &mut [u8], at: usize, names: &[u8], s: Step) -> usize {
     let a = put(out, at, b"no call of ");
     let b = put_named(out, a, names, s);
@@ -402,6 +455,7 @@ fn put_first(out: &mut [u8], at: usize, names: &[u8], s: Step, c: Cause) -> usiz
         Cause::IsQueued => put_queued(out, at, names, s, true),
         Cause::NotQueued => put_queued(out, at, names, s, false),
         Cause::WaitsOn(o) => put_waits(out, at, names, o, s),
+        Cause::HeldOn(q) => put_held_on(out, at, names, q, s),
         Cause::IsFinished => put_finished(out, at, s),
         Cause::HasFailed => put_failed(out, at, s),
         Cause::FailedBack => put_failed_back(out, at, s),
@@ -421,15 +475,18 @@ pub(crate) fn put_cause(out: &mut [u8], at: usize, names: &[u8], s: Step, c: Cau
         Cause::StillServed(i) => put_still_served(out, at, names, i, s),
         Cause::StillQueued(r) => put_still_queued(out, at, names, r, s),
         Cause::CallOpen(t) => put_call_open(out, at, names, t, s),
+        Cause::QueueEmpty(t) => put_queue_empty(out, at, names, t, s),
         Cause::InInterval(t) => put_interval(out, at, names, t, s),
         Cause::Runs(n) => put_runs(out, at, names, n, s),
         Cause::NotPending => put_idle(out, at, names, s),
         Cause::NoRequest => put_no_request(out, at, names, s),
         Cause::NoRoom => put(out, at, b"all 32 slots are in use."),
         Cause::Stops(tag, k, t) => put_stops(out, at, names, tag, k, t),
+        Cause::HoldStops(i, t) => put_hold_stops(out, at, i, t),
         Cause::NotOpen => put_not_open(out, at, names, s),
         Cause::CallRuns(t) => put_runs_on(out, at, names, t, s),
         Cause::TimerRuns(t) => put_runs_on(out, at, names, t, s),
+        Cause::HoldRuns(t) => put_hold_runs(out, at, t, s),
         Cause::NoClient => put_no_client(out, at, s),
         Cause::HasClient(o) => put_has_client(out, at, names, o, s),
         Cause::Differs(v) => put_differs(out, at, names, v, s),

@@ -235,7 +235,7 @@ pub(crate) fn put_refused(out: &mut [u8], at: usize, names: &[u8], x: Step, c: C
     }
 }
 
-// The lane of a slot in a row: its step, its start, that it has failed, or that it lives.
+// The lane of a slot in a row: its step, its start, that it has failed, that it is held, or that it lives.
 fn put_lane(
     out: &mut [u8],
     at: usize,
@@ -261,6 +261,10 @@ fn put_lane(
     let l = y.life;
     if l.failed {
         return put(out, at, b"(failed)");
+    }
+    let w = l.awaited;
+    if w.part == numbers::TAG_REQUIRED {
+        return put(out, at, b"(held)");
     }
     if y.used {
         return put_byte(out, at, b'|');

@@ -73,6 +73,8 @@ fn put_verb(out: &mut [u8], at: usize, code: u8) -> usize {
         17 => put(out, at, b"tick"),
         18 => put(out, at, b"wait"),
         19 => put(out, at, b"fail"),
+        20 => put(out, at, b"hold"),
+        21 => put(out, at, b"give up"),
         _ => put_with(out, at, b"step of code ", code as u64),
     }
 }
@@ -93,6 +95,10 @@ fn put_argument(out: &mut [u8], at: usize, s: Step) -> usize {
     if row.argument == 1 {
         let a = put(out, at, b" ");
         return put_value(out, a, v);
+    }
+    if row.argument == 3 {
+        let a = put(out, at, b" for ");
+        return put_number(out, a, v.number as u64);
     }
     at
 }

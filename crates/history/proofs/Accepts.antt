@@ -20,7 +20,7 @@ use Rattle.stays_sound.proofs.Ways as go
 use Rattle.stays_sound.proofs.Accepted.{accepted, claim-told, gone}
 use Rattle.history.specs.History.{timeOf}
 use Rattle.history.proofs.Timed.{still}
-use Rattle.history.proofs.Passes.{Calm, calm-same, write-variable-calm, elements-calm, fed-calm, enter-alike, exit-alike, collect-calm, tick-alike, tick-unmoved, wait-alike, wait-unmoved}
+use Rattle.history.proofs.Passes.{Calm, calm-same, write-variable-calm, elements-calm, fed-calm, enter-alike, exit-alike, go-on-calm, hold-calm, receive-calm, tick-alike, tick-unmoved, wait-alike, wait-unmoved}
 use Rattle.history.proofs.Deeds.{Quiet, enters, exits, stays, ticks, waits, keeps, Deed, pass, call, answer, late, end, server, plain, timeout, fail, other-code}
 
 -- ---- the steps that touch no call
@@ -90,14 +90,14 @@ module _ (cfg : Config) (st : State) (s : Step) where
   deed-way g c k (go.write z) = calm c refl refl (fed-calm cfg st _ _)
   deed-way g c k go.updated = calm c refl refl (calm-same st)
   deed-way g c k (go.invalidate z) = calm c refl refl (elements-calm st _)
-  deed-way g c k (go.receiveNone e) = calm c refl refl (calm-same st)
-  deed-way g c k (go.receive z) = calm c refl refl (elements-calm st _)
+  deed-way g c k (go.receiveNone e w) = calm c refl refl (calm-same st)
+  deed-way g c k (go.receive z) = calm c refl refl (receive-calm st _ _)
   deed-way g c k (go.send z) = calm c refl refl (fed-calm cfg st _ _)
   deed-way g c k (go.callBusy e) = calm-by c refl (quiet-open s c (k refl)) (calm-same st)
   deed-way g c k (go.call z) = call c (k refl) z refl
   deed-way g c k (go.pollOpen a e) = calm c refl refl (calm-same st)
   deed-way g c k (go.poll a e) = calm c refl refl (calm-same st)
-  deed-way g c k (go.collect z) = calm c refl refl (collect-calm st _)
+  deed-way g c k (go.collect z) = calm c refl refl (go-on-calm st _)
   deed-way g c k (go.answer z e) = answer c (k refl) z e refl
   deed-way g c k (go.late z e) = late c (k refl) z refl
   deed-way g c k (go.end z) = end c z refl
@@ -108,6 +108,8 @@ module _ (cfg : Config) (st : State) (s : Step) where
   deed-way g c k (go.wait z) =
       pass (rw c (wait-alike cfg st _ g z)) (quiet s c refl) (stays (other-code enterCode c refl) (other-code exitCode c refl) (wait-unmoved cfg st _ g z)) (waits c z refl)
   deed-way g c k (go.fail z) = fail c z refl
+  deed-way g c k (go.hold z) = calm c refl refl (hold-calm st _ _ _ (z .fine))
+  deed-way g c k (go.giveUp z) = calm c refl refl (go-on-calm st _)
 
   pub deed : {v : Value} → stepOf cfg st s .answer ≡ Taken v → Deed cfg st s (stepOf cfg st s .state)
   deed h = deed-way (told cfg st (accepted cfg st s h .0)) refl (claim-told cfg st s h) (gone cfg st s refl h)

@@ -159,7 +159,7 @@ runs-deed cfg st s st′ d r = go d
     asks f false e = absurd (clash (x .life .failed) e f)
 
     go : Deed cfg st s st′ → Runs (st′ .slots)
-    go (pass a q m w) = record { running = λ i f. a .running i (r .running i (sym (a .failed i) ∙ f)) }
+    go (pass a q m w) = record { running = λ i f. let e = sym (a .failed i) ∙ f in a .running i e (r .running i e) }
     go (call c k z e) = rw e (runs-put (st .slots) (s .who) _ (asks (z .fine) (operationConfIn (cfg .operations) (s .what) .asynchronous)) r)
     go (answer c k z a e) = rw e (runs-put (st .slots) (s .who) (finishing x) (λ f. z .who .running) r)
     go (late c k z e) = rw e (runs-put (st .slots) (s .who) (finishing x) (λ f. z .who .running) r)

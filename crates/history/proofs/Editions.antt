@@ -164,7 +164,7 @@ module _ (cfg : Config) (st : State) (g : Sound cfg st) (m : marksInvalid (cfg .
   way-valid s (go.write z) = λ q. omega (arith, q)
   way-valid s go.updated = λ q. omega (arith, q)
   way-valid s (go.invalidate z) = λ q. omega (arith, q)
-  way-valid s (go.receiveNone e) = λ q. omega (arith, q)
+  way-valid s (go.receiveNone e i) = λ q. omega (arith, q)
   way-valid s (go.receive z) = queued-valid (s .what) 0 (omega (arith, z .inside, required-most cfg (g .config))) (omega arith)
   way-valid s (go.send z) = sent-valid (fullMask cfg (st .elements) (s .what))
   way-valid s (go.callBusy e) = λ q. omega (arith, q)
@@ -180,6 +180,8 @@ module _ (cfg : Config) (st : State) (g : Sound cfg st) (m : marksInvalid (cfg .
   way-valid s (go.tick z) = λ q. omega (arith, q)
   way-valid s (go.wait z) = λ q. omega (arith, q)
   way-valid s (go.fail z) = λ q. omega (arith, q)
+  way-valid s (go.hold z) = λ q. omega (arith, q)
+  way-valid s (go.giveUp z) = λ q. omega (arith, q)
 
 -- the way of an invalidate relies on an edition that marks
 invalidate-marks : {cfg : Config} {st : State} {s : Step} {v : Value} {t : State} → go.Way cfg st s invalidateCode v t → marksInvalid (cfg .edition) ≡ true

@@ -4,16 +4,16 @@ use mathlib.Core.Bool.{Bool, true, false}
 use mathlib.Core.Path.{_≡_, refl}
 use lib.Dec.{ltb, eqb}
 use borrow.Author.Tests.{eqb-true}
-use Rattle.numbers.specs.Codes.{exitCode, sendCode, resultCode, handBackCode, endCode}
+use Rattle.numbers.specs.Codes.{exitCode, sendCode, resultCode, handBackCode, endCode, receiveCode, giveUpCode}
 use Rattle.laws.specs.Choice.{both, either, bit}
 use Rattle.laws.proofs.Choosing.{both-left, both-right, all-told, alike-is}
 use Rattle.faces.specs.Types.{Value, Step, Taken, Config, State}
 use Rattle.config.specs.Tables.{providedConfIn, operationConfIn}
 use Rattle.entries.specs.Entries.{entryOf}
 use Rattle.state.specs.Tables.{slotIn}
-use Rattle.numbers.specs.Tags.{operationTag}
+use Rattle.numbers.specs.Tags.{operationTag, requiredTag}
 use Rattle.rules.specs.Rows.{aSlot, rows, rowOf}
-use Rattle.rules.specs.Sound.{componentOf, isCaller}
+use Rattle.rules.specs.Sound.{componentOf, isCaller, isHeld}
 use Rattle.rules.specs.Refusals.{queuesAs, partOwn, finishedLets, failedLets, endsWaiting, waitingLets, lifeLets, refusalOf}
 use Rattle.effects.specs.Steps.{isOpen, collectOf, resultOf, hasFailed}
 use Rattle.effects.specs.Step.{stepOf}
@@ -42,6 +42,12 @@ module _ (cfg : Config) (st : State) (s : Step) {v : Value} (a : stepOf cfg st s
       let p = eqb-true (slotIn (st .slots) (s .who) .life .awaited .part) operationTag f in
       let t = rw p at (all-told _ (let-told cfg st s refl let-through w .life) .0) in
       (eqb-true _ _ (both-left (eqb (s .code) resultCode) _ t), eqb-true _ _ (both-right (eqb (s .code) resultCode) _ t))
+
+  pub held-lets : rowOf (s .code) .who ≡ aSlot → isHeld (slotIn (st .slots) (s .who) .life) ≡ true → either (eqb (s .code) giveUpCode) (both (eqb (s .code) receiveCode) (eqb (slotIn (st .slots) (s .who) .life .awaited .on) (s .what))) ≡ true
+  unfolding lifeLets waitingLets endsWaiting
+  held-lets w f =
+      let p = eqb-true (slotIn (st .slots) (s .who) .life .awaited .part) requiredTag f in
+      rw p at (all-told _ (let-told cfg st s refl let-through w .life) .0)
 
   -- a send is of a queued element
   pub sent-queued : s .code ≡ sendCode → providedConfIn (cfg .provided) (s .what) .queued ≡ true

@@ -21,6 +21,7 @@ pub mod Unended
 pub mod Lives
 pub mod Backs
 pub mod Waiting
+pub mod Holding
 pub mod Goes
 pub mod Reached
 pub mod Proofs

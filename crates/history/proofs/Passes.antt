@@ -5,22 +5,23 @@
 -- Assumes nothing.
 use Prim.Native.Nat.{ℕ, _-_, _≤_, _<_}
 use mathlib.Core.Bool.{true, false}
-use mathlib.Core.Path.{_≡_, refl}
+use mathlib.Core.Path.{_≡_, refl, _∙_}
 use native.Mathlib.Nat.{add-zero}
 use native.Mathlib.Omega.{arith}
 use borrow.Author.Tests.{leb-true}
 use Rattle.laws.proofs.Looping.{all-at}
 use Rattle.laws.proofs.Places.{each-at}
-use Rattle.faces.specs.Types.{Value, Config, Elements, Operation, Operations, Slot, State}
+use Rattle.faces.specs.Types.{Value, Config, Elements, Operation, Operations, Slot, State, Awaited}
 use Rattle.config.specs.Tables.{runnableConfIn, timerConfIn}
-use Rattle.state.specs.Parts.{noOperation}
+use Rattle.state.specs.Parts.{noOperation, noAwaited}
+use Rattle.laws.proofs.Choosing.{clash}
 use Rattle.state.specs.Tables.{runnableIn, areaIn, operationIn, slotIn, withSlot, withAreas, withElements, withSlots}
 use Rattle.rules.specs.Rows.{noPart}
 use Rattle.rules.specs.Sound.{timesIn, operationSound, operationsSound}
-use Rattle.effects.specs.Steps.{stored, entered, exited, fed, isOpen, runningOn, goneOn, woken, ticked, operationLets, operationsLet, operationAfter, operationsAfter, waited}
+use Rattle.effects.specs.Steps.{stored, entered, exited, fed, isOpen, goneOn, woken, ticked, operationLets, operationsLet, operationAfter, operationsAfter, waited, awaiting, awaited, runningOn, dequeued, received, hasFailed, onElement, held}
 use Rattle.stays_sound.specs.Facts.{Sound, CanWait}
 use Rattle.stays_sound.proofs.Told.{operations-length}
-use Rattle.stays_sound.proofs.Kept.{runnable-kept, slot-kept, slot-has, fed-kept, after-kept, waited-kept}
+use Rattle.stays_sound.proofs.Kept.{runnable-kept, slot-kept, slot-has, fed-kept, after-kept, waited-kept, slots-after-kept}
 use Rattle.stays_sound.proofs.Operations.{calls-told}
 use Rattle.stays_sound.proofs.Clients.{calling-inside}
 use Rattle.history.proofs.Tied.{SameCalls, Alike}
@@ -29,7 +30,7 @@ pub same-calls : (os : Operations) → SameCalls 0 os os
 same-calls os = record { number = λ o. refl; calling = λ o. refl; done = λ o. refl; count = λ o e. add-zero _ }
 
 pub alike-same : (st : State) → Alike 0 st st
-alike-same st = record { operations = same-calls (st .operations); requests = λ r. refl; owed = λ k. refl; failed = λ k. refl; finished = λ k. refl; running = λ k r. r; used = λ k. refl }
+alike-same st = record { operations = same-calls (st .operations); requests = λ r. refl; owed = λ k. refl; failed = λ k. refl; finished = λ k. refl; running = λ k f r. r; used = λ k. refl }
 
 -- areas and stacks are as they were
 pub record Unmoved (st st′ : State) : Type 0 where
@@ -56,40 +57,55 @@ still st st′ e f g a = record { alike = a; unmoved = unmoved-by st st′ e f; 
 -- ---- variables and elements
 
 pub write-variable-calm : (st : State) (v : ℕ) (x : Value) → Calm 0 st (stored st v x)
-write-variable-calm st v x = still st _ refl refl refl (record { operations = same-calls (st .operations); requests = λ r. refl; owed = λ k. refl; failed = λ k. refl; finished = λ k. refl; running = λ k r. r; used = λ k. refl })
+write-variable-calm st v x = still st _ refl refl refl (record { operations = same-calls (st .operations); requests = λ r. refl; owed = λ k. refl; failed = λ k. refl; finished = λ k. refl; running = λ k f r. r; used = λ k. refl })
 
 -- other elements, as after a read, an invalidate and a receive
 pub elements-calm : (st : State) (t : Elements) → Calm 0 st (withElements st t)
-elements-calm st t = still st _ refl refl refl (record { operations = same-calls (st .operations); requests = λ r. refl; owed = λ k. refl; failed = λ k. refl; finished = λ k. refl; running = λ k r. r; used = λ k. refl })
+elements-calm st t = still st _ refl refl refl (record { operations = same-calls (st .operations); requests = λ r. refl; owed = λ k. refl; failed = λ k. refl; finished = λ k. refl; running = λ k f r. r; used = λ k. refl })
 
 pub fed-calm : (cfg : Config) (st : State) (p : ℕ) (v : Value) → Calm 0 st (fed cfg st p v)
 unfolding fed
-fed-calm cfg st p v = still st _ refl refl refl (record { operations = same-calls (st .operations); requests = fed-kept (λ x. x .requests) (λ c x. refl) cfg (st .elements) p (st .runnables); owed = λ k. refl; failed = λ k. refl; finished = λ k. refl; running = λ k r. r; used = λ k. refl })
+fed-calm cfg st p v = still st _ refl refl refl (record { operations = same-calls (st .operations); requests = fed-kept (λ x. x .requests) (λ c x. refl) cfg (st .elements) p (st .runnables); owed = λ k. refl; failed = λ k. refl; finished = λ k. refl; running = λ k f r. r; used = λ k. refl })
 
 -- ---- a slot that owes what it owed, has failed and is finished as before, and does not begin to wait
 
 slot-alike : (st m : State) (i : ℕ) (x : Slot) → m .operations ≡ st .operations → m .runnables ≡ st .runnables → x .owed ≡ slotIn (st .slots) i .owed → x .life .failed ≡ slotIn (st .slots) i .life .failed → x .life .finished ≡ slotIn (st .slots) i .life .finished
-    → (slotIn (st .slots) i .life .awaited .part ≡ noPart → x .life .awaited .part ≡ noPart) → x .used ≡ slotIn (st .slots) i .used → Alike 0 st (withSlots m (withSlot (st .slots) i x))
+    → (slotIn (st .slots) i .life .failed ≡ true → slotIn (st .slots) i .life .awaited .part ≡ noPart → x .life .awaited .part ≡ noPart) → x .used ≡ slotIn (st .slots) i .used → Alike 0 st (withSlots m (withSlot (st .slots) i x))
 slot-alike st m i x e f o l n w u = record {
   operations = rw e (same-calls (st .operations));
   requests = λ r. rw f;
   owed = slot-kept (λ y. y .owed) (st .slots) i x o;
   failed = slot-kept (λ y. y .life .failed) (st .slots) i x l;
   finished = slot-kept (λ y. y .life .finished) (st .slots) i x n;
-  running = slot-has (λ k y. slotIn (st .slots) k .life .awaited .part ≡ noPart → y .life .awaited .part ≡ noPart) (st .slots) i x w (λ k r. r);
+  running = slot-has (λ k y. slotIn (st .slots) k .life .failed ≡ true → slotIn (st .slots) k .life .awaited .part ≡ noPart → y .life .awaited .part ≡ noPart) (st .slots) i x w (λ k f r. r);
   used = slot-kept (λ y. y .used) (st .slots) i x u;
 }
 
 pub enter-alike : (st : State) (i a : ℕ) → Alike 0 st (entered st i a)
-enter-alike st i a = slot-alike st (withAreas st _) i _ refl refl refl refl refl (λ r. r) refl
+enter-alike st i a = slot-alike st (withAreas st _) i _ refl refl refl refl refl (λ f r. r) refl
 
 pub exit-alike : (st : State) (i a : ℕ) → Alike 0 st (exited st i a)
-exit-alike st i a = slot-alike st (withAreas st _) i _ refl refl refl refl refl (λ r. r) refl
+exit-alike st i a = slot-alike st (withAreas st _) i _ refl refl refl refl refl (λ f r. r) refl
 
-pub collect-calm : (st : State) (i : ℕ) → Calm 0 st (goneOn st i)
-collect-calm st i = record {
-  alike = slot-alike st st i _ refl refl refl refl refl (λ r. refl) refl;
-  unmoved = record { areas = λ a. refl; stacks = λ a. slot-kept (λ x. timesIn a (x .stack)) (st .slots) i (runningOn (slotIn (st .slots) i)) refl };
+-- what an instance waits for, where one that has failed begins nothing
+await-calm : (st : State) (i : ℕ) (a : Awaited) → (hasFailed st i ≡ true → a .part ≡ noPart) → Calm 0 st (awaited st i a)
+await-calm st i a h = record {
+  alike = slot-alike st st i _ refl refl refl refl refl (λ f r. h f) refl;
+  unmoved = record { areas = λ b. refl; stacks = λ b. slot-kept (λ x. timesIn b (x .stack)) (st .slots) i (awaiting (slotIn (st .slots) i) a) refl };
+  timers = refl;
+}
+
+pub go-on-calm : (st : State) (i : ℕ) → Calm 0 st (goneOn st i)
+go-on-calm st i = await-calm st i noAwaited (λ f. refl)
+
+pub hold-calm : (st : State) (i q t : ℕ) → hasFailed st i ≡ false → Calm 0 st (held st i q t)
+hold-calm st i q t e = await-calm st i (onElement q t) (λ f. absurd (clash (hasFailed st i) f e))
+
+-- the oldest value is gone from a queue, and who received goes on
+pub receive-calm : (st : State) (i q : ℕ) → Calm 0 st (received st i q)
+receive-calm st i q = record {
+  alike = slot-alike st (dequeued st q) i _ refl refl refl refl refl (λ f r. refl) refl;
+  unmoved = record { areas = λ b. refl; stacks = λ b. slot-kept (λ x. timesIn b (x .stack)) (st .slots) i (runningOn (slotIn (st .slots) i)) refl };
   timers = refl;
 }
 
@@ -102,7 +118,7 @@ tick-alike cfg st t = record {
   owed = λ k. refl;
   failed = λ k. refl;
   finished = λ k. refl;
-  running = λ k r. r;
+  running = λ k f r. r;
   used = λ k. refl;
 }
 
@@ -139,8 +155,8 @@ module _ (cfg : Config) (st : State) (t : ℕ) (g : Sound cfg st) (z : CanWait c
 
   pub wait-alike : Alike t st (waited cfg st t)
   unfolding waited
-  wait-alike = record { operations = wait-calls; requests = after-kept (λ x. x .requests) t (λ x. refl) cfg (st .runnables); owed = λ k. refl; failed = λ k. refl; finished = λ k. refl; running = λ k r. r; used = λ k. refl }
+  wait-alike = record { operations = wait-calls; requests = after-kept (λ x. x .requests) t (λ x. refl) cfg (st .runnables); owed = slots-after-kept (λ x. x .owed) t (λ x. refl) (st .slots); failed = slots-after-kept (λ x. x .life .failed) t (λ x. refl) (st .slots); finished = slots-after-kept (λ x. x .life .finished) t (λ x. refl) (st .slots); running = λ k f r. slots-after-kept (λ x. x .life .awaited .part) t (λ x. refl) (st .slots) k ∙ r; used = slots-after-kept (λ x. x .used) t (λ x. refl) (st .slots) }
 
   pub wait-unmoved : Unmoved st (waited cfg st t)
   unfolding waited
-  wait-unmoved = unmoved-by st _ refl refl
+  wait-unmoved = record { areas = λ a. refl; stacks = λ a. slots-after-kept (λ x. timesIn a (x .stack)) t (λ x. refl) (st .slots) }

@@ -5,6 +5,7 @@
 use Prim.Native.Nat.{ℕ, _+_, _<_}
 use mathlib.Core.Bool.{Bool, true, false}
 use mathlib.Core.List.{List, _∷_, _++_}
+use mathlib.Core.Logic.{inl, inr}
 use mathlib.Core.Option.{some}
 use mathlib.Core.Path.{_≡_, refl, sym, _∙_, ap}
 use native.Mathlib.Nat.{add-zero}
@@ -12,9 +13,11 @@ use native.Mathlib.Omega.{arith}
 use lib.Dec.{ltb, eqb}
 use lib.ListN.{length, getD, length-drop}
 use lib.Seq.{getD-drop}
-use borrow.Author.Tests.{ltb-true, ltb-false, lt-ltb, eq-eqb}
-use Rattle.numbers.specs.Codes.{sendCode}
+use borrow.Author.Tests.{ltb-true, ltb-false, lt-ltb, eqb-true, eq-eqb}
+use Rattle.numbers.specs.Codes.{receiveCode, sendCode, giveUpCode}
+use Rattle.numbers.specs.Tags.{requiredTag}
 use Rattle.laws.specs.Choice.{bit}
+use Rattle.laws.proofs.Choosing.{both-left, both-right}
 use Rattle.faces.specs.Types.{Value, Step, Taken, Config, State}
 use Rattle.values.specs.Values.{numberV, serverErrV}
 use Rattle.entries.specs.Faults.{isServer, configSound}
@@ -22,21 +25,23 @@ use Rattle.state.specs.Start.{startOf}
 use Rattle.state.specs.Tables.{slotIn}
 use Rattle.effects.specs.Steps.{lowestEmpty}
 use Rattle.effects.specs.Step.{stepOf}
-use Rattle.rules.specs.Sound.{isCaller, waitersOf}
+use Rattle.rules.specs.Sound.{isCaller, isHeld, isWaiting, waitersOf}
 use Rattle.stays_sound.specs.Facts.{Sound}
 use Rattle.rules.proofs.Configured.{runnables-most, areas-most, server-there}
 use Rattle.stays_sound.proofs.Kept.{here, lowest-empty}
+use Rattle.stays_sound.proofs.Instances.{instance-at, waits-held}
 use Rattle.stays_sound.proofs.Areas.{times-none, exit-stack}
 use Rattle.stays_sound.proofs.Clients.{requests-told}
 use Rattle.stays_sound.proofs.Ways.{Way}
-use Rattle.stays_sound.proofs.Accepted.{answerIn, way, enter-told, exit-told, collect-told, result-told, answer-told, end-told, spawn-told, timeout-told, tick-told}
-use Rattle.history.specs.History.{noRequest, History, historyOf, takenBy, latestOn, endsOf, lastOn, isUnended, livesIn, boundIn, awaitsIn, holderOf, allQueued, allSpawns}
-use Rattle.history.specs.Promises.{Run, OfRuns, OfSteps, StaysSound, HeldBy, AreasHeld, EntersFree, ExitsHeld, EndsEmpty, SpawnsEmpty, ActsAlive, HolderStays, FailedStops, BackIsLast, EndsPaid, FailedGoesOn, RequestsFit, ValuesFit, CallsOneByOne, WaiterWaits, BackIsAnswered, EndsOnce, EndsProperly, TimeoutAtZero, TimeoutEndsOpen, TimeoutInTime, BackInTime, OpenInTime, TicksInTime, TimersInTime, ResultIsDelivered, ResultIsOwn, DoneIsDelivered, NumberIsFinal, DoneIsFinal, FailureIsFinal, DoneIsFailure, UsedIsLived, FailedFollowed, FinishedFollowed, NumberGoesRound, WaitingFollowed, BoundFollowed, OpenIsUnended, UnendedIsLatest, LatestStarted, CountIsRest, QueuesFollowed, ServedFollowed, FirstInFirstOut, SpawnTakesNext}
+use Rattle.stays_sound.proofs.Accepted.{answerIn, way, enter-told, exit-told, collect-told, result-told, answer-told, end-told, spawn-told, timeout-told, tick-told, receive-told, give-up-told}
+use Rattle.history.specs.History.{noRequest, History, historyOf, takenBy, latestOn, endsOf, lastOn, isUnended, livesIn, boundIn, awaitsIn, holderOf, allQueued, allSpawns, heldIn}
+use Rattle.history.specs.Promises.{Run, OfRuns, OfSteps, StaysSound, HeldBy, AreasHeld, EntersFree, ExitsHeld, EndsEmpty, SpawnsEmpty, ActsAlive, HolderStays, FailedStops, BackIsLast, EndsPaid, FailedGoesOn, RequestsFit, ValuesFit, CallsOneByOne, WaiterWaits, BackIsAnswered, EndsOnce, EndsProperly, TimeoutAtZero, TimeoutEndsOpen, TimeoutInTime, BackInTime, OpenInTime, TicksInTime, TimersInTime, ResultIsDelivered, ResultIsOwn, DoneIsDelivered, NumberIsFinal, DoneIsFinal, FailureIsFinal, DoneIsFailure, UsedIsLived, FailedFollowed, FinishedFollowed, NumberGoesRound, WaitingFollowed, BoundFollowed, OpenIsUnended, UnendedIsLatest, LatestStarted, CountIsRest, QueuesFollowed, ServedFollowed, FirstInFirstOut, SpawnTakesNext, GoesOn, HeldGoesOn, GivesUpHeld, HeldInTime, HeldFollowed}
 use Rattle.history.proofs.Runs.{Halves, halves, first, history-one}
 use Rattle.history.proofs.Deeds.{due-server}
 use Rattle.history.proofs.Ended.{ended-at, answer-latest}
-use Rattle.history.proofs.Reached.{sound-along, sound-at, tied-at, named-at, fifo-at, timed-at, ticked-at, ended-along, holds-at, unended-at, lives-at, backs-at, runs-at, paid-at, bounds-at, awaits-at, ends-grow}
-use Rattle.history.proofs.Lets.{taker-used, failed-lets, finished-lets, waiting-lets, collected-shut}
+use Rattle.history.proofs.Reached.{sound-along, sound-at, tied-at, named-at, fifo-at, timed-at, ticked-at, ended-along, holds-at, unended-at, lives-at, backs-at, runs-at, paid-at, bounds-at, awaits-at, held-at, ends-grow}
+use Rattle.history.proofs.Holding.{Holding}
+use Rattle.history.proofs.Lets.{taker-used, failed-lets, finished-lets, waiting-lets, held-lets, collected-shut}
 use Rattle.history.proofs.Unended.{started-some}
 use Rattle.history.proofs.Lives.{lives-one, lives-on}
 use Rattle.history.proofs.Waiting.{Waiter, waiter-started, own-ending}
@@ -175,6 +180,58 @@ waiter-waits cfg before after s st c e w p =
     let l = waiting-lets cfg (m .mid) s (taken-there cfg before after s st c e) w f in
     (l .0, rw (l .1) at (waiter-started _ _ _ _ _ (awaits-at cfg before (m .mid) (m .before) .each (s .who) f)))
 
+-- who is held: it is so in the state
+held-there : (cfg : Config) (rs : List Step) (st : State) (i : ℕ) → Run cfg rs st → 0 < heldIn i rs → isHeld (slotIn (st .slots) i .life) ≡ true
+held-there cfg rs st i e p = by (isHeld (slotIn (st .slots) i .life)) refl
+  where
+    by : (b : Bool) → isHeld (slotIn (st .slots) i .life) ≡ b → isHeld (slotIn (st .slots) i .life) ≡ true
+    by true w = w
+    by false w = absurd (omega (arith, p, held-at cfg rs st e .idle i w))
+
+pub held-goes-on : OfSteps HeldGoesOn
+held-goes-on cfg before after s st c e w p = (slotIn (mid .slots) (s .who) .life .awaited .on, h .0, h .1, by (eqb (s .code) giveUpCode) refl)
+  where
+    m : Halves cfg (startOf cfg) st before (s ∷ after)
+    m = found cfg before after s st c e
+
+    mid : State
+    mid = m .mid
+
+    f : isHeld (slotIn (mid .slots) (s .who) .life) ≡ true
+    f = held-there cfg before mid (s .who) (m .before) p
+
+    h : Holding before (s .who) (slotIn (mid .slots) (s .who) .life .awaited .on) (slotIn (mid .slots) (s .who) .life .awaited .left)
+    h = held-at cfg before mid (m .before) .each (s .who) f
+
+    waiting : isWaiting (slotIn (mid .slots) (s .who) .life) ≡ true
+    waiting = rw (eqb-true (slotIn (mid .slots) (s .who) .life .awaited .part) requiredTag f)
+
+    by : (b : Bool) → eqb (s .code) giveUpCode ≡ b → GoesOn cfg before s (slotIn (mid .slots) (s .who) .life .awaited .on) (h .0)
+    by true g =
+        let q = eqb-true (s .code) giveUpCode g in
+        let z = give-up-told cfg mid s (way-there cfg before after s st c e q refl) in
+        inr (q, z .1, omega (arith, h .2, eqb-true (slotIn (mid .slots) (s .who) .life .awaited .left) 0 (z .0 .spent)))
+    by false g =
+        let r = rw g at (held-lets cfg mid s (taken-there cfg before after s st c e) w f) in
+        let q = eqb-true (s .code) receiveCode (both-left (eqb (s .code) receiveCode) _ r) in
+        let o : slotIn (mid .slots) (s .who) .life .awaited .on ≡ s .what = eqb-true _ _ (both-right (eqb (s .code) receiveCode) _ r) in
+        let z = receive-told cfg mid s waiting (way-there cfg before after s st c e q refl) in
+        inl (q, sym o, (mid, m .before, rw o (z .0 .some), rw o (z .1)))
+
+-- who gives up waits on no operation, so it is held
+pub gives-up-held : OfSteps GivesUpHeld
+gives-up-held cfg before after s st c e q =
+    let m = found cfg before after s st c e in
+    let z = give-up-told cfg (m .mid) s (way-there cfg before after s st c e q refl) .0 in
+    let l = slotIn (m .mid .slots) (s .who) .life in
+    let f = waits-held cfg l (instance-at cfg (m .mid) (sound-before cfg before after s st c e) (s .who) (z .there .used) .life) (z .waiting) (z .free) in
+    omega (arith, held-at cfg before (m .mid) (m .before) .each (s .who) f .1 .place)
+
+pub held-in-time : OfRuns (λ cfg rs st. HeldInTime cfg rs)
+held-in-time cfg rs st c e i b p =
+    let h = held-at cfg rs st e .each i (held-there cfg rs st i e p) in
+    (slotIn (st .slots) i .life .awaited .on, h .0, h .1, omega (arith, h .2))
+
 pub back-is-answered : OfSteps BackIsAnswered
 back-is-answered cfg before after s st c e q =
     let m = found cfg before after s st c e in
@@ -291,6 +348,13 @@ waiting-followed cfg rs st c e i b = by (isCaller (slotIn (st .slots) i .life)) 
     by : (w : Bool) → isCaller (slotIn (st .slots) i .life) ≡ w → isCaller (slotIn (st .slots) i .life) ≡ ltb 0 (awaitsIn cfg i rs)
     by true w = w ∙ sym (lt-ltb 0 (awaitsIn cfg i rs) (omega (arith, awaits-at cfg rs st e .each i w .place)))
     by false w = w ∙ sym (ap (ltb 0) (awaits-at cfg rs st e .idle i w))
+
+pub held-followed : OfRuns HeldFollowed
+held-followed cfg rs st c e i b = by (isHeld (slotIn (st .slots) i .life)) refl
+  where
+    by : (w : Bool) → isHeld (slotIn (st .slots) i .life) ≡ w → isHeld (slotIn (st .slots) i .life) ≡ ltb 0 (heldIn i rs)
+    by true w = w ∙ sym (lt-ltb 0 (heldIn i rs) (omega (arith, held-at cfg rs st e .each i w .1 .place)))
+    by false w = w ∙ sym (ap (ltb 0) (held-at cfg rs st e .idle i w))
 
 pub bound-followed : OfRuns BoundFollowed
 bound-followed cfg rs st c e o b =

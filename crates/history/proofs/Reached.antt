@@ -2,7 +2,7 @@
 -- history (`tied-at`), the history's places are started calls (`named-at`), each server's queue is first in, first out (`fifo-at`), the counts of open calls are
 -- what is left of their time (`timed-at`), as those of timers are of their periods (`ticked-at`), each ending stands at its step, in time (`ended-along`), areas stand with whoever entered
 -- them (`holds-at`), a call without an ending is the latest of its operation (`unended-at`), a slot is in use while an instance lives there (`lives-at`), is
--- finished once it has handed back (`backs-at`), does not wait if it has failed (`runs-at`), waits for its own call alone (`awaits-at`) on an operation that is bound (`bounds-at`), and owes an answer or has given it if it was spawned for a call (`paid-at`).
+-- finished once it has handed back (`backs-at`), does not wait if it has failed (`runs-at`), is held by its own step (`held-at`), waits for its own call alone (`awaits-at`) on an operation that is bound (`bounds-at`), and owes an answer or has given it if it was spawned for a call (`paid-at`).
 -- Endings are only added: a call has ended at least as often after more steps (`ends-grow`).
 -- Assumes nothing.
 use Prim.Native.Nat.{ℕ, _≤_, _<_}
@@ -34,6 +34,7 @@ use Rattle.history.proofs.Ended.{AllEnded, ended-start, ended-deed}
 use Rattle.history.proofs.Unended.{Unended, grows, unended-start, unended-deed}
 use Rattle.history.proofs.Lives.{Lives, lives-start, lives-deed}
 use Rattle.history.proofs.Backs.{Backs, backs-start, backs-deed, Runs, runs-start, runs-deed, Paid, paid-start, paid-deed}
+use Rattle.history.proofs.Holding.{Held, held-start, held-step}
 use Rattle.history.proofs.Waiting.{Bounds, bounds-start, bounds-step, Awaits, awaits-start, waits-by, awaits-step}
 use Rattle.history.proofs.Held.{Holds, holder-one, moves, holds-start, holds-deed}
 
@@ -145,6 +146,9 @@ awaits-at cfg rs st e =
     along cfg (λ before m. Awaits cfg (m .slots) before (historyOf cfg before))
     (λ before s m r l a. rw (history-one cfg before s) (awaits-step cfg m s a before (historyOf cfg before) (tied-at cfg before m r) (named-at cfg before m r) (lives-at cfg before m r) l))
     (awaits-start cfg) rs st e
+
+pub held-at : (cfg : Config) (rs : List Step) (st : State) → Run cfg rs st → Held (st .slots) rs
+held-at cfg rs st e = along cfg (λ before m. Held (m .slots) before) (λ before s m r l a. held-step cfg m s before l a) (held-start cfg) rs st e
 
 -- ---- endings are only added
 

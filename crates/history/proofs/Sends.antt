@@ -7,7 +7,7 @@ use mathlib.Core.Logic.{_↔_, _⊎_, inl, inr, ⊎-elim}
 use mathlib.Core.Path.{_≡_, refl, sym, ap, _∙_}
 use native.Mathlib.Omega.{arith}
 use borrow.Author.Tests.{ne-eqb}
-use Rattle.numbers.specs.Codes.{sendCode, callCode, resultCode, handBackCode, spawnCode}
+use Rattle.numbers.specs.Codes.{sendCode, callCode, resultCode, handBackCode, spawnCode, receiveCode, giveUpCode}
 use Rattle.laws.specs.Mask.{isSet}
 use Rattle.laws.proofs.Choosing.{clash}
 use Rattle.laws.proofs.Masks.{none-set}
@@ -25,7 +25,7 @@ use Rattle.stays_sound.specs.Facts.{Sound}
 use Rattle.stays_sound.proofs.Told.{told, shape-told}
 use Rattle.stays_sound.proofs.Elements.{linked-alike}
 use Rattle.stays_sound.proofs.Accepted.{accepted, claim-told, gone, send-told}
-use Rattle.history.specs.History.{observe, Started, timeOf, tickFrom, livesAfter, backAfter, binds, boundAfter, awaitsAfter, holderAfter, allQueued, allSpawns}
+use Rattle.history.specs.History.{observe, Started, timeOf, tickFrom, livesAfter, backAfter, binds, boundAfter, awaitsAfter, heldAfter, holderAfter, allQueued, allSpawns}
 use Rattle.history.specs.Promises.{OfSteps, AtStep}
 use Rattle.history.specs.Sends.{ClaimIsAnswer, Said, SendSays, claiming, Unread, SendIsUnread}
 use Rattle.history.proofs.Runs.{halves, first}
@@ -112,7 +112,7 @@ module _ (s : Step) (v : Value) (c : s .code ≡ sendCode) where
   unread-started rs (suc (suc k)) o = (λ h. h, λ h. h)
 
   unread : Unread s v
-  unfolding observe timeOf tickFrom livesAfter backAfter boundAfter awaitsAfter binds asksSynchronous holderAfter allQueued allSpawns
+  unfolding observe timeOf tickFrom livesAfter backAfter boundAfter awaitsAfter heldAfter binds asksSynchronous holderAfter allQueued allSpawns
   unread = record {
     history = λ cfg h. rw c;
     started = unread-started;
@@ -122,6 +122,7 @@ module _ (s : Step) (v : Value) (c : s .code ≡ sendCode) where
     backs = λ i w. rw c;
     bounds = λ cfg o w. rw c;
     awaits = λ cfg i n w. rw c;
+    helds = λ i n w. refl;
     holders = λ a w. refl;
     queued = λ cfg r n rs. rw c;
     spawns = λ r rs. refl;
@@ -146,6 +147,8 @@ send-is-unread cfg before after s v c = (u, at)
       paid = p .paid;
       call = λ q. absurd (other-code callCode c refl q);
       waiter = p .waiter;
+      held = λ w q. absurd (⊎-elim (λ x. other-code receiveCode c refl (x .0)) (λ x. other-code giveUpCode c refl (x .0)) (p .held w q .3));
+      spent = λ q. absurd (other-code giveUpCode c refl q);
       answer = λ q. absurd (other-code handBackCode c refl q);
       zero = p .zero;
       ends = p .ends;

@@ -93,7 +93,7 @@ pub record Alike (t : ℕ) (st st′ : State) : Type 0 where
   pub owed : (k : ℕ) → slotIn (st′ .slots) k .owed ≡ slotIn (st .slots) k .owed
   pub failed : (k : ℕ) → slotIn (st′ .slots) k .life .failed ≡ slotIn (st .slots) k .life .failed
   pub finished : (k : ℕ) → slotIn (st′ .slots) k .life .finished ≡ slotIn (st .slots) k .life .finished
-  pub running : (k : ℕ) → slotIn (st .slots) k .life .awaited .part ≡ noPart → slotIn (st′ .slots) k .life .awaited .part ≡ noPart
+  pub running : (k : ℕ) → slotIn (st .slots) k .life .failed ≡ true → slotIn (st .slots) k .life .awaited .part ≡ noPart → slotIn (st′ .slots) k .life .awaited .part ≡ noPart
   pub used : (k : ℕ) → slotIn (st′ .slots) k .used ≡ slotIn (st .slots) k .used
 
 pub calls-alike : {t : ℕ} (os os′ : Operations) (latest : List ℕ) (es : List Ending) (p : ℕ) → SameCalls t os os′ → Calls os latest es p → Calls os′ latest es (p + 1)

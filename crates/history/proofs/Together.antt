@@ -6,7 +6,7 @@ use Rattle.faces.specs.Types.{Step}
 use Rattle.state.specs.Start.{startOf}
 use Rattle.history.specs.Promises.{Run, OfRuns, OfSteps, Followed, AtMoment, AtStep, Demand3}
 use Rattle.history.proofs.Runs.{halves}
-use Rattle.history.proofs.Proofs.{stays-sound, areas-held, enters-free, exits-held, ends-empty, spawns-empty, acts-alive, holder-stays, failed-stops, back-is-last, ends-paid, failed-goes-on, requests-fit, values-fit, calls-one-by-one, waiter-waits, back-is-answered, ends-once, ends-properly, timeout-at-zero, timeout-ends-open, timeout-in-time, back-in-time, open-in-time, ticks-in-time, timers-in-time, result-is-delivered, result-is-own, done-is-delivered, number-is-final, done-is-final, failure-is-final, done-is-failure, used-is-lived, failed-followed, finished-followed, number-goes-round, waiting-followed, bound-followed, open-is-unended, unended-is-latest, latest-started, count-is-rest, queues-followed, served-followed, first-in-first-out, spawn-takes-next}
+use Rattle.history.proofs.Proofs.{stays-sound, areas-held, enters-free, exits-held, ends-empty, spawns-empty, acts-alive, holder-stays, failed-stops, back-is-last, ends-paid, failed-goes-on, requests-fit, values-fit, calls-one-by-one, waiter-waits, back-is-answered, ends-once, ends-properly, timeout-at-zero, timeout-ends-open, timeout-in-time, back-in-time, open-in-time, ticks-in-time, timers-in-time, result-is-delivered, result-is-own, done-is-delivered, number-is-final, done-is-final, failure-is-final, done-is-failure, used-is-lived, failed-followed, finished-followed, number-goes-round, waiting-followed, bound-followed, open-is-unended, unended-is-latest, latest-started, count-is-rest, queues-followed, served-followed, first-in-first-out, spawn-takes-next, held-goes-on, gives-up-held, held-in-time, held-followed}
 
 followed : OfRuns Followed
 followed cfg rs st c e = record {
@@ -14,6 +14,7 @@ followed cfg rs st c e = record {
   failed = failed-followed cfg rs st c e;
   finished = finished-followed cfg rs st c e;
   waiting = waiting-followed cfg rs st c e;
+  held = held-followed cfg rs st c e;
   bound = bound-followed cfg rs st c e;
   number = number-goes-round cfg rs st c e;
   unended = open-is-unended cfg rs st c e;
@@ -36,6 +37,7 @@ at-moment cfg rs st c e = record {
   once = ends-once cfg rs st c e;
   properly = ends-properly cfg rs st c e;
   time = open-in-time cfg rs st c e;
+  held = held-in-time cfg rs st c e;
   timers = timers-in-time cfg rs st c e;
   delivered = done-is-delivered cfg rs st c e;
   done = done-is-final cfg rs st c e;
@@ -56,6 +58,8 @@ at-step cfg before after s st c e = record {
   paid = ends-paid cfg before after s st c e;
   call = calls-one-by-one cfg before after s st c e;
   waiter = waiter-waits cfg before after s st c e;
+  held = held-goes-on cfg before after s st c e;
+  spent = gives-up-held cfg before after s st c e;
   answer = back-is-answered cfg before after s st c e;
   zero = timeout-at-zero cfg before after s st c e;
   ends = timeout-ends-open cfg before after s st c e;

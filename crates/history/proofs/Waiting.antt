@@ -28,12 +28,12 @@ use Rattle.state.specs.Tables.{noSlots, runnableIn, slotIn, withSlot}
 use Rattle.rules.specs.Sound.{isCaller, waitsOn, waitersOf, isBound}
 use Rattle.rules.specs.Refusals.{asksSynchronous}
 use Rattle.rules.proofs.Configured.{operations-most}
-use Rattle.effects.specs.Steps.{entering, exiting, fed, called, callerAfter, waitingOn, runningOn, goneOn, closed, finishing, failing, instanceOf, lowestEmpty, spawned, waited}
+use Rattle.effects.specs.Steps.{entering, exiting, fed, called, callerAfter, waitingOn, runningOn, awaiting, onElement, goneOn, closed, finishing, failing, instanceOf, lowestEmpty, spawned, waited}
 use Rattle.effects.specs.Step.{stepOf}
 use Rattle.stays_sound.specs.Facts.{Sound, CanCall, CanCollect}
 use Rattle.stays_sound.proofs.Told.{told, slots-length}
-use Rattle.stays_sound.proofs.Kept.{lowest-empty, slot-kept, slot-inside}
-use Rattle.stays_sound.proofs.Waiters.{no-caller, waits-none, empty-runs, new-runs, call-waiters, collect-waiters}
+use Rattle.stays_sound.proofs.Kept.{lowest-empty, slot-kept, slot-inside, slots-after-kept}
+use Rattle.stays_sound.proofs.Waiters.{no-caller, waits-none, after-waits, empty-runs, new-runs, call-waiters, collect-waiters}
 use Rattle.stays_sound.proofs.Ways.{Way}
 use Rattle.stays_sound.proofs.Ways as go
 use Rattle.stays_sound.proofs.Accepted.{accepted, claim-told, gone, way, call-told, end-told, spawn-told}
@@ -92,8 +92,8 @@ module _ (cfg : Config) (st : State) (s : Step) where
   waits-way g c k (go.write z) = same c refl refl refl
   waits-way g c k go.updated = same c refl refl refl
   waits-way g c k (go.invalidate z) = same c refl refl refl
-  waits-way g c k (go.receiveNone e) = same c refl refl refl
-  waits-way g c k (go.receive z) = same c refl refl refl
+  waits-way g c k (go.receiveNone e w) = same c refl refl refl
+  waits-way g c k (go.receive z) = one (s .who) (runningOn (slotIn (st .slots) (s .who))) c refl refl refl (λ o. sym (waits-none o (slotIn (st .slots) (s .who)) (z .free)))
   waits-way g c k (go.send z) = same c refl refl refl
   waits-way g c k (go.callBusy e) = rests (rw (c, k refl)) (no-result c refl) (λ o j. refl)
   waits-way g c k (go.call z) = call-waits c (k refl) z
@@ -109,8 +109,12 @@ module _ (cfg : Config) (st : State) (s : Step) where
       (λ o. waits-none o x (no-caller (x .life) (new-runs cfg st (s .what))) ∙ sym (waits-none o (slotIn (st .slots) (lowestEmpty (st .slots))) (no-caller (slotIn (st .slots) (lowestEmpty (st .slots)) .life) (empty-runs cfg st (lowestEmpty (st .slots)) g (z .slot) (lowest-empty (st .slots) (z .slot))))))
   waits-way g c k (go.timeout z) = same c refl refl refl
   waits-way g c k (go.tick z) = same c refl refl refl
-  waits-way g c k (go.wait z) = same c refl refl refl
+  waits-way g c k (go.wait z) = rests (no-call c refl) (no-result c refl) (λ o j. slots-after-kept (waitsOn o) (s .argument .number) (after-waits o (s .argument .number)) (st .slots) j)
   waits-way g c k (go.fail z) = one (s .who) (failing (slotIn (st .slots) (s .who))) c refl refl refl (λ o. refl)
+  waits-way g c k (go.hold z) =
+      one (s .who) (awaiting (slotIn (st .slots) (s .who)) (onElement (s .what) (s .argument .number))) c refl refl refl
+      (λ o. sym (waits-none o (slotIn (st .slots) (s .who)) (no-caller (slotIn (st .slots) (s .who) .life) (z .who .running))))
+  waits-way g c k (go.giveUp z) = one (s .who) (runningOn (slotIn (st .slots) (s .who))) c refl refl refl (λ o. sym (waits-none o (slotIn (st .slots) (s .who)) (z .free)))
 
 -- ---- the recording, step by step
 

@@ -1,4 +1,4 @@
--- The calls of a recording, the time that passes in it, who lives in its slots, who has failed, who waits and who holds its areas, as its steps and their answers show them under its configuration. No state of the machine is used here, and no number of an operation.
+-- The calls of a recording, the time that passes in it, who lives in its slots, who has failed, who waits, who is held and who holds its areas, as its steps and their answers show them under its configuration. No state of the machine is used here, and no number of an operation.
 -- The name of a call is where its step stands in the recording, from 1 on, and 0 names none; an accepted step has the answer that it claims, but for a send, whose claim is not read here (W-201).
 -- Assumes nothing.
 use Prim.Native.Nat.{ℕ, zero, suc, _+_, _≤_}
@@ -7,9 +7,9 @@ use mathlib.Core.List.{List, [], _∷_, _++_}
 use mathlib.Core.Option.{Option, none, some}
 use mathlib.Core.Path.{_≡_}
 use lib.Dec.{ltb, eqb}
-use lib.ListN.{getD, set, drop, replicate}
-use Rattle.numbers.specs.Codes.{enterCode, exitCode, callCode, handBackCode, endCode, spawnCode, timeoutCode, tickCode, waitCode, failCode}
-use Rattle.laws.specs.Choice.{pick, both, bit}
+use lib.ListN.{length, getD, set, drop, replicate}
+use Rattle.numbers.specs.Codes.{enterCode, exitCode, callCode, handBackCode, endCode, spawnCode, timeoutCode, tickCode, waitCode, failCode, receiveCode, holdCode, giveUpCode}
+use Rattle.laws.specs.Choice.{pick, both, either, bit}
 use Rattle.faces.specs.Types.{Value, Step, Config}
 use Rattle.values.specs.Values.{voidV, numberV, okV, timeoutV, serverErrV, sameValue}
 use Rattle.config.specs.Tables.{maxRunnableConfs, maxOperationConfs, operationConfIn}
@@ -297,6 +297,30 @@ awaitsFrom cfg i w n (s ∷ rs) = awaitsFrom cfg i (awaitsAfter cfg i (n + 1) w 
 -- the call that the instance in the slot i waits for, after the steps of a recording (W-202)
 unfoldable pub awaitsIn : Config → ℕ → List Step → ℕ
 awaitsIn cfg i rs = awaitsFrom cfg i 0 0 rs
+
+-- ---- held instances, as holds, receives and givings up tell it
+
+-- where the step stands that holds the instance in the slot i, after the step s at place n, if it was w before: its hold, until it receives or gives up, and 0 for none (W-210)
+unfoldable pub heldAfter : ℕ → ℕ → ℕ → Step → ℕ
+heldAfter i n w s = pick (eqb (s .who) i) (pick (eqb (s .code) holdCode) n (pick (either (eqb (s .code) receiveCode) (eqb (s .code) giveUpCode)) 0 w)) w
+
+-- the same after more steps, before which n stand (W-210)
+unfoldable pub heldFrom : ℕ → ℕ → ℕ → List Step → ℕ
+heldFrom i w n [] = w
+heldFrom i w n (s ∷ rs) = heldFrom i (heldAfter i (n + 1) w s) (n + 1) rs
+
+-- where the step stands that holds the instance in the slot i, after the steps of a recording (W-210)
+unfoldable pub heldIn : ℕ → List Step → ℕ
+heldIn i rs = heldFrom i 0 0 rs
+
+-- the step at place k of the recording, counted from 1, holds the instance in the slot i on the element q for t milliseconds at most (W-210)
+pub record HeldFor (rs : List Step) (k i q t : ℕ) : Type 0 where
+  pub earlier : List Step
+  pub hold : Step
+  pub later : List Step
+  pub whole : rs ≡ earlier ++ (hold ∷ later)
+  pub place : k ≡ length earlier + 1
+  pub is : (hold .code ≡ holdCode) × (hold .who ≡ i) × (hold .what ≡ q) × (hold .argument .number ≡ t)
 
 -- ---- areas, as enters and exits tell it
 

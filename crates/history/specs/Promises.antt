@@ -6,24 +6,25 @@
 use Prim.Native.Nat.{ℕ, _+_, _%_, _≤_, _<_}
 use mathlib.Core.Bool.{true, false}
 use mathlib.Core.List.{List, [], _∷_, _++_, List·Memᴰ}
+use mathlib.Core.Logic.{_⊎_}
 use mathlib.Core.Option.{Option, none, some}
 use mathlib.Core.Path.{_≡_}
 use lib.Dec.{ltb, eqb}
 use lib.ListN.{length, getD, drop}
-use Rattle.numbers.specs.Codes.{enterCode, exitCode, callCode, resultCode, handBackCode, endCode, spawnCode, timeoutCode, tickCode}
+use Rattle.numbers.specs.Codes.{enterCode, exitCode, receiveCode, callCode, resultCode, handBackCode, endCode, spawnCode, timeoutCode, tickCode, giveUpCode}
 use Rattle.laws.specs.Choice.{pick, both, either, bit}
 use Rattle.faces.specs.Types.{Step, Answer, Config, Client, State}
-use Rattle.values.specs.Values.{voidV, numberV, okV, limitV, noDataV, serverErrV, answerRefusal, answerValue}
+use Rattle.values.specs.Values.{voidV, numberV, okV, limitV, noDataV, timeoutV, serverErrV, answerRefusal, answerValue}
 use Rattle.config.specs.Tables.{maxRunnableConfs, maxAreaConfs, maxRequiredConfs, maxOperationConfs, runnableConfIn, requiredConfIn, operationConfIn, timerConfIn}
 use Rattle.entries.specs.Faults.{configSound}
 use Rattle.state.specs.Parts.{lastNumber, noClient}
-use Rattle.state.specs.Queues.{topArea}
+use Rattle.state.specs.Queues.{firstValue, topArea}
 use Rattle.state.specs.Tables.{maxSlots, runnableIn, areaIn, elementIn, operationIn, slotIn}
 use Rattle.state.specs.Start.{startOf}
 use Rattle.rules.specs.Rows.{aSlot, rowOf}
-use Rattle.rules.specs.Sound.{isCaller, timesIn, isBound, soundOf}
+use Rattle.rules.specs.Sound.{isCaller, isHeld, timesIn, isBound, soundOf}
 use Rattle.effects.specs.Step.{agrees, possibleOf, stepOf}
-use Rattle.history.specs.History.{Request, noRequest, byInstance, byFailure, Ending, historyOf, queuedAt, takenBy, failedBy, latestOn, endsOf, endedOn, lastOn, isUnended, given, delivered, endedCall, Started, EndedBy, timeSince, lastTick, InTime, livesIn, backIn, boundIn, awaitsIn, holderOf, allQueued, allSpawns}
+use Rattle.history.specs.History.{Request, noRequest, byInstance, byFailure, Ending, historyOf, queuedAt, takenBy, failedBy, latestOn, endsOf, endedOn, lastOn, isUnended, given, delivered, endedCall, Started, EndedBy, timeSince, lastTick, InTime, livesIn, backIn, boundIn, awaitsIn, heldIn, HeldFor, holderOf, allQueued, allSpawns}
 
 -- an answer says that the step was taken, with a value that agrees with what it claims: by the number and the value that stand for it; no refusal has the number 0 (`never-zero` in crate stays_sound) ("Numbers of refusal"; W-201)
 abbrev pub Answers : Answer → Step → Type 0
@@ -132,6 +133,22 @@ abbrev pub WaiterWaits : Config → List Step → Step → List Step → Type 0
 WaiterWaits cfg before s after =
     rowOf (s .code) .who ≡ aSlot → 0 < awaitsIn cfg (s .who) before → (s .code ≡ resultCode) × Started before (awaitsIn cfg (s .who) before) (s .what)
 
+-- a held instance goes on by the step s, when q held it for t: a receive there gives it the oldest value that is queued; or it gives up, with Timeout, when exactly its time has passed (W-210)
+abbrev pub GoesOn : Config → List Step → Step → ℕ → ℕ → Type 0
+GoesOn cfg before s q t =
+    ((s .code ≡ receiveCode) × (s .what ≡ q)
+    × ((m : State) × Run cfg before m × (0 < elementIn (m .elements) q .queue .queued) × (s .claim ≡ firstValue (elementIn (m .elements) q .queue))))
+    ⊎ ((s .code ≡ giveUpCode) × (s .claim ≡ timeoutV) × (timeSince (heldIn (s .who) before) before ≡ t))
+
+-- who is held takes no step but the one by which it goes on; its own hold is where the recording says (W-210)
+abbrev pub HeldGoesOn : Config → List Step → Step → List Step → Type 0
+HeldGoesOn cfg before s after =
+    rowOf (s .code) .who ≡ aSlot → 0 < heldIn (s .who) before → (q t : ℕ) × HeldFor before (heldIn (s .who) before) (s .who) q t × GoesOn cfg before s q t
+
+-- and who gives up was held (W-210)
+abbrev pub GivesUpHeld : Config → List Step → Step → List Step → Type 0
+GivesUpHeld cfg before s after = s .code ≡ giveUpCode → 0 < heldIn (s .who) before
+
 -- a hand back is answered 1, and so ends the call that its instance was spawned for, exactly if that call has no ending yet ("The eighteen steps", Hand back)
 abbrev pub BackIsAnswered : Config → List Step → Step → List Step → Type 0
 BackIsAnswered cfg before s after =
@@ -180,6 +197,10 @@ BackInTime cfg before s after =
 -- at every moment no more than its timeout has passed since any call that has no ending yet ("The eighteen steps", Wait)
 abbrev pub OpenInTime : Config → List Step → Type 0
 OpenInTime cfg rs = (k o : ℕ) → Started rs k o → endsOf k (historyOf cfg rs .endings) ≡ 0 → timeSince k rs ≤ operationConfIn (cfg .operations) o .timeout
+
+-- at every moment no more than its Number of milliseconds has passed since a held instance was held (W-210)
+abbrev pub HeldInTime : Config → List Step → Type 0
+HeldInTime cfg rs = (i : ℕ) → i < maxSlots → 0 < heldIn i rs → (q t : ℕ) × HeldFor rs (heldIn i rs) i q t × (timeSince (heldIn i rs) rs ≤ t)
 
 -- from one tick of a timer to its next exactly its period passes, and before its first tick no time at all ("The eighteen steps", 17 and Wait)
 abbrev pub TicksInTime : Config → List Step → Step → List Step → Type 0
@@ -264,6 +285,10 @@ FinishedFollowed cfg rs st = (i : ℕ) → i < maxSlots → slotIn (st .slots) i
 abbrev pub WaitingFollowed : Config → List Step → State → Type 0
 WaitingFollowed cfg rs st = (i : ℕ) → i < maxSlots → isCaller (slotIn (st .slots) i .life) ≡ ltb 0 (awaitsIn cfg i rs)
 
+-- an instance is held exactly if the recording says so (W-210)
+abbrev pub HeldFollowed : Config → List Step → State → Type 0
+HeldFollowed cfg rs st = (i : ℕ) → i < maxSlots → isHeld (slotIn (st .slots) i .life) ≡ ltb 0 (heldIn i rs)
+
 -- an operation is bound, by an instance that waits on it, exactly if the recording says so; and so is every synchronous one whose latest call has no ending yet (W-202)
 abbrev pub BoundFollowed : Config → List Step → State → Type 0
 BoundFollowed cfg rs st =
@@ -328,6 +353,7 @@ pub record Followed (cfg : Config) (rs : List Step) (st : State) : Type 0 where
   pub failed : FailedFollowed cfg rs st
   pub finished : FinishedFollowed cfg rs st
   pub waiting : WaitingFollowed cfg rs st
+  pub held : HeldFollowed cfg rs st
   pub bound : BoundFollowed cfg rs st
   pub number : NumberGoesRound cfg rs st
   pub unended : OpenIsUnended cfg rs st
@@ -349,6 +375,7 @@ pub record AtMoment (cfg : Config) (rs : List Step) (st : State) : Type 0 where
   pub once : EndsOnce cfg rs
   pub properly : EndsProperly cfg rs
   pub time : OpenInTime cfg rs
+  pub held : HeldInTime cfg rs
   pub timers : TimersInTime cfg rs
   pub delivered : DoneIsDelivered cfg rs st
   pub done : DoneIsFinal cfg rs st
@@ -368,6 +395,8 @@ pub record AtStep (cfg : Config) (before : List Step) (s : Step) (after : List S
   pub paid : EndsPaid cfg before s after
   pub call : CallsOneByOne cfg before s after
   pub waiter : WaiterWaits cfg before s after
+  pub held : HeldGoesOn cfg before s after
+  pub spent : GivesUpHeld cfg before s after
   pub answer : BackIsAnswered cfg before s after
   pub zero : TimeoutAtZero cfg before s after
   pub ends : TimeoutEndsOpen cfg before s after

@@ -15,7 +15,7 @@ use Rattle.state.specs.Tables.{elementIn}
 use Rattle.effects.specs.Steps.{linked, queueing, fullMask, sentOf}
 use Rattle.effects.specs.Fullness.{FullQueue}
 use Rattle.effects.specs.Step.{stepOf}
-use Rattle.history.specs.History.{History, observe, Started, timeOf, tickFrom, livesAfter, backAfter, boundAfter, awaitsAfter, holderAfter, allQueued, allSpawns}
+use Rattle.history.specs.History.{History, observe, Started, timeOf, tickFrom, livesAfter, backAfter, boundAfter, awaitsAfter, heldAfter, holderAfter, allQueued, allSpawns}
 use Rattle.history.specs.Promises.{Run, AtStep}
 
 -- a step of any code but send answered, in the state before it, what it claims (W-201)
@@ -58,6 +58,7 @@ pub record Unread (s : Step) (v : Value) : Type 0 where
   pub backs : (i : ℕ) (w : Bool) → backAfter i w (claiming s v) ≡ backAfter i w s
   pub bounds : (cfg : Config) (o : ℕ) (w : Bool) → boundAfter cfg o w (claiming s v) ≡ boundAfter cfg o w s
   pub awaits : (cfg : Config) (i n w : ℕ) → awaitsAfter cfg i n w (claiming s v) ≡ awaitsAfter cfg i n w s
+  pub helds : (i n w : ℕ) → heldAfter i n w (claiming s v) ≡ heldAfter i n w s
   pub holders : (a : ℕ) (w : Option ℕ) → holderAfter a w (claiming s v) ≡ holderAfter a w s
   pub queued : (cfg : Config) (r n : ℕ) (rs : List Step) → allQueued cfg r n (claiming s v ∷ rs) ≡ allQueued cfg r n (s ∷ rs)
   pub spawns : (r : ℕ) (rs : List Step) → allSpawns r (claiming s v ∷ rs) ≡ allSpawns r (s ∷ rs)

@@ -22,7 +22,7 @@ fn refusal(cfg: Config, slots: Slots, s: Step) -> u8
             s,
         ),
         numbers::CODE_SPAWN..=numbers::CODE_WAIT => refusals::scheduler_refusal(cfg, s),
-        numbers::CODE_FAIL => refusals::instance_refusal(cfg, slots, s),
+        numbers::CODE_FAIL..=numbers::CODE_GIVE_UP => refusals::instance_refusal(cfg, slots, s),
         _ => numbers::MALFORMED,
     }
 }
@@ -47,7 +47,7 @@ pub fn possible(cfg: Config, st: State, s: Step) -> Stepped
             numbers::CODE_WRITE => data_steps::write(cfg, st, k, v),
             numbers::CODE_UPDATED => data_steps::updated(st, k),
             numbers::CODE_INVALIDATE => data_steps::invalidate(cfg, st, k),
-            numbers::CODE_RECEIVE => data_steps::receive(st, k),
+            numbers::CODE_RECEIVE => data_steps::receive(st, i, k),
             numbers::CODE_SEND => data_steps::send(cfg, st, k, v),
             numbers::CODE_CALL => call_steps::call(cfg, st, i, k, v),
             numbers::CODE_RESULT => call_steps::result(cfg, st, i, k),
@@ -57,7 +57,9 @@ pub fn possible(cfg: Config, st: State, s: Step) -> Stepped
             numbers::CODE_TIMEOUT => end_steps::timeout(cfg, st, k),
             numbers::CODE_TICK => time_steps::tick(cfg, st, k),
             numbers::CODE_WAIT => time_steps::wait(cfg, st, v.number),
-            _ => end_steps::fail(st, i),
+            numbers::CODE_FAIL => end_steps::fail(st, i),
+            numbers::CODE_HOLD => data_steps::hold(st, i, k, v.number),
+            _ => data_steps::give_up(st, i),
         };
     }
     shared_steps::refuse(n, st)

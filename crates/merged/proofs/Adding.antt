@@ -12,10 +12,12 @@ use borrow.Author.Tests.{le-leb, lt-leb}
 use Rattle.laws.specs.Choice.{both, either}
 use Rattle.laws.proofs.Choosing.{both-make, both-swap}
 use Rattle.laws.proofs.Twice.{each-twice, all-twice}
-use Rattle.faces.specs.Types.{Config, Operation, Operations, Timer, Timers, Runnable, Runnables, State}
-use Rattle.state.specs.Parts.{noRunnable, noOperation, noTimer}
-use Rattle.state.specs.Tables.{operationIn, timerIn}
-use Rattle.effects.specs.Steps.{operationLets, timerLets, operationsLet, timersLet, operationAfter, timerAfter, runnableAfter, operationsAfter, timersAfter, runnablesAfter, allLet, waited}
+use Rattle.faces.specs.Types.{Config, Operation, Operations, Timer, Timers, Runnable, Runnables, Slot, Slots, State}
+use Rattle.state.specs.Parts.{noRunnable, noOperation, noTimer, noAwaited, noSlot}
+use Rattle.state.specs.Fields.{withLeft}
+use Rattle.state.specs.Tables.{maxSlots, operationIn, timerIn, slotIn}
+use Rattle.rules.specs.Sound.{isHeld}
+use Rattle.effects.specs.Steps.{awaiting, operationLets, timerLets, slotLets, operationsLet, timersLet, slotsLet, operationAfter, timerAfter, runnableAfter, slotAfter, operationsAfter, timersAfter, runnablesAfter, slotsAfter, allLet, waited}
 
 -- ---- one count
 
@@ -31,7 +33,7 @@ leb-add a b n = go (decLe a n) (decLe b (n - a))
 less-add : (a b n : ℕ) → n - a - b ≡ n - (a + b)
 less-add a b n = omega arith
 
--- ---- the three tables
+-- ---- the four tables
 
 module _ (a b : ℕ) where
   operation-lets : (k : ℕ) (x : Operation) → operationLets (a + b) x ≡ both (operationLets a x) (operationLets b (operationAfter a x))
@@ -54,6 +56,14 @@ module _ (a b : ℕ) where
   unfolding timerLets
   timer-lets k x = leb-add a b (x .count)
 
+  slot-lets : (k : ℕ) (x : Slot) → slotLets (a + b) x ≡ both (slotLets a x) (slotLets b (slotAfter a x))
+  unfolding slotLets
+  slot-lets k x = go (isHeld (x .life))
+    where
+      go : (c : Bool) → either (not c) (leb (a + b) (x .life .awaited .left)) ≡ both (either (not c) (leb a (x .life .awaited .left))) (either (not c) (leb b (x .life .awaited .left - a)))
+      go true = leb-add a b (x .life .awaited .left)
+      go false = refl
+
   -- what lets a + b pass lets a pass and then b
   operations-let : (cfg : Config) (os : Operations) → operationsLet cfg os (a + b) ≡ both (operationsLet cfg os a) (operationsLet cfg (operationsAfter cfg os a) b)
   unfolding operationsLet operationsAfter operationIn operationAfter
@@ -65,6 +75,12 @@ module _ (a b : ℕ) where
   timers-let cfg ts =
       all-twice (λ (k : ℕ). timerAfter a) noTimer (cfg .timers .n) (ts .at) (λ (k : ℕ). timerLets a) (λ (k : ℕ). timerLets b) (λ (k : ℕ). timerLets (a + b)) timer-lets
       (λ k. ap (λ (n : ℕ). record { count = n }) (omega arith))
+
+  slots-let : (ss : Slots) → slotsLet ss (a + b) ≡ both (slotsLet ss a) (slotsLet (slotsAfter ss a) b)
+  unfolding slotsLet slotsAfter slotIn noSlot
+  slots-let ss =
+      all-twice (λ (k : ℕ). slotAfter a) noSlot maxSlots (ss .at) (λ (k : ℕ). slotLets a) (λ (k : ℕ). slotLets b) (λ (k : ℕ). slotLets (a + b)) slot-lets
+      (λ k. ap (λ (n : ℕ). awaiting noSlot (withLeft noAwaited n)) (omega arith))
 
   -- and leaves the same behind
   operations-after : (cfg : Config) (os : Operations) → operationsAfter cfg (operationsAfter cfg os a) b ≡ operationsAfter cfg os (a + b)
@@ -85,13 +101,20 @@ module _ (a b : ℕ) where
       ap (λ (l : List Runnable). record { at = l })
       (each-twice (λ (k : ℕ). runnableAfter a) noRunnable (cfg .runnables .n) (rs .at) (λ (k : ℕ). runnableAfter b) (λ (k : ℕ). runnableAfter (a + b)) (λ k x. rw (less-add a b (x .interval))))
 
+  slots-after : (ss : Slots) → slotsAfter (slotsAfter ss a) b ≡ slotsAfter ss (a + b)
+  unfolding slotsAfter
+  slots-after ss =
+      ap (λ (l : List Slot). record { at = l })
+      (each-twice (λ (k : ℕ). slotAfter a) noSlot maxSlots (ss .at) (λ (k : ℕ). slotAfter b) (λ (k : ℕ). slotAfter (a + b)) (λ k x. rw (less-add a b (x .life .awaited .left))))
+
 -- ---- a state
 
 pub lets-add : (cfg : Config) (st : State) (a b : ℕ) → allLet cfg st (a + b) ≡ both (allLet cfg st a) (allLet cfg (waited cfg st a) b)
 unfolding allLet waited
 lets-add cfg st a b =
-    rw (operations-let a b cfg (st .operations), timers-let a b cfg (st .timers)) (both-swap (operationsLet cfg (st .operations) a) _ (timersLet cfg (st .timers) a) _)
+    rw (operations-let a b cfg (st .operations), timers-let a b cfg (st .timers), slots-let a b (st .slots), both-swap (timersLet cfg (st .timers) a) (timersLet cfg (timersAfter cfg (st .timers) a) b) (slotsLet (st .slots) a) (slotsLet (slotsAfter (st .slots) a) b))
+    (both-swap (operationsLet cfg (st .operations) a) _ (both (timersLet cfg (st .timers) a) (slotsLet (st .slots) a)) _)
 
 pub waited-add : (cfg : Config) (st : State) (a b : ℕ) → waited cfg (waited cfg st a) b ≡ waited cfg st (a + b)
 unfolding waited
-waited-add cfg st a b = rw (operations-after a b cfg (st .operations), timers-after a b cfg (st .timers), runnables-after a b cfg (st .runnables))
+waited-add cfg st a b = rw (operations-after a b cfg (st .operations), timers-after a b cfg (st .timers), runnables-after a b cfg (st .runnables), slots-after a b (st .slots))

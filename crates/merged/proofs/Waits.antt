@@ -16,14 +16,14 @@ use Rattle.laws.proofs.Looping.{all-at, all-of}
 use Rattle.laws.proofs.Places.{each-at, each-length}
 use Rattle.numbers.specs.Refusals.{notSound, tooFar}
 use Rattle.numbers.specs.Codes.{waitCode}
-use Rattle.faces.specs.Types.{Step, Config, Operation, Runnable, Slots, State, Stepped}
+use Rattle.faces.specs.Types.{Step, Config, Operation, Runnable, Slot, Slots, State, Stepped}
 use Rattle.values.specs.Values.{voidV, sameValue, answerRefusal}
 use Rattle.state.specs.Parts.{noRunnable}
-use Rattle.state.specs.Tables.{runnableIn, operationIn, timerIn}
+use Rattle.state.specs.Tables.{maxSlots, runnableIn, operationIn, timerIn, slotIn}
 use Rattle.rules.specs.Rows.{rows, rowOf}
 use Rattle.rules.specs.Refusals.{argues, formed, partThere, schedulerRefusal, refusalBy, refusalOf}
-use Rattle.rules.specs.Sound.{soundOf}
-use Rattle.effects.specs.Steps.{refused, took, isOpen, operationLets, timerLets, operationsLet, timersLet, runnableAfter, runnablesAfter, allLet, waited, waitOf}
+use Rattle.rules.specs.Sound.{isHeld, soundOf}
+use Rattle.effects.specs.Steps.{refused, took, isOpen, operationLets, timerLets, slotLets, operationsLet, timersLet, slotsLet, runnableAfter, runnablesAfter, allLet, waited, waitOf}
 use Rattle.effects.specs.Step.{possibleOf, agrees, claimedOf, innerOf, stepOf}
 use Rattle.effects.proofs.Codes.{wait, possible-by}
 use Rattle.stays_sound.proofs.Keeps.{kept-step}
@@ -73,17 +73,20 @@ told-wait cfg st t h = rw (wait-step cfg st t) (go (soundOf cfg st) (allLet cfg 
     go false b q = absurd (omega (arith, q .0))
 
 pub wait-is-bounded : WaitIsBounded
-unfolding Accepted agrees sameValue allLet operationsLet operationLets timersLet timerLets
+unfolding Accepted agrees sameValue allLet operationsLet operationLets timersLet timerLets slotsLet slotLets
 wait-is-bounded cfg st t s = (to, from)
   where
     Bounds : Type 0
     Bounds = ((o : ℕ) → o < cfg .operations .n → isOpen st o ≡ true → t ≤ operationIn (st .operations) o .count) × ((k : ℕ) → k < cfg .timers .n → t ≤ timerIn (st .timers) k .count)
+        × ((i : ℕ) → i < maxSlots → isHeld (slotIn (st .slots) i .life) ≡ true → t ≤ slotIn (st .slots) i .life .awaited .left)
 
     to : ((st′ : State) × Accepted cfg st (waitFor t ∷ []) st′) → Bounds
     to (st′, h) =
-        let e = told-wait cfg st t (h .0) .0 in (
+        let e = told-wait cfg st t (h .0) .0 in
+        let r = both-right (operationsLet cfg (st .operations) t) _ e in (
           λ o b c. leb-true _ _ (rw c at (all-at (λ (j : ℕ). operationLets t (operationIn (st .operations) j)) (cfg .operations .n) (both-left (operationsLet cfg (st .operations) t) _ e) o b)),
-          λ k b. leb-true _ _ (all-at (λ (j : ℕ). timerLets t (timerIn (st .timers) j)) (cfg .timers .n) (both-right (operationsLet cfg (st .operations) t) _ e) k b),
+          λ k b. leb-true _ _ (all-at (λ (j : ℕ). timerLets t (timerIn (st .timers) j)) (cfg .timers .n) (both-left (timersLet cfg (st .timers) t) _ r) k b),
+          λ i b c. leb-true _ _ (rw c at (all-at (λ (j : ℕ). slotLets t (slotIn (st .slots) j)) maxSlots (both-right (timersLet cfg (st .timers) t) _ r) i b)),
         )
 
     lets : (x : Operation) → (x .calling ≡ true → t ≤ x .count) → operationLets t x ≡ true
@@ -93,11 +96,19 @@ wait-is-bounded cfg st t s = (to, from)
         go true e = rw e (le-leb _ _ (h e))
         go false e = rw e
 
+    holds : (x : Slot) → (isHeld (x .life) ≡ true → t ≤ x .life .awaited .left) → slotLets t x ≡ true
+    holds x h = go (isHeld (x .life)) refl
+      where
+        go : (c : Bool) → isHeld (x .life) ≡ c → slotLets t x ≡ true
+        go true e = rw e (le-leb _ _ (h e))
+        go false e = rw e
+
     from : Bounds → (st′ : State) × Accepted cfg st (waitFor t ∷ []) st′
     from h =
         let e : allLet cfg st t ≡ true =
         both-make _ _ (all-of (λ (j : ℕ). operationLets t (operationIn (st .operations) j)) (cfg .operations .n) (λ o b. lets (operationIn (st .operations) o) (h .0 o b)))
-        (all-of (λ (j : ℕ). timerLets t (timerIn (st .timers) j)) (cfg .timers .n) (λ k b. le-leb _ _ (h .1 k b))) in
+        (both-make _ _ (all-of (λ (j : ℕ). timerLets t (timerIn (st .timers) j)) (cfg .timers .n) (λ k b. le-leb _ _ (h .1 k b)))
+        (all-of (λ (j : ℕ). slotLets t (slotIn (st .slots) j)) maxSlots (λ i b. holds (slotIn (st .slots) i) (h .2 i b)))) in
         (waited cfg st t, rw (wait-step cfg st t, s, e) ((refl, refl), refl))
 
 pub intervals-stop : IntervalsStop

@@ -14,8 +14,8 @@ use Rattle.laws.specs.Choice.{pick}
 use Rattle.faces.specs.Types.{Step, Config, State}
 use Rattle.values.specs.Values.{answerRefusal}
 use Rattle.entries.specs.Faults.{configSound}
-use Rattle.state.specs.Tables.{runnableIn, operationIn, timerIn}
-use Rattle.rules.specs.Sound.{soundOf}
+use Rattle.state.specs.Tables.{maxSlots, runnableIn, operationIn, timerIn, slotIn}
+use Rattle.rules.specs.Sound.{isHeld, soundOf}
 use Rattle.effects.specs.Steps.{isOpen}
 use Rattle.effects.specs.Step.{stepOf}
 use Rattle.wire.proofs.Laws.{Bytes}
@@ -50,12 +50,13 @@ WaitsStopFar = (cfg : Config) (st : State) (t k : ℕ) → soundOf cfg st ≡ tr
 
 -- ---- one wait
 
--- in a sound state wait t is accepted exactly if every open call and every timer has t or more left, whatever start intervals run (W-203)
+-- in a sound state wait t is accepted exactly if every open call, every timer and every held instance has t or more left, whatever start intervals run (W-203, W-210)
 abbrev pub WaitIsBounded : Type 0
 WaitIsBounded =
     (cfg : Config) (st : State) (t : ℕ) → soundOf cfg st ≡ true
     → ((st′ : State) × Accepted cfg st (waitFor t ∷ []) st′)
-    ↔ (((o : ℕ) → o < cfg .operations .n → isOpen st o ≡ true → t ≤ operationIn (st .operations) o .count) × ((k : ℕ) → k < cfg .timers .n → t ≤ timerIn (st .timers) k .count))
+    ↔ (((o : ℕ) → o < cfg .operations .n → isOpen st o ≡ true → t ≤ operationIn (st .operations) o .count) × ((k : ℕ) → k < cfg .timers .n → t ≤ timerIn (st .timers) k .count)
+    × ((i : ℕ) → i < maxSlots → isHeld (slotIn (st .slots) i .life) ≡ true → t ≤ slotIn (st .slots) i .life .awaited .left))
 
 -- and then each start interval has t less, and stops at 0 (W-203)
 abbrev pub IntervalsStop : Type 0

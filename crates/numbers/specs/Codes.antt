@@ -77,3 +77,11 @@ waitCode = 18
 -- fail (W-205)
 abbrev pub failCode : ℕ
 failCode = 19
+
+-- hold: wait for data (W-210)
+abbrev pub holdCode : ℕ
+holdCode = 20
+
+-- give up waiting for data (W-210)
+abbrev pub giveUpCode : ℕ
+giveUpCode = 21

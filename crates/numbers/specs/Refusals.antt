@@ -34,9 +34,9 @@ notOnTop = 7
 abbrev pub queueFull : ℕ
 queueFull = 8
 
--- a synchronous result: the call is still open ("Numbers of refusal", 10)
-abbrev pub stillOpen : ℕ
-stillOpen = 10
+-- what an instance waits for has not come: its call is still open, or its queue is empty ("Numbers of refusal", 10; W-210)
+abbrev pub stillWaits : ℕ
+stillWaits = 10
 
 -- spawn: one of its three needs is not met ("Numbers of refusal", 11)
 abbrev pub notDue : ℕ
@@ -50,7 +50,7 @@ noSlotFree = 12
 abbrev pub tooFar : ℕ
 tooFar = 13
 
--- timeout or tick: not open, or not yet at 0 ("Numbers of refusal", 14)
+-- timeout, tick or giving up: not open, or not yet at 0 ("Numbers of refusal", 14; W-210)
 abbrev pub notOver : ℕ
 notOver = 14
 

@@ -18,7 +18,7 @@ pub const NOT_ON_TOP: u8 = 7;
 
 pub const QUEUE_FULL: u8 = 8;
 
-pub const STILL_OPEN: u8 = 10;
+pub const STILL_WAITS: u8 = 10;
 
 pub const NOT_DUE: u8 = 11;
 
@@ -97,6 +97,10 @@ pub const CODE_TICK: u8 = 17;
 pub const CODE_WAIT: u8 = 18;
 
 pub const CODE_FAIL: u8 = 19;
+
+pub const CODE_HOLD: u8 = 20;
+
+pub const CODE_GIVE_UP: u8 = 21;
 
 // Tags of fields.
 pub const TAG_EDITION: u8 = 0x01;

@@ -244,6 +244,9 @@ state-down-one κs a x y s t = same
 
 -- ---- entries
 
+pub entries-is-time : One Rattle.entries.proofs.is_time.Kinds.ps Rattle.entries.proofs.is_time.Kinds.r Rattle.entries.proofs.is_time.Reads.Post
+entries-is-time κs a x y s t = same
+
 pub entries-max-of : One Rattle.entries.proofs.max_of.Kinds.ps Rattle.entries.proofs.max_of.Kinds.r Rattle.entries.proofs.max_of.Reads.Post
 entries-max-of κs a x y s t = same
 
@@ -382,6 +385,9 @@ shared-steps-take κs a x y s t = same
 pub shared-steps-awaiting : One Rattle.shared_steps.proofs.awaiting.Kinds.ps Rattle.shared_steps.proofs.awaiting.Kinds.r Rattle.shared_steps.proofs.awaiting.Reads.Post
 shared-steps-awaiting κs a x y s t = same
 
+pub shared-steps-awaited : One Rattle.shared_steps.proofs.awaited.Kinds.ps Rattle.shared_steps.proofs.awaited.Kinds.r Rattle.shared_steps.proofs.awaited.Reads.Post
+shared-steps-awaited κs a x y s t = same
+
 pub shared-steps-gone-on : One Rattle.shared_steps.proofs.gone_on.Kinds.ps Rattle.shared_steps.proofs.gone_on.Kinds.r Rattle.shared_steps.proofs.gone_on.Reads.Post
 shared-steps-gone-on κs a x y s t = same
 
@@ -422,6 +428,12 @@ data-steps-invalidate κs a x y s t = same
 
 pub data-steps-send : One Rattle.data_steps.proofs.send.Kinds.ps Rattle.data_steps.proofs.send.Kinds.r Rattle.data_steps.proofs.send.Reads.Post
 data-steps-send κs a x y s t = same
+
+pub data-steps-hold : One Rattle.data_steps.proofs.hold.Kinds.ps Rattle.data_steps.proofs.hold.Kinds.r Rattle.data_steps.proofs.hold.Reads.Post
+data-steps-hold κs a x y s t = same
+
+pub data-steps-give-up : One Rattle.data_steps.proofs.give_up.Kinds.ps Rattle.data_steps.proofs.give_up.Kinds.r Rattle.data_steps.proofs.give_up.Reads.Post
+data-steps-give-up κs a x y s t = same
 
 pub data-steps-receive : One Rattle.data_steps.proofs.receive.Kinds.ps Rattle.data_steps.proofs.receive.Kinds.r Rattle.data_steps.proofs.receive.Reads.Post
 data-steps-receive κs a x y s t = same
@@ -571,6 +583,9 @@ passing-passes κs a x y s t = same
 
 pub passing-operation-stop : One Rattle.passing.proofs.operation_stop.Kinds.ps Rattle.passing.proofs.operation_stop.Kinds.r Rattle.passing.proofs.operation_stop.Reads.Post
 passing-operation-stop κs a x y s t = same
+
+pub passing-slot-stop : One Rattle.passing.proofs.slot_stop.Kinds.ps Rattle.passing.proofs.slot_stop.Kinds.r Rattle.passing.proofs.slot_stop.Reads.Post
+passing-slot-stop κs a x y s t = same
 
 pub passing-timer-stop : One Rattle.passing.proofs.timer_stop.Kinds.ps Rattle.passing.proofs.timer_stop.Kinds.r Rattle.passing.proofs.timer_stop.Reads.Post
 passing-timer-stop κs a x y s t = same

@@ -13,10 +13,11 @@ use Rattle.laws.specs.Loop.{allBelow}
 use Rattle.laws.proofs.Choosing.{both-no}
 use Rattle.numbers.specs.Refusals.{tooFar}
 use Rattle.values.specs.Values.{answerRefusal, voidV}
-use Rattle.faces.specs.Types.{Config, Operation, Timer, State}
-use Rattle.state.specs.Tables.{operationIn, timerIn}
-use Rattle.effects.specs.Steps.{refused, took, operationLets, timerLets, operationsLet, timersLet, allLet, waited, waitOf}
-use Rattle.passing.specs.Passing.{least, leastBelow, operationLeft, operationsPass, timersPass, passesOf}
+use Rattle.faces.specs.Types.{Config, Operation, Timer, Slot, State}
+use Rattle.state.specs.Tables.{maxSlots, operationIn, timerIn, slotIn}
+use Rattle.rules.specs.Sound.{isHeld}
+use Rattle.effects.specs.Steps.{refused, took, operationLets, timerLets, slotLets, operationsLet, timersLet, slotsLet, allLet, waited, waitOf}
+use Rattle.passing.specs.Passing.{least, leastBelow, operationLeft, slotLeft, operationsPass, timersPass, slotsPass, passesOf}
 
 pub least-none : (f : ℕ → ℕ) (top : ℕ) → leastBelow f top 0 ≡ top
 unfolding leastBelow
@@ -65,13 +66,23 @@ timer-left : (u : ℕ) (x : Timer) → leb u (x .count) ≡ timerLets u x
 unfolding timerLets
 timer-left u x = refl
 
+slot-left : (t u : ℕ) (x : Slot) → leb u t ≡ true → leb u (slotLeft t x) ≡ slotLets u x
+unfolding slotLeft slotLets
+slot-left t u x h = go (isHeld (x .life))
+  where
+    go : (b : Bool) → leb u (pick b (x .life .awaited .left) t) ≡ either (not b) (leb u (x .life .awaited .left))
+    go true = refl
+    go false = h
+
 -- of any time up to t, just that may pass which is no more than this
 pub passes-exactly : (cfg : Config) (st : State) (t u : ℕ) → leb u t ≡ true → leb u (passesOf cfg st t) ≡ allLet cfg st u
-unfolding allLet passesOf operationsPass timersPass operationsLet timersLet
+unfolding allLet passesOf operationsPass timersPass slotsPass operationsLet timersLet slotsLet
 passes-exactly cfg st t u h =
     let a = least-all (λ (o : ℕ). operationLeft t (operationIn (st .operations) o)) t u (cfg .operations .n) h ∙ all-same (λ (o : ℕ). leb u (operationLeft t (operationIn (st .operations) o))) (λ (o : ℕ). operationLets u (operationIn (st .operations) o)) (cfg .operations .n) (λ o. operation-left t u (operationIn (st .operations) o) h) in
     let b = least-all (λ (k : ℕ). timerIn (st .timers) k .count) t u (cfg .timers .n) h ∙ all-same (λ (k : ℕ). leb u (timerIn (st .timers) k .count)) (λ (k : ℕ). timerLets u (timerIn (st .timers) k)) (cfg .timers .n) (λ k. timer-left u (timerIn (st .timers) k)) in
-    least-lets u (operationsPass cfg (st .operations) t) (timersPass cfg (st .timers) t) ∙ ap₂ both a b
+    let c = least-all (λ (i : ℕ). slotLeft t (slotIn (st .slots) i)) t u maxSlots h ∙ all-same (λ (i : ℕ). leb u (slotLeft t (slotIn (st .slots) i))) (λ (i : ℕ). slotLets u (slotIn (st .slots) i)) maxSlots (λ i. slot-left t u (slotIn (st .slots) i) h) in
+    least-lets u (operationsPass cfg (st .operations) t) (least (timersPass cfg (st .timers) t) (slotsPass (st .slots) t))
+    ∙ ap₂ both a (least-lets u (timersPass cfg (st .timers) t) (slotsPass (st .slots) t) ∙ ap₂ both b c)
 
 -- a wait of up to t is taken exactly if it is no longer than may pass of t; else it is 13
 pub wait-goes : (cfg : Config) (st : State) (t u : ℕ) → leb u t ≡ true → answerRefusal (waitOf cfg st u .answer) ≡ pick (leb u (passesOf cfg st t)) 0 tooFar

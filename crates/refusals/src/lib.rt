@@ -4,7 +4,7 @@ ghost use mathlib.Core.Bool.{not};
 ghost use Rattle.laws.specs.Choice.{either};
 ghost use Rattle.rules.specs.Sound.{isWaiting};
 ghost use Rattle.rules.specs.Rows.{rowOf};
-ghost use Rattle.rules.specs.Refusals.{argues, formed, partThere, queuesAs, partOwn, asksSynchronous, finishedLets, failedLets, endsWaiting, waitingLets, lifeLets, ownedRefusal, instanceRefusal, schedulerRefusal};
+ghost use Rattle.rules.specs.Refusals.{argues, formed, partThere, queuesAs, partOwn, asksSynchronous, asksWaiting, finishedLets, failedLets, endsWaiting, waitingLets, lifeLets, ownedRefusal, instanceRefusal, schedulerRefusal};
 use config::Config;
 use rules::Row;
 use state::Life;
@@ -36,8 +36,10 @@ const A_PAYLOAD: u8 = 1;
 
 const A_NUMBER: u8 = 2;
 
+const A_TIME: u8 = 3;
+
 // The table of steps, a row for each code from 0 on: who takes it, the part, the queueing, the argument.
-const ROWS: [[u8; 4]; 20] = [
+const ROWS: [[u8; 4]; 22] = [
     [NOBODY, NO_PART, ANYHOW, NOTHING],
     [A_SLOT, numbers::TAG_VARIABLE, ANYHOW, NOTHING],
     [A_SLOT, numbers::TAG_VARIABLE, ANYHOW, A_PAYLOAD],
@@ -58,6 +60,8 @@ const ROWS: [[u8; 4]; 20] = [
     [SCHEDULER, numbers::TAG_TIMER, ANYHOW, NOTHING],
     [SCHEDULER, NO_PART, ANYHOW, A_NUMBER],
     [A_SLOT, NO_PART, ANYHOW, NOTHING],
+    [A_SLOT, numbers::TAG_REQUIRED, QUEUED, A_TIME],
+    [A_SLOT, NO_PART, ANYHOW, NOTHING],
 ];
 
 // The row of a code; a code without one is nobody's.
@@ -65,7 +69,7 @@ pub fn row_of(code: u8) -> Row
     ensures { λ r. ⌜ r ≡ rowOf code ⌝ }
 {
     let k = code as usize;
-    if k < 20 {
+    if k < 22 {
         let l = ROWS[k];
         return Row {
             who: l[0],
@@ -82,7 +86,7 @@ pub fn row_of(code: u8) -> Row
     }
 }
 
-// A value is the argument asked for; none is Void.
+// A value is the argument asked for; none is Void, and a time is a Number of 1 to 3,600,000.
 fn argues(k: u8, v: Value) -> bool
     ensures { λ r. ⌜ r ≡ argues k v ⌝ }
 {
@@ -91,6 +95,9 @@ fn argues(k: u8, v: Value) -> bool
     }
     if k == A_PAYLOAD {
         return v.is_payload();
+    }
+    if k == A_TIME {
+        return v.kind == 1 && entries::is_time(v.number);
     }
     v.kind == 1
 }
@@ -153,11 +160,18 @@ fn asks_synchronous(cfg: Config, code: u8, what: u8) -> bool
     false
 }
 
-// The last test of what an instance may do: a synchronous result is for one that waits.
-fn may_ask(cfg: Config, l: Life, code: u8, what: u8) -> bool
-    ensures { λ r. ⌜ r ≡ either (not (asksSynchronous cfg code what)) (isWaiting l) ⌝ }
+// A step for one that waits alone: a synchronous result, and giving up.
+fn asks_waiting(cfg: Config, code: u8, what: u8) -> bool
+    ensures { λ r. ⌜ r ≡ asksWaiting cfg code what ⌝ }
 {
-    if asks_synchronous(cfg, code, what) {
+    code == numbers::CODE_GIVE_UP || asks_synchronous(cfg, code, what)
+}
+
+// The last test of what an instance may do: some steps are for one that waits.
+fn may_ask(cfg: Config, l: Life, code: u8, what: u8) -> bool
+    ensures { λ r. ⌜ r ≡ either (not (asksWaiting cfg code what)) (isWaiting l) ⌝ }
+{
+    if asks_waiting(cfg, code, what) {
         return is_waiting(l);
     }
     true
@@ -184,7 +198,7 @@ fn failed_lets(l: Life, code: u8) -> bool
     true
 }
 
-// What ends the waiting of an instance: the result on its operation.
+// What ends the waiting of an instance: the result on its operation; or a receive on the element that holds it, or giving up.
 fn ends_waiting(l: Life, code: u8, what: u8) -> bool
     ensures { λ r. ⌜ r ≡ endsWaiting l code what ⌝ }
 {
@@ -192,7 +206,10 @@ fn ends_waiting(l: Life, code: u8, what: u8) -> bool
     if a.part == numbers::TAG_OPERATION {
         return code == numbers::CODE_RESULT && a.on == what;
     }
-    false
+    if code == numbers::CODE_GIVE_UP {
+        return true;
+    }
+    code == numbers::CODE_RECEIVE && a.on == what
 }
 
 // The instance waits.

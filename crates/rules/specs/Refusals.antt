@@ -5,23 +5,28 @@ use mathlib.Core.Bool.{Bool, not}
 use mathlib.Core.List.{[], _∷_}
 use lib.Dec.{ltb, eqb}
 use Rattle.numbers.specs.Refusals.{malformed, notThere, notOwn, barred, stepGone}
-use Rattle.numbers.specs.Codes.{exitCode, resultCode, handBackCode, endCode}
+use Rattle.numbers.specs.Codes.{exitCode, resultCode, handBackCode, endCode, receiveCode, giveUpCode}
 use Rattle.laws.specs.Choice.{pick, both, either, alike, allOf}
 use Rattle.values.specs.Values.{isVoid, isNumber, isPayload}
 use Rattle.faces.specs.Types.{Value, Step, Config, Life, Slots}
 use Rattle.config.specs.Editions.{hasStep}
 use Rattle.config.specs.Tables.{operationConfIn}
 use Rattle.entries.specs.Entries.{countOf, entryOf}
+use Rattle.entries.specs.Faults.{isTime}
 use Rattle.state.specs.Tables.{slotIn}
 use Rattle.rules.specs.declared.Row.{Row}
 use Rattle.rules.specs.Sound.{componentOf, isWaiting, isCaller}
-use Rattle.rules.specs.Rows.{aSlot, scheduler, noPart, anyhow, queued, nothing, aPayload, rowOf}
+use Rattle.rules.specs.Rows.{aSlot, scheduler, noPart, anyhow, queued, nothing, aPayload, aTime, rowOf}
 
 -- ---- 2: an entry that the code leaves empty is filled, or the argument is of a kind that it does not take, as every bad value is
 
--- a value is the argument asked for; none is Void ("Numbers of refusal", 2)
+-- a value is the argument asked for; none is Void, and a time is a Number of 1 to 3,600,000 ("Numbers of refusal", 2; W-210)
 unfoldable pub argues : ℕ → Value → Bool
-argues k v = pick (eqb k nothing) (isVoid v) (pick (eqb k aPayload) (isPayload v) (isNumber v))
+argues k v =
+    pick (eqb k nothing) (isVoid v)
+    (pick (eqb k aPayload) (isPayload v)
+    (pick (eqb k aTime) (both (isNumber v) (isTime (v .number)))
+    (isNumber v)))
 
 -- what and argument are as the row of the code has them ("Numbers of refusal", 2)
 unfoldable pub formed : Row → ℕ → Value → Bool
@@ -50,6 +55,10 @@ partOwn cfg component r n =
 unfoldable pub asksSynchronous : Config → ℕ → ℕ → Bool
 asksSynchronous cfg code what = both (eqb code resultCode) (not (operationConfIn (cfg .operations) what .asynchronous))
 
+-- a step for one that waits alone: a synchronous result, and giving up ("Numbers of refusal", 5; W-210)
+unfoldable pub asksWaiting : Config → ℕ → ℕ → Bool
+asksWaiting cfg code what = either (eqb code giveUpCode) (asksSynchronous cfg code what)
+
 -- a finished instance may end alone, and exit too if it has failed ("Numbers of refusal", 5; W-205)
 unfoldable pub finishedLets : Life → ℕ → Bool
 finishedLets l code = either (not (l .finished)) (either (eqb code endCode) (both (l .failed) (eqb code exitCode)))
@@ -58,22 +67,24 @@ finishedLets l code = either (not (l .finished)) (either (eqb code endCode) (bot
 unfoldable pub failedLets : Life → ℕ → Bool
 failedLets l code = either (not (l .failed)) (either (eqb code handBackCode) (either (eqb code exitCode) (eqb code endCode)))
 
--- what ends the waiting of an instance: the result on its operation ("Numbers of refusal", 5)
+-- what ends the waiting of an instance: the result on its operation; or a receive on the element that holds it, or giving up ("Numbers of refusal", 5; W-210)
 unfoldable pub endsWaiting : Life → ℕ → ℕ → Bool
-endsWaiting l code what = both (isCaller l) (both (eqb code resultCode) (eqb (l .awaited .on) what))
+endsWaiting l code what =
+    pick (isCaller l) (both (eqb code resultCode) (eqb (l .awaited .on) what))
+    (either (eqb code giveUpCode) (both (eqb code receiveCode) (eqb (l .awaited .on) what)))
 
 -- a waiting instance may take only what ends its waiting ("Numbers of refusal", 5)
 unfoldable pub waitingLets : Life → ℕ → ℕ → Bool
 waitingLets l code what = either (not (isWaiting l)) (endsWaiting l code what)
 
--- a waiting instance, a finished one and one that has failed may do only what is left to them, and a synchronous result is for one that waits ("Numbers of refusal", 5; W-205)
+-- a waiting instance, a finished one and one that has failed may do only what is left to them, and some steps are for one that waits ("Numbers of refusal", 5; W-205, W-210)
 unfoldable pub lifeLets : Config → Life → ℕ → ℕ → Bool
 lifeLets cfg l code what =
     allOf
     (waitingLets l code what
     ∷ finishedLets l code
     ∷ failedLets l code
-    ∷ either (not (asksSynchronous cfg code what)) (isWaiting l)
+    ∷ either (not (asksWaiting cfg code what)) (isWaiting l)
     ∷ [])
 
 -- ---- the first that holds, or 0: for steps of a slot, and for the scheduler's, in which who is unused

@@ -36,7 +36,7 @@ anyhow = 0
 abbrev pub unqueued : ℕ
 unqueued = 1
 
--- a queued element ("The eighteen steps", 9 and 10)
+-- a queued element ("The eighteen steps", 9 and 10; W-210)
 abbrev pub queued : ℕ
 queued = 2
 
@@ -54,6 +54,10 @@ aPayload = 1
 abbrev pub aNumber : ℕ
 aNumber = 2
 
+-- a Number of milliseconds to wait at most (W-210)
+abbrev pub aTime : ℕ
+aTime = 3
+
 -- ---- the table
 
 -- a row of the table
@@ -64,7 +68,7 @@ row who part queueing argument = record { who = who; part = part; queueing = que
 abbrev pub noRow : Row
 noRow = row nobody noPart anyhow nothing
 
--- the rows of codes from 0 on: 1 to 14 are steps of a slot, 15 to 18 of the scheduler, 19 of a slot again ("The eighteen steps", the table; W-205)
+-- the rows of codes from 0 on: 1 to 14 are steps of a slot, 15 to 18 of the scheduler, 19 to 21 of a slot again ("The eighteen steps", the table; W-205, W-210)
 unfoldable pub rows : List Row
 rows =
     noRow
@@ -87,6 +91,8 @@ rows =
     ∷ row scheduler timerTag anyhow nothing  -- 17 tick
     ∷ row scheduler noPart anyhow aNumber  -- 18 wait
     ∷ row aSlot noPart anyhow nothing  -- 19 fail
+    ∷ row aSlot requiredTag queued aTime  -- 20 hold
+    ∷ row aSlot noPart anyhow nothing  -- 21 give up
     ∷ []
 
 -- the row of a code ("The eighteen steps", the table)

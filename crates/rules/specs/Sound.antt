@@ -6,7 +6,7 @@ use mathlib.Core.Bool.{Bool, not}
 use mathlib.Core.List.{List, [], _∷_}
 use lib.Dec.{ltb, leb, eqb}
 use lib.ListN.{length, getD}
-use Rattle.numbers.specs.Tags.{operationTag}
+use Rattle.numbers.specs.Tags.{operationTag, requiredTag}
 use Rattle.laws.specs.Choice.{pick, both, either, alike, bit, allOf}
 use Rattle.laws.specs.Loop.{allBelow, sumBelow, countBelow}
 use Rattle.laws.specs.Row.{filled}
@@ -14,7 +14,7 @@ use Rattle.values.specs.Values.{voidV, timeoutV, serverErrV, neverReceivedV, in
 use Rattle.faces.specs.Types.{Value, Config, Client, Requests, Runnable, Runnables, Variable, Variables, Areas, Element, Elements, Operation, Operations, Timer, Timers, Life, Owed, Stack, Slot, Slots, State, Awaited}
 use Rattle.config.specs.Editions.{marksInvalid}
 use Rattle.config.specs.Tables.{maxRunnableConfs, maxVariableConfs, maxAreaConfs, maxRequiredConfs, maxOperationConfs, maxTimerConfs, runnableConfIn, areaConfIn, requiredConfIn, operationConfIn, timerConfIn, topOf}
-use Rattle.entries.specs.Faults.{isServer, configSound}
+use Rattle.entries.specs.Faults.{isServer, configSound, maxTime, isQueued}
 use Rattle.state.specs.Parts.{lastNumber, noClient, maxRequests, maxValues}
 use Rattle.state.specs.Tables.{maxSlots, runnableIn, variableIn, areaIn, elementIn, operationIn, timerIn, slotIn}
 use Rattle.rules.specs.Rows.{noPart}
@@ -113,22 +113,37 @@ isWaiting l = ltb noPart (l .awaited .part)
 abbrev pub isCaller : Life → Bool
 isCaller l = eqb (l .awaited .part) operationTag
 
+-- it is held: it waits for data on a required element (W-210)
+abbrev pub isHeld : Life → Bool
+isHeld l = eqb (l .awaited .part) requiredTag
+
 -- nothing to wait for ("A sound state", unused places)
 unfoldable pub isNoAwaited : Awaited → Bool
-isNoAwaited a = both (eqb (a .part) noPart) (eqb (a .on) 0)
+isNoAwaited a = allOf (eqb (a .part) noPart ∷ eqb (a .on) 0 ∷ eqb (a .left) 0 ∷ [])
 
--- a waiter's operation is there, is synchronous, and belongs to the waiter's component ("A sound state", waiting)
+-- a waiter's operation is there, is synchronous, and belongs to the waiter's component; its count is the call's, and none is here ("A sound state", waiting; W-210)
 unfoldable pub waitsWell : Config → Life → Bool
 waitsWell cfg l =
     allOf
     (ltb (l .awaited .on) (cfg .operations .n)
     ∷ not (operationConfIn (cfg .operations) (l .awaited .on) .asynchronous)
     ∷ eqb (operationConfIn (cfg .operations) (l .awaited .on) .component) (componentOf cfg (l .runnable))
+    ∷ eqb (l .awaited .left) 0
     ∷ [])
 
--- an instance waits well on an operation, or for nothing ("A sound state", waiting)
+-- the element that holds an instance is there, is queued, and belongs to its component; its count is an hour at most (W-210)
+unfoldable pub heldWell : Config → Life → Bool
+heldWell cfg l =
+    allOf
+    (ltb (l .awaited .on) (cfg .required .n)
+    ∷ isQueued cfg (l .awaited .on)
+    ∷ eqb (requiredConfIn (cfg .required) (l .awaited .on) .component) (componentOf cfg (l .runnable))
+    ∷ leb (l .awaited .left) maxTime
+    ∷ [])
+
+-- an instance waits well on an operation, or is held well on an element, or waits for nothing; as it names one kind of part, it never waits in both ways ("A sound state", waiting; W-210)
 unfoldable pub awaitsWell : Config → Life → Bool
-awaitsWell cfg l = pick (isCaller l) (waitsWell cfg l) (isNoAwaited (l .awaited))
+awaitsWell cfg l = pick (isCaller l) (waitsWell cfg l) (pick (isHeld l) (heldWell cfg l) (isNoAwaited (l .awaited)))
 
 -- an instance is of a runnable that is there; a plain one is never finished; what it waits for is as it should be ("A sound state", instances)
 unfoldable pub lifeSound : Config → Life → Bool

@@ -4,6 +4,7 @@ ghost use Prim.Native.Nat.{_≤_};
 ghost use lib.Dec.{ltb};
 ghost use Rattle.laws.specs.Choice.{pick};
 use config::RunnableConf;
+ghost use Rattle.effects.specs.Steps.{awaited};
 use state::Awaited;
 ghost use Rattle.effects.specs.Steps.{refused, took, oneMore, woken, awaiting, goneOn};
 use state::Runnable;
@@ -44,14 +45,21 @@ pub fn awaiting(x: Slot, a: Awaited) -> Slot
     y
 }
 
+// The state with what the instance i waits for.
+pub fn awaited(st: State, i: u8, a: Awaited) -> State
+    ensures { λ r. ⌜ r ≡ awaited st i a ⌝ }
+{
+    let slots = st.slots;
+    let mut next = st;
+    next.slots = slots.with(i, awaiting(slots.get(i), a));
+    next
+}
+
 // The state after the instance i has gone on: it waits no longer.
 pub fn gone_on(st: State, i: u8) -> State
     ensures { λ r. ⌜ r ≡ goneOn st i ⌝ }
 {
-    let slots = st.slots;
-    let mut next = st;
-    next.slots = slots.with(i, awaiting(slots.get(i), Awaited::BLANK));
-    next
+    awaited(st, i, Awaited::BLANK)
 }
 
 // How many places of a table a loop goes over: those in use, which are no more than there are.

@@ -11,7 +11,7 @@ ghost use Rattle.values.specs.Values.{voidV, timeoutV, serverErrV, isVoid, isPa
 ghost use Rattle.config.specs.Tables.{maxAreaConfs, requiredConfIn};
 ghost use Rattle.entries.specs.Faults.{isServer};
 ghost use Rattle.state.specs.Parts.{noClient, maxRequests, maxValues};
-ghost use Rattle.rules.specs.Sound.{isNoClient, clientFits, requestsSound, valuesSound, mostPending, runnableSound, variableSound, isStored, elementSound, isOutcome, callingSound, doneSound, operationSound, timerSound, waitsWell, lifeSound, owedSound, areaFits, isZero, stackSound, isNoSlot, slotSound, isClient, queuedAs, variablesSound, elementsSound, timersSound, soundOf, isNoAwaited, awaitsWell, isNoLife, isNoOwed, isNoStack};
+ghost use Rattle.rules.specs.Sound.{isNoClient, clientFits, requestsSound, valuesSound, mostPending, runnableSound, variableSound, isStored, elementSound, isOutcome, callingSound, doneSound, operationSound, timerSound, waitsWell, lifeSound, owedSound, areaFits, isZero, stackSound, isNoSlot, slotSound, isClient, queuedAs, variablesSound, elementsSound, timersSound, soundOf, isNoAwaited, awaitsWell, isNoLife, isNoOwed, isNoStack, heldWell};
 ghost use Rattle.sound.specs.Only.{onlyVariables, onlyAreas, onlyRequired, onlyOperations, onlyTimers};
 ghost use Rattle.sound.specs.Tally.{counted, entered, heldBelow, noting, tallied, notedAt, notedAs};
 ghost use Rattle.sound.specs.Walk.{clientsWith, clientAlone, queueAlone, queueOf, notedAlone, runnableTallied, waiterTallied, operationTallied, areaTallied, runnablesTallied, operationsTallied, areasTallied, restTests, walkOf};
@@ -22,6 +22,7 @@ use config::RequiredConfs;
 use config::RunnableConfs;
 use config::TimerConfs;
 use config::VariableConfs;
+use entries::Entry;
 use state::Area;
 use state::Areas;
 use state::Awaited;
@@ -350,10 +351,10 @@ fn timer_sound(t: TimerConfs, k: u8, x: Timer) -> bool
 fn is_no_awaited(a: Awaited) -> bool
     ensures { λ b. ⌜ b ≡ isNoAwaited a ⌝ }
 {
-    a.part == 0 && a.on == 0
+    a.part == 0 && (a.on == 0 && a.left == 0)
 }
 
-// A waiter's operation is there, is synchronous, and belongs to the waiter's component.
+// A waiter's operation is there, is synchronous, and belongs to the waiter's component; its count is the call's, and none is here.
 fn waits_well(cfg: Config, l: Life) -> bool
     ensures { λ b. ⌜ b ≡ waitsWell cfg l ⌝ }
 {
@@ -369,16 +370,44 @@ fn waits_well(cfg: Config, l: Life) -> bool
     }
     let rs = cfg.runnables;
     let r = rs.get(l.runnable);
-    x.component == r.component
+    if x.component != r.component {
+        return false;
+    }
+    a.left == 0
 }
 
-// An instance waits well on an operation, or for nothing.
+// The element that holds an instance is there, is queued, and belongs to its component; its count is an hour at most.
+fn held_well(cfg: Config, l: Life) -> bool
+    ensures { λ b. ⌜ b ≡ heldWell cfg l ⌝ }
+{
+    let t = cfg.required;
+    let a = l.awaited;
+    let q = a.on;
+    if q >= t.n {
+        return false;
+    }
+    if !entries::is_queued(cfg, q) {
+        return false;
+    }
+    let x = t.get(q);
+    let rs = cfg.runnables;
+    let r = rs.get(l.runnable);
+    if x.component != r.component {
+        return false;
+    }
+    a.left <= Entry::MAX_TIME
+}
+
+// An instance waits well on an operation, or is held well on an element, or waits for nothing.
 fn awaits_well(cfg: Config, l: Life) -> bool
     ensures { λ b. ⌜ b ≡ awaitsWell cfg l ⌝ }
 {
     let a = l.awaited;
     if a.part == numbers::TAG_OPERATION {
         return waits_well(cfg, l);
+    }
+    if a.part == numbers::TAG_REQUIRED {
+        return held_well(cfg, l);
     }
     is_no_awaited(a)
 }

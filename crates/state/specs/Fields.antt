@@ -53,6 +53,12 @@ withQueue x q = record { value = x .value; updated = x .updated; queue = q }
 abbrev pub withCount : Operation → ℕ → Operation
 withCount x n = record { number = x .number; calling = x .calling; count = n; done = x .done }
 
+-- ---- of what is waited for
+
+-- how long at most (W-210)
+abbrev pub withLeft : Awaited → ℕ → Awaited
+withLeft x n = record { part = x .part; on = x .on; left = n }
+
 -- ---- of a life
 
 -- the life of a new instance of the runnable r: it neither waits nor is finished, and has not failed (ours)

@@ -70,7 +70,7 @@ lastNumber = 65535
 
 -- nothing to wait for ("A sound state", unused places)
 abbrev pub noAwaited : Awaited
-noAwaited = record { part = 0; on = 0 }
+noAwaited = record { part = 0; on = 0; left = 0 }
 
 -- the life of no instance ("A sound state", unused places)
 abbrev pub noLife : Life

@@ -221,14 +221,19 @@ impl Timer {
     pub const BLANK: Timer = Timer { count: 0 };
 }
 
-// What an instance waits for: the tag of its kind of part, 0 while it waits for nothing, and its number.
+// What an instance waits for: the tag of its kind of part, 0 while it waits for nothing, its number, and how long at most, for data alone.
 pub struct Awaited {
     pub part: u8,
     pub on: u8,
+    pub left: u32,
 }
 
 impl Awaited {
-    pub const BLANK: Awaited = Awaited { part: 0, on: 0 };
+    pub const BLANK: Awaited = Awaited {
+        part: 0,
+        on: 0,
+        left: 0,
+    };
 }
 
 // How an instance lives: whose it is, what it waits for, whether it is finished, whether it has failed.

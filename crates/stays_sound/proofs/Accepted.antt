@@ -1,5 +1,5 @@
 -- An accepted step: the state is sound, the step is what it is before its claim is looked at, and its answer agrees with that (`accepted`); for every code but send the claim is the answer (`claim-told`). So it went one of
--- the ways of its code (`gone`, `way`), and relied on what that way asks (`enter-told` .. `tick-told`).
+-- the ways of its code (`gone`, `way`), and relied on what that way asks (`enter-told` .. `give-up-told`).
 -- Assumes nothing.
 use Prim.Native.Nat.{ℕ}
 use mathlib.Core.Bool.{Bool, true, false}
@@ -7,20 +7,21 @@ use mathlib.Core.Path.{_≡_, refl, sym, ap, _∙_, subst}
 use native.Mathlib.Omega.{arith}
 use lib.Dec.{eqb}
 use Rattle.numbers.specs.Refusals.{notSound, otherAnswer}
-use Rattle.numbers.specs.Codes.{enterCode, exitCode, sendCode, callCode, resultCode, handBackCode, endCode, spawnCode, timeoutCode, tickCode}
+use Rattle.numbers.specs.Codes.{enterCode, exitCode, sendCode, callCode, resultCode, handBackCode, endCode, spawnCode, timeoutCode, tickCode, receiveCode, giveUpCode}
 use Rattle.laws.specs.Choice.{pick}
 use Rattle.laws.proofs.Choosing.{clash}
 use Rattle.faces.specs.Types.{Value, Step, Answer, Taken, Refused, Config, State, Stepped}
-use Rattle.values.specs.Values.{numberV, okV, noDataV, answerValue}
+use Rattle.values.specs.Values.{numberV, okV, noDataV, timeoutV, answerValue}
 use Rattle.config.specs.Tables.{operationConfIn}
-use Rattle.state.specs.Tables.{operationIn}
+use Rattle.state.specs.Queues.{firstValue}
+use Rattle.state.specs.Tables.{operationIn, elementIn}
 use Rattle.rules.specs.Sound.{soundOf}
-use Rattle.effects.specs.Steps.{refused, fed, fullMask, sentOf, isOpen, answers, clientOf, lowestEmpty}
+use Rattle.effects.specs.Steps.{refused, fed, fullMask, sentOf, isOpen, answers, clientOf, lowestEmpty, waits}
 use Rattle.effects.specs.Step.{possibleOf, onAnswer, agrees, claimedOf, innerOf, stepOf}
 use Rattle.effects.proofs.Agreeing.{agrees-same}
 use Rattle.effects.proofs.Codes.{never}
-use Rattle.stays_sound.specs.Facts.{CanEnter, CanExit, CanCall, CanCollect, CanHandBack, CanEnd, CanSpawn, CanTimeout, CanTick}
-use Rattle.stays_sound.proofs.Ways.{Way, enter, exit, send, callBusy, call, pollOpen, poll, collect, answer, late, end, spawn, timeout, tick, Went, bars, goes, went}
+use Rattle.stays_sound.specs.Facts.{CanEnter, CanExit, CanCall, CanCollect, CanHandBack, CanEnd, CanSpawn, CanTimeout, CanTick, CanReceive, CanGiveUp}
+use Rattle.stays_sound.proofs.Ways.{Way, enter, exit, send, callBusy, call, pollOpen, poll, collect, answer, late, end, spawn, timeout, tick, receiveNone, receive, giveUp, Went, bars, goes, went}
 
 -- what a step answers, and Void if it is refused
 abbrev pub answerIn : Config → State → Step → Value
@@ -118,3 +119,11 @@ module _ (cfg : Config) (st : State) (s : Step) where
 
   pub tick-told : {w : Value} {t : State} → Way cfg st s tickCode w t → CanTick cfg st (s .what)
   tick-told (tick z) = z
+
+  -- a receive by an instance that waits
+  pub receive-told : {w : Value} {t : State} → waits st (s .who) ≡ true → Way cfg st s receiveCode w t → CanReceive cfg st (s .who) (s .what) × (w ≡ firstValue (elementIn (st .elements) (s .what) .queue))
+  receive-told h (receiveNone e f) = absurd (clash _ h f)
+  receive-told h (receive z) = (z, refl)
+
+  pub give-up-told : {w : Value} {t : State} → Way cfg st s giveUpCode w t → CanGiveUp st (s .who) × (w ≡ timeoutV)
+  give-up-told (giveUp z) = (z, refl)

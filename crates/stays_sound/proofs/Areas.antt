@@ -16,17 +16,17 @@ use Rattle.laws.specs.Loop.{sumBelow}
 use Rattle.laws.proofs.Choosing.{clash, all-told, pick-has, both-left, both-right, bit-most}
 use Rattle.laws.proofs.Looping.{all-at, sum-same, sum-term, spread, sum-room}
 use Rattle.laws.proofs.Places.{put-each, sum-put, sum-push, sum-pop, filled-length, filled-good}
-use Rattle.faces.specs.Types.{Value, Config, Areas, Stack, Slot, Slots, State}
+use Rattle.faces.specs.Types.{Value, Config, Areas, Stack, Slot, Slots, State, Awaited}
 use Rattle.config.specs.Tables.{maxAreaConfs, runnableConfIn}
 use Rattle.state.specs.Parts.{noArea, noStack, noSlot}
 use Rattle.state.specs.Queues.{upOne, pushArea, topArea, popArea}
 use Rattle.state.specs.Tables.{maxSlots, runnableIn, areaIn, slotIn, withArea, withSlot}
 use Rattle.rules.specs.Sound.{componentOf, areaFits, isZero, stackSound, lifeSound, owedSound, isNoStack, isNoSlot, slotSound, slotsSound, timesIn, holders}
-use Rattle.effects.specs.Steps.{entering, exiting, entered, exited, callerAfter, called, goneOn, finished, failed, emptied, instanceOf, lowestEmpty, spawned}
-use Rattle.stays_sound.specs.Facts.{Held, Sound, CanEnter, CanExit, CanCall, CanCollect, CanHandBack, CanEnd, CanSpawn, CanFail, HeldIn}
+use Rattle.effects.specs.Steps.{entering, exiting, entered, exited, callerAfter, called, awaited, waited, finished, failed, emptied, instanceOf, lowestEmpty, spawned}
+use Rattle.stays_sound.specs.Facts.{Held, Sound, CanEnter, CanExit, CanCall, CanHandBack, CanEnd, CanSpawn, CanWait, CanFail, HeldIn}
 use Rattle.rules.proofs.Configured.{areas-most}
 use Rattle.stays_sound.proofs.Told.{areas-length, slots-length}
-use Rattle.stays_sound.proofs.Kept.{here, lowest-empty, slot-kept, caller-kept}
+use Rattle.stays_sound.proofs.Kept.{here, lowest-empty, slot-kept, slots-after-kept, caller-kept}
 
 -- ---- what a sound slot tells of its stack
 
@@ -197,8 +197,13 @@ pub call-keeps-areas : (cfg : Config) (st : State) (i o : ℕ) (v : Value) → S
 unfolding called
 call-keeps-areas cfg st i o v s z = held-slot cfg (st .areas) (st .slots) i _ (call-stack cfg o (slotIn (st .slots) i)) (s .areas)
 
-pub collect-keeps-areas : (cfg : Config) (st : State) (i o : ℕ) → Sound cfg st → CanCollect cfg st i o → HeldIn cfg (goneOn st i)
-collect-keeps-areas cfg st i o s z = held-slot cfg (st .areas) (st .slots) i _ (λ a. refl) (s .areas)
+-- what an instance waits for, or no longer
+pub await-keeps-areas : (cfg : Config) (st : State) (i : ℕ) (a : Awaited) → Sound cfg st → HeldIn cfg (awaited st i a)
+await-keeps-areas cfg st i a s = held-slot cfg (st .areas) (st .slots) i _ (λ b. refl) (s .areas)
+
+pub wait-keeps-areas : (cfg : Config) (st : State) (t : ℕ) → Sound cfg st → CanWait cfg st t → HeldIn cfg (waited cfg st t)
+unfolding waited holders
+wait-keeps-areas cfg st t s z = record { there = s .areas .there; once = λ a b. sum-same _ _ maxSlots (λ k l. slots-after-kept (λ y. timesIn a (y .stack)) t (λ x. refl) (st .slots) k) ∙ s .areas .once a b }
 
 pub fail-keeps-areas : (cfg : Config) (st : State) (i : ℕ) → Sound cfg st → CanFail st i → HeldIn cfg (failed st i)
 fail-keeps-areas cfg st i s z = held-slot cfg (st .areas) (st .slots) i _ (λ a. refl) (s .areas)

@@ -13,7 +13,7 @@ use Rattle.laws.specs.Choice.{pick, bit}
 use Rattle.laws.proofs.Choosing.{clash, all-told, both-left, both-right}
 use Rattle.laws.proofs.Looping.{all-at}
 use Rattle.laws.proofs.Places.{inside-of, filled-length}
-use Rattle.faces.specs.Types.{Value, Config, RunnableConf, Client, Runnable, Operations, Owed, Slots, State}
+use Rattle.faces.specs.Types.{Value, Config, RunnableConf, Client, Runnable, Operations, Owed, Slots, State, Awaited}
 use Rattle.values.specs.Values.{timeoutV}
 use Rattle.config.specs.Tables.{maxRunnableConfs, runnableConfIn, operationConfIn, timerConfIn}
 use Rattle.state.specs.Parts.{noClient, maxRequests, noOperation, noOwed, noSlot}
@@ -21,11 +21,11 @@ use Rattle.state.specs.Queues.{pushRequest, firstRequest, restRequests}
 use Rattle.state.specs.Fields.{withPending, withRequests}
 use Rattle.state.specs.Tables.{maxSlots, runnableIn, operationIn, slotIn, withRunnable, withOperation, withSlot}
 use Rattle.rules.specs.Sound.{isNoClient, clientFits, requestsSound, runnableSound, runnablesSound, isNoOwed, isNoSlot, slotSound, slotsSound, isClient, queuedAs, servedAs, clientsAs}
-use Rattle.effects.specs.Steps.{entering, exiting, entered, exited, fed, asking, called, runningOn, goneOn, closing, returnedRunnables, closed, answers, finishing, failing, failed, clientOf, finished, handedBack, answered, emptied, isDue, begun, starting, fresh, instanceOf, lowestEmpty, spawned, ticked, waited}
-use Rattle.stays_sound.specs.Facts.{Clients, Sound, CanEnter, CanExit, CanFeed, CanCall, CanCollect, CanHandBack, CanEnd, CanSpawn, CanTimeout, CanTick, CanWait, CanFail, ClientsIn}
+use Rattle.effects.specs.Steps.{entering, exiting, entered, exited, fed, asking, called, awaiting, awaited, closing, returnedRunnables, closed, answers, finishing, failing, failed, clientOf, finished, handedBack, answered, emptied, isDue, begun, starting, fresh, instanceOf, lowestEmpty, spawned, ticked, waited}
+use Rattle.stays_sound.specs.Facts.{Clients, Sound, CanEnter, CanExit, CanFeed, CanCall, CanHandBack, CanEnd, CanSpawn, CanTimeout, CanTick, CanWait, CanFail, ClientsIn}
 use Rattle.rules.proofs.Configured.{runnables-most, operations-most, capacity-most, operation-there}
 use Rattle.stays_sound.proofs.Told.{runnables-length, operations-length, slots-length}
-use Rattle.stays_sound.proofs.Kept.{here, lowest-empty, runnable-kept, slot-kept, fed-kept, returned-kept, after-kept, waited-kept, caller-kept}
+use Rattle.stays_sound.proofs.Kept.{here, lowest-empty, runnable-kept, slot-kept, fed-kept, returned-kept, after-kept, waited-kept, slots-after-kept, caller-kept}
 use Rattle.stays_sound.proofs.Tallies.{other-operation, other-number, tally-same, tally-less, tally-close, tally-open, served-put, queued-put, asked, taken, idle, busy, clients-kept, clients-slot, clients-runnables}
 
 -- ---- what a sound state tells of a queue, an open call and an empty slot
@@ -90,8 +90,9 @@ call-keeps-clients cfg st i o v s z =
     more : (k m : ℕ) → queuedAs k m (pushRequest (x .requests) c) ≡ queuedAs k m (x .requests) + bit (isClient k m c)
     more k m = asked k m (x .requests) c (omega (arith, room, requests-told cfg st r s b .1)) room
 
-pub collect-keeps-clients : (cfg : Config) (st : State) (i o : ℕ) → Sound cfg st → CanCollect cfg st i o → ClientsIn (goneOn st i)
-collect-keeps-clients cfg st i o s z = clients-slot (st .operations) (st .runnables) (st .slots) i (runningOn (slotIn (st .slots) i)) refl (s .clients)
+-- what an instance waits for, or no longer
+pub await-keeps-clients : (cfg : Config) (st : State) (i : ℕ) (a : Awaited) → Sound cfg st → ClientsIn (awaited st i a)
+await-keeps-clients cfg st i a s = clients-slot (st .operations) (st .runnables) (st .slots) i (awaiting (slotIn (st .slots) i) a) refl (s .clients)
 
 pub fail-keeps-clients : (cfg : Config) (st : State) (i : ℕ) → Sound cfg st → CanFail st i → ClientsIn (failed st i)
 fail-keeps-clients cfg st i s z = clients-slot (st .operations) (st .runnables) (st .slots) i (failing (slotIn (st .slots) i)) refl (s .clients)
@@ -214,9 +215,9 @@ tick-keeps-clients cfg st t s z =
 pub wait-keeps-clients : (cfg : Config) (st : State) (t : ℕ) → Sound cfg st → CanWait cfg st t → ClientsIn (waited cfg st t)
 unfolding waited
 wait-keeps-clients cfg st t s z =
-    clients-kept (st .operations) _ (st .runnables) _ (st .slots) (st .slots)
+    clients-kept (st .operations) _ (st .runnables) _ (st .slots) _
     (waited-kept (λ x. x .number) t (λ x n. refl) cfg (st .operations))
     (waited-kept (λ x. x .calling) t (λ x n. refl) cfg (st .operations))
     (after-kept (λ x. x .requests) t (λ x. refl) cfg (st .runnables))
-    (λ o m k. refl)
+    (λ o m. slots-after-kept (λ x. servedAs o m (x .owed)) t (λ x. refl) (st .slots))
     (s .clients)

@@ -14,16 +14,16 @@ use Rattle.laws.proofs.Choosing.{pick-has}
 use Rattle.laws.proofs.Looping.{sum-same, count-most}
 use Rattle.laws.proofs.Places.{sum-put}
 use Rattle.values.specs.Values.{timeoutV}
-use Rattle.faces.specs.Types.{Value, Config, RunnableConf, Runnable, Runnables, Slot, Slots, State}
+use Rattle.faces.specs.Types.{Value, Config, RunnableConf, Runnable, Runnables, Slot, Slots, State, Awaited}
 use Rattle.config.specs.Tables.{maxRunnableConfs, runnableConfIn, operationConfIn, timerConfIn}
 use Rattle.state.specs.Parts.{noRunnable, noSlot}
 use Rattle.state.specs.Queues.{upOne}
 use Rattle.state.specs.Tables.{maxSlots, runnableIn, slotIn, withRunnable, withSlot}
 use Rattle.rules.specs.Sound.{ofRunnable, slotsOf}
-use Rattle.effects.specs.Steps.{entering, exiting, entered, exited, fed, callerAfter, called, runningOn, goneOn, closed, finishing, failing, failed, finished, handedBack, answered, emptied, starting, instanceOf, lowestEmpty, spawned, ticked, waited}
-use Rattle.stays_sound.specs.Facts.{Counted, Sound, CanEnter, CanExit, CanFeed, CanCall, CanCollect, CanHandBack, CanEnd, CanSpawn, CanTimeout, CanTick, CanWait, CanFail, CountedIn}
+use Rattle.effects.specs.Steps.{entering, exiting, entered, exited, fed, callerAfter, called, awaiting, awaited, closed, finishing, failing, failed, finished, handedBack, answered, emptied, starting, instanceOf, lowestEmpty, spawned, ticked, waited}
+use Rattle.stays_sound.specs.Facts.{Counted, Sound, CanEnter, CanExit, CanFeed, CanCall, CanHandBack, CanEnd, CanSpawn, CanTimeout, CanTick, CanWait, CanFail, CountedIn}
 use Rattle.stays_sound.proofs.Told.{runnables-length, slots-length}
-use Rattle.stays_sound.proofs.Kept.{here, lowest-empty, runnable-kept, slot-kept, fed-kept, returned-kept, after-kept, caller-kept}
+use Rattle.stays_sound.proofs.Kept.{here, lowest-empty, runnable-kept, slot-kept, fed-kept, returned-kept, after-kept, slots-after-kept, caller-kept}
 
 -- ---- what each kind of change does
 
@@ -39,6 +39,11 @@ counted-slot rs ss i x u l h = record { counted = λ r b. h .counted r b ∙ sym
   where
     same : (r : ℕ) → slotsOf (withSlot ss i x) r ≡ slotsOf ss r
     same r = sum-same _ _ maxSlots (λ k b. ap bit (slot-kept (ofRunnable r) ss i x (rw (u, l)) k))
+
+-- slots that are of the same runnables at each place
+counted-slots : (rs : Runnables) (ss ss′ : Slots) → ((r k : ℕ) → ofRunnable r (slotIn ss′ k) ≡ ofRunnable r (slotIn ss k)) → Counted rs ss → Counted rs ss′
+unfolding slotsOf
+counted-slots rs ss ss′ e h = record { counted = λ r b. h .counted r b ∙ sym (sum-same _ _ maxSlots (λ k l. ap bit (e r k))) }
 
 -- runnables whose instances are the same at each place
 pub counted-runnables : (rs rs′ : Runnables) (ss : Slots) → ((r : ℕ) → runnableIn rs′ r .instances ≡ runnableIn rs r .instances) → Counted rs ss → Counted rs′ ss
@@ -81,8 +86,9 @@ call-keeps-counts cfg st i o v s z =
     (caller-kept (λ x. x .life .runnable) (λ x n. refl) cfg o (slotIn (st .slots) i))
     (counted-runnables (st .runnables) _ (st .slots) (runnable-kept (λ x. x .instances) (st .runnables) (operationConfIn (cfg .operations) o .server) _ refl) (s .counts))
 
-pub collect-keeps-counts : (cfg : Config) (st : State) (i o : ℕ) → Sound cfg st → CanCollect cfg st i o → CountedIn (goneOn st i)
-collect-keeps-counts cfg st i o s z = counted-slot (st .runnables) (st .slots) i (runningOn (slotIn (st .slots) i)) refl refl (s .counts)
+-- what an instance waits for, or no longer
+pub await-keeps-counts : (cfg : Config) (st : State) (i : ℕ) (a : Awaited) → Sound cfg st → CountedIn (awaited st i a)
+await-keeps-counts cfg st i a s = counted-slot (st .runnables) (st .slots) i (awaiting (slotIn (st .slots) i) a) refl refl (s .counts)
 
 pub fail-keeps-counts : (cfg : Config) (st : State) (i : ℕ) → Sound cfg st → CanFail st i → CountedIn (failed st i)
 fail-keeps-counts cfg st i s z = counted-slot (st .runnables) (st .slots) i (failing (slotIn (st .slots) i)) refl refl (s .counts)
@@ -154,5 +160,7 @@ tick-keeps-counts cfg st t s z =
     counted-runnables (st .runnables) _ (st .slots) (runnable-kept (λ x. x .instances) (st .runnables) (timerConfIn (cfg .timers) t .runnable) _ refl) (s .counts)
 
 pub wait-keeps-counts : (cfg : Config) (st : State) (t : ℕ) → Sound cfg st → CanWait cfg st t → CountedIn (waited cfg st t)
-unfolding waited
-wait-keeps-counts cfg st t s z = counted-runnables (st .runnables) _ (st .slots) (after-kept (λ x. x .instances) t (λ x. refl) cfg (st .runnables)) (s .counts)
+unfolding waited ofRunnable
+wait-keeps-counts cfg st t s z =
+    counted-slots _ (st .slots) _ (λ r. slots-after-kept (ofRunnable r) t (λ x. refl) (st .slots))
+    (counted-runnables (st .runnables) _ (st .slots) (after-kept (λ x. x .instances) t (λ x. refl) cfg (st .runnables)) (s .counts))

@@ -22,7 +22,7 @@ use Rattle.state.specs.Parts.{noElement, maxValues}
 use Rattle.state.specs.Queues.{upOne, pushValue, restValues}
 use Rattle.state.specs.Tables.{elementIn, withElement}
 use Rattle.rules.specs.Sound.{valuesSound, isStored, elementSound, elementsSound}
-use Rattle.effects.specs.Steps.{seen, looked, joins, linked, accepts, storing, queueing, fedElement, fedElements, fed, invalidated, receiving, received}
+use Rattle.effects.specs.Steps.{seen, looked, joins, linked, accepts, storing, queueing, fedElement, fedElements, fed, invalidated, receiving, dequeued}
 use Rattle.stays_sound.specs.Facts.{Sound, CanRead, CanFeed, CanInvalidate, CanReceive}
 use Rattle.rules.proofs.Configured.{required-most, length-most, link-alike}
 
@@ -159,7 +159,7 @@ module _ (cfg : Config) (st : State) where
   invalidate-keeps-elements i p s z =
       fed-sound cfg (s .config) p invalidV (invalid-stored (cfg .edition) (z .marks)) (λ q l e. absurd (clash (isQueued cfg q) e (sym (linked-alike cfg (s .config) p q l) ∙ z .unqueued))) (st .elements) (s .elements)
 
-  pub receive-keeps-elements : (i q : ℕ) → Sound cfg st → CanReceive cfg st i q → elementsSound cfg (received st q .elements) ≡ true
+  pub receive-keeps-elements : (i q : ℕ) → Sound cfg st → CanReceive cfg st i q → elementsSound cfg (dequeued st q .elements) ≡ true
   receive-keeps-elements i q s z =
       let x = elementIn (st .elements) q in
       let t = stands-told cfg q x (element-at cfg st s q (z .inside)) in

@@ -1,20 +1,21 @@
 -- What a sound slot tells of the instance in it: its life, its client and its stack.
 -- Assumes nothing.
 use Prim.Native.Nat.{ℕ, _≤_, _<_}
-use mathlib.Core.Bool.{true, not}
-use mathlib.Core.Path.{_≡_, sym, _∙_}
+use mathlib.Core.Bool.{Bool, true, false, not}
+use mathlib.Core.Path.{_≡_, refl, sym, _∙_}
 use native.Mathlib.Omega.{arith}
 use lib.Dec.{ltb, leb}
-use borrow.Author.Tests.{ltb-true, leb-true}
+use borrow.Author.Tests.{ltb-true, leb-true, eqb-true}
 use Rattle.laws.specs.Choice.{both, alike}
 use Rattle.laws.specs.Row.{filled}
-use Rattle.laws.proofs.Choosing.{both-left, both-right, alike-is, all-told, all-made}
+use Rattle.laws.proofs.Choosing.{clash, both-left, both-right, alike-is, all-told, all-made}
 use Rattle.laws.proofs.Looping.{all-at}
 use Rattle.faces.specs.Types.{Config, Client, Life, Owed, Stack, Slot, Slots, State}
 use Rattle.config.specs.Tables.{maxAreaConfs}
 use Rattle.entries.specs.Faults.{isServer}
 use Rattle.state.specs.Tables.{maxSlots, slotIn}
-use Rattle.rules.specs.Sound.{componentOf, clientFits, lifeSound, owedSound, areaFits, isZero, stackSound, slotSound, slotsSound}
+use Rattle.rules.specs.Rows.{noPart}
+use Rattle.rules.specs.Sound.{componentOf, clientFits, isWaiting, isCaller, isHeld, isNoAwaited, awaitsWell, lifeSound, owedSound, areaFits, isZero, stackSound, slotSound, slotsSound}
 use Rattle.stays_sound.specs.Facts.{Sound}
 use Rattle.stays_sound.proofs.Told.{slots-length}
 use Rattle.stays_sound.proofs.Kept.{slot-inside}
@@ -87,3 +88,12 @@ module _ (cfg : Config) (l : Life) (k : Stack) (h : stackSound cfg l k ≡ true)
   pub stack-filled : filled (areaFits cfg (componentOf cfg (l .runnable))) isZero 0 maxAreaConfs (k .held) (k .at) ≡ true
   unfolding stackSound
   stack-filled = both-right (leb (k .held) maxAreaConfs) _ h
+
+-- one that waits, on no operation, is held
+pub waits-held : (cfg : Config) (l : Life) → lifeSound cfg l ≡ true → isWaiting l ≡ true → isCaller l ≡ false → isHeld l ≡ true
+unfolding lifeSound awaitsWell isNoAwaited
+waits-held cfg l h w f = by (isHeld l) refl
+  where
+    by : (b : Bool) → isHeld l ≡ b → isHeld l ≡ true
+    by true e = e
+    by false e = absurd (clash (isWaiting l) w (rw (eqb-true (l .awaited .part) noPart (all-told _ (rw (f, e) at (all-told _ h .1 .1 .0)) .0))))

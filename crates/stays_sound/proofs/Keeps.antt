@@ -2,30 +2,36 @@
 -- Assumes nothing.
 use Prim.Native.Nat.{ℕ}
 use mathlib.Core.Bool.{true, false}
-use mathlib.Core.Path.{_≡_}
+use mathlib.Core.Path.{_≡_, refl}
 use Rattle.numbers.specs.Refusals.{otherAnswer}
 use Rattle.laws.specs.Choice.{pick}
 use Rattle.laws.proofs.Choosing.{pick-has}
 use Rattle.values.specs.Values.{timeoutV}
 use Rattle.faces.specs.Types.{Value, Step, Answer, Taken, Refused, Config, State, Stepped}
-use Rattle.rules.specs.Sound.{soundOf}
-use Rattle.effects.specs.Steps.{refused, stored, entered, exited, looked, fed, invalidated, received, called, goneOn, closed, answers, clientOf, finished, handedBack, answered, failed, emptied, lowestEmpty, spawned, ticked, waited}
+use Rattle.state.specs.Parts.{noAwaited}
+use Rattle.state.specs.Tables.{slotIn}
+use Rattle.rules.specs.Sound.{isCaller, soundOf}
+use Rattle.effects.specs.Steps.{refused, stored, entered, exited, looked, fed, invalidated, received, called, goneOn, closed, answers, clientOf, finished, handedBack, answered, failed, emptied, lowestEmpty, spawned, ticked, waited, dequeued, onElement, held}
 use Rattle.effects.specs.Step.{possibleOf, onAnswer, agrees, claimedOf, innerOf, stepOf}
-use Rattle.stays_sound.specs.Facts.{Sound, CanWriteVariable, CanEnter, CanExit, CanRead, CanFeed, CanInvalidate, CanReceive, CanCall, CanCollect, CanHandBack, CanEnd, CanSpawn, CanTimeout, CanTick, CanWait, CanFail}
+use Rattle.stays_sound.specs.Facts.{Sound, There, CanWriteVariable, CanEnter, CanExit, CanRead, CanFeed, CanInvalidate, CanReceive, CanCall, CanCollect, CanHandBack, CanEnd, CanSpawn, CanTimeout, CanTick, CanWait, CanFail, CanHold, CanGiveUp}
 use Rattle.stays_sound.proofs.Told.{told, made}
-use Rattle.stays_sound.proofs.Shapes.{write-variable-keeps-shape, enter-keeps-shape, exit-keeps-shape, read-keeps-shape, feed-keeps-shape, invalidate-keeps-shape, receive-keeps-shape, call-keeps-shape, collect-keeps-shape, fail-keeps-shape, answer-keeps-shape, late-keeps-shape, end-keeps-shape, spawn-keeps-shape, timeout-keeps-shape, tick-keeps-shape, wait-keeps-shape}
+use Rattle.stays_sound.proofs.Shapes.{write-variable-keeps-shape, enter-keeps-shape, exit-keeps-shape, read-keeps-shape, feed-keeps-shape, invalidate-keeps-shape, receive-keeps-shape, call-keeps-shape, await-keeps-shape, fail-keeps-shape, answer-keeps-shape, late-keeps-shape, end-keeps-shape, spawn-keeps-shape, timeout-keeps-shape, tick-keeps-shape, wait-keeps-shape}
 use Rattle.stays_sound.proofs.Runnables.{feed-keeps-runnables, call-keeps-runnables, answer-keeps-runnables, timeout-keeps-runnables, end-keeps-runnables, spawn-keeps-runnables, tick-keeps-runnables, wait-keeps-runnables}
 use Rattle.stays_sound.proofs.Tables.{write-variable-keeps-variables, tick-keeps-timers, wait-keeps-timers}
 use Rattle.stays_sound.proofs.Elements.{read-keeps-elements, feed-keeps-elements, invalidate-keeps-elements, receive-keeps-elements}
 use Rattle.stays_sound.proofs.Operations.{call-keeps-operations, answer-keeps-operations, timeout-keeps-operations, wait-keeps-operations}
-use Rattle.stays_sound.proofs.Slots.{enter-keeps-slots, exit-keeps-slots, call-keeps-slots, collect-keeps-slots, hand-back-keeps-slots, fail-keeps-slots, end-keeps-slots, spawn-keeps-slots}
-use Rattle.stays_sound.proofs.Counts.{enter-keeps-counts, exit-keeps-counts, feed-keeps-counts, call-keeps-counts, collect-keeps-counts, fail-keeps-counts, late-keeps-counts, answer-keeps-counts, end-keeps-counts, spawn-keeps-counts, timeout-keeps-counts, tick-keeps-counts, wait-keeps-counts}
-use Rattle.stays_sound.proofs.Areas.{enter-keeps-areas, exit-keeps-areas, call-keeps-areas, collect-keeps-areas, fail-keeps-areas, hand-back-keeps-areas, end-keeps-areas, spawn-keeps-areas}
-use Rattle.stays_sound.proofs.Clients.{enter-keeps-clients, exit-keeps-clients, feed-keeps-clients, call-keeps-clients, collect-keeps-clients, fail-keeps-clients, late-keeps-clients, answer-keeps-clients, timeout-keeps-clients, end-keeps-clients, spawn-keeps-clients, tick-keeps-clients, wait-keeps-clients}
-use Rattle.stays_sound.proofs.Waiters.{enter-keeps-waiters, exit-keeps-waiters, call-keeps-waiters, collect-keeps-waiters, fail-keeps-waiters, late-keeps-waiters, answer-keeps-waiters, timeout-keeps-waiters, end-keeps-waiters, spawn-keeps-waiters, wait-keeps-waiters}
-use Rattle.stays_sound.proofs.Ways.{Way, readVariable, writeVariable, enter, exit, read, write, updated, invalidate, receiveNone, receive, send, callBusy, call, pollOpen, poll, collect, answer, late, end, spawn, timeout, tick, wait, fail, Went, bars, goes, went}
+use Rattle.stays_sound.proofs.Slots.{enter-keeps-slots, exit-keeps-slots, call-keeps-slots, go-on-keeps-slots, hand-back-keeps-slots, fail-keeps-slots, end-keeps-slots, spawn-keeps-slots, hold-keeps-slots, wait-keeps-slots}
+use Rattle.stays_sound.proofs.Counts.{enter-keeps-counts, exit-keeps-counts, feed-keeps-counts, call-keeps-counts, await-keeps-counts, fail-keeps-counts, late-keeps-counts, answer-keeps-counts, end-keeps-counts, spawn-keeps-counts, timeout-keeps-counts, tick-keeps-counts, wait-keeps-counts}
+use Rattle.stays_sound.proofs.Areas.{enter-keeps-areas, exit-keeps-areas, call-keeps-areas, await-keeps-areas, fail-keeps-areas, hand-back-keeps-areas, end-keeps-areas, spawn-keeps-areas, wait-keeps-areas}
+use Rattle.stays_sound.proofs.Clients.{enter-keeps-clients, exit-keeps-clients, feed-keeps-clients, call-keeps-clients, await-keeps-clients, fail-keeps-clients, late-keeps-clients, answer-keeps-clients, timeout-keeps-clients, end-keeps-clients, spawn-keeps-clients, tick-keeps-clients, wait-keeps-clients}
+use Rattle.stays_sound.proofs.Waiters.{no-caller, await-keeps-waiters, enter-keeps-waiters, exit-keeps-waiters, call-keeps-waiters, collect-keeps-waiters, fail-keeps-waiters, late-keeps-waiters, answer-keeps-waiters, timeout-keeps-waiters, end-keeps-waiters, spawn-keeps-waiters, wait-keeps-waiters}
+use Rattle.stays_sound.proofs.Ways.{Way, readVariable, writeVariable, enter, exit, read, write, updated, invalidate, receiveNone, receive, send, callBusy, call, pollOpen, poll, collect, answer, late, end, spawn, timeout, tick, wait, fail, hold, giveUp, Went, bars, goes, went}
 
 -- ---- the state after each step that is taken
+
+-- an instance goes on that waits on no operation
+go-on-keeps : (cfg : Config) (st : State) → Sound cfg st → (i : ℕ) → There st i → isCaller (slotIn (st .slots) i .life) ≡ false → Sound cfg (goneOn st i)
+go-on-keeps cfg st s i z e = search (await-keeps-shape, go-on-keeps-slots, await-keeps-counts, await-keeps-areas, await-keeps-clients, await-keeps-waiters cfg st i noAwaited s e refl)
 
 module _ (cfg : Config) (st : State) (s : Sound cfg st) where
   pub write-variable-keeps : (i v : ℕ) (x : Value) → CanWriteVariable cfg st i v x → Sound cfg (stored st v x)
@@ -48,15 +54,18 @@ module _ (cfg : Config) (st : State) (s : Sound cfg st) where
   pub invalidate-keeps : (i p : ℕ) → CanInvalidate cfg st i p → Sound cfg (invalidated cfg st p)
   invalidate-keeps i p z = search (invalidate-keeps-shape, invalidate-keeps-elements)
 
-  pub receive-keeps : (i q : ℕ) → CanReceive cfg st i q → Sound cfg (received st q)
-  receive-keeps i q z = search (receive-keeps-shape, receive-keeps-elements)
+  pub receive-keeps : (i q : ℕ) → CanReceive cfg st i q → Sound cfg (received st i q)
+  receive-keeps i q z = go-on-keeps cfg (dequeued st q) dequeue-keeps i (record { used = z .there .used }) (z .free)
+    where
+      dequeue-keeps : Sound cfg (dequeued st q)
+      dequeue-keeps = search (receive-keeps-shape, receive-keeps-elements)
 
   pub call-keeps : (i o : ℕ) (v : Value) → CanCall cfg st i o v → Sound cfg (called cfg st i o v)
   unfolding called
   call-keeps i o v z = search (call-keeps-shape, call-keeps-runnables, call-keeps-operations, call-keeps-slots, call-keeps-counts, call-keeps-areas, call-keeps-clients, call-keeps-waiters)
 
   pub collect-keeps : (i o : ℕ) → CanCollect cfg st i o → Sound cfg (goneOn st i)
-  collect-keeps i o z = search (collect-keeps-shape, collect-keeps-slots, collect-keeps-counts, collect-keeps-areas, collect-keeps-clients, collect-keeps-waiters)
+  collect-keeps i o z = search (await-keeps-shape, go-on-keeps-slots cfg st i s (z .there), await-keeps-counts, await-keeps-areas, await-keeps-clients, collect-keeps-waiters)
 
   -- a hand back that ends the client's call, and one that comes late
   pub answer-keeps : (i : ℕ) (v : Value) → CanHandBack cfg st i v → answers (st .operations) (clientOf st i) ≡ true → Sound cfg (answered cfg st i (handedBack st i v))
@@ -83,10 +92,16 @@ module _ (cfg : Config) (st : State) (s : Sound cfg st) where
 
   pub wait-keeps : (t : ℕ) → CanWait cfg st t → Sound cfg (waited cfg st t)
   unfolding waited
-  wait-keeps t z = search (wait-keeps-shape, wait-keeps-runnables, wait-keeps-operations, wait-keeps-timers, wait-keeps-counts, wait-keeps-clients, wait-keeps-waiters)
+  wait-keeps t z = search (wait-keeps-shape, wait-keeps-runnables, wait-keeps-operations, wait-keeps-timers, wait-keeps-slots, wait-keeps-counts, wait-keeps-areas, wait-keeps-clients, wait-keeps-waiters)
 
   pub fail-keeps : (i : ℕ) → CanFail st i → Sound cfg (failed st i)
   fail-keeps i z = search (fail-keeps-shape, fail-keeps-slots, fail-keeps-counts, fail-keeps-areas, fail-keeps-clients, fail-keeps-waiters)
+
+  pub hold-keeps : (i q t : ℕ) → CanHold cfg st i q t → Sound cfg (held st i q t)
+  hold-keeps i q t z = search (await-keeps-shape, hold-keeps-slots, await-keeps-counts, await-keeps-areas, await-keeps-clients, await-keeps-waiters cfg st i (onElement q t) s (no-caller (slotIn (st .slots) i .life) (z .who .running)) refl)
+
+  pub give-up-keeps : (i : ℕ) → CanGiveUp st i → Sound cfg (goneOn st i)
+  give-up-keeps i z = go-on-keeps cfg st s i (z .there) (z .free)
 
   -- ---- each way, and each step
 
@@ -102,7 +117,7 @@ module _ (cfg : Config) (st : State) (s : Sound cfg st) where
   way-keeps (write z) = feed-keeps _ _ _ z
   way-keeps updated = s
   way-keeps (invalidate z) = invalidate-keeps _ _ z
-  way-keeps (receiveNone e) = s
+  way-keeps (receiveNone e w) = s
   way-keeps (receive z) = receive-keeps _ _ z
   way-keeps (send z) = feed-keeps _ _ _ z
   way-keeps (callBusy e) = s
@@ -118,6 +133,8 @@ module _ (cfg : Config) (st : State) (s : Sound cfg st) where
   way-keeps (tick z) = tick-keeps _ z
   way-keeps (wait z) = wait-keeps _ z
   way-keeps (fail z) = fail-keeps _ z
+  way-keeps (hold z) = hold-keeps _ _ _ z
+  way-keeps (giveUp z) = give-up-keeps _ z
 
   went-keeps : {n : ℕ} {x : Step} {r : Stepped} → Went cfg st x n r → Keeps r
   went-keeps (bars b) = s

@@ -16,7 +16,7 @@ use Rattle.config.specs.Tables.{runnableConfIn, operationConfIn}
 use Rattle.state.specs.Parts.{noRunnable, noOperation, noSlot}
 use Rattle.state.specs.Fields.{withCount}
 use Rattle.state.specs.Tables.{maxSlots, runnableIn, operationIn, slotIn, withRunnable, withSlot}
-use Rattle.effects.specs.Steps.{woken, isFed, fedRunnables, isReturned, returnedRunnables, runnableAfter, runnablesAfter, operationAfter, operationsAfter, callerAfter, waitingOn, isEmptyAt, lowestEmpty}
+use Rattle.effects.specs.Steps.{woken, isFed, fedRunnables, isReturned, returnedRunnables, runnableAfter, runnablesAfter, operationAfter, operationsAfter, slotAfter, slotsAfter, callerAfter, waitingOn, isEmptyAt, lowestEmpty}
 use Rattle.stays_sound.specs.Facts.{Sound, There}
 use Rattle.stays_sound.proofs.Told.{slots-length}
 
@@ -58,6 +58,11 @@ module _ {B : Type 0} where
       let x = getD (os .at) j noOperation in
       each-has (λ (o : ℕ) (x : Operation). operationAfter t x) noOperation (λ k y. g y ≡ g (getD (os .at) k noOperation)) (cfg .operations .n) (os .at) j
       (λ l. pick-has (λ y. g y ≡ g x) (x .calling) _ x (λ e. w x _) (λ e. refl)) refl
+
+  -- and so of slots
+  pub slots-after-kept : (g : Slot → B) (t : ℕ) → ((x : Slot) → g (slotAfter t x) ≡ g x) → (ss : Slots) (k : ℕ) → g (slotIn (slotsAfter ss t) k) ≡ g (slotIn ss k)
+  unfolding slotsAfter slotIn
+  slots-after-kept g t w ss k = each-has (λ (i : ℕ) (x : Slot). slotAfter t x) noSlot (λ j y. g y ≡ g (getD (ss .at) j noSlot)) maxSlots (ss .at) k (λ l. w (getD (ss .at) k noSlot)) refl
 
   -- a caller waits, or does not: all but that is as it was
   pub caller-kept : (g : Slot → B) → ((x : Slot) (o : ℕ) → g (waitingOn x o) ≡ g x) → (cfg : Config) (o : ℕ) (x : Slot) → g (callerAfter cfg o x) ≡ g x

@@ -11,7 +11,7 @@ use Rattle.rules.specs.Sound.{soundOf}
 use Rattle.effects.specs.Steps.{refused, took}
 use Rattle.effects.specs.Step.{possibleOf, onAnswer, agrees, claimedOf, innerOf, stepOf}
 use Rattle.effects.proofs.Codes.{never}
-use Rattle.stays_sound.proofs.Ways.{Barred, shared, enterTaken, exitOther, callBorne, callFull, collectOpen, answerNumber, answerNone, endServing, endHolding, spawnNeed, spawnFull, timeoutEarly, tickEarly, waitFar, Went, bars, goes, went}
+use Rattle.stays_sound.proofs.Ways.{Barred, shared, enterTaken, exitOther, receiveHeld, callBorne, callFull, collectOpen, answerNumber, answerNone, endServing, endHolding, spawnNeed, spawnFull, timeoutEarly, tickEarly, waitFar, giveUpEarly, Went, bars, goes, went}
 
 pub refused-same : (k n : ℕ) → Refused k ≡ Refused n → k ≡ n
 refused-same k n e = ap (λ (a : Answer). onAnswer a (λ (v : Value). 0) (λ (m : ℕ). m)) e
@@ -33,6 +33,7 @@ module _ (cfg : Config) (st : State) where
   barred-fair (shared n) = omega (arith, n)
   barred-fair (enterTaken e) = omega arith
   barred-fair (exitOther e) = omega arith
+  barred-fair (receiveHeld e w) = omega arith
   barred-fair (callBorne a b) = omega arith
   barred-fair (callFull a b) = omega arith
   barred-fair (collectOpen e) = omega arith
@@ -45,6 +46,7 @@ module _ (cfg : Config) (st : State) where
   barred-fair (timeoutEarly e) = omega arith
   barred-fair (tickEarly e) = omega arith
   barred-fair (waitFar e) = omega arith
+  barred-fair (giveUpEarly e) = omega arith
 
   went-fair : {n : ℕ} {s : Step} {r : Stepped} → Went cfg st s n r → Fair r
   went-fair (bars b) = refused-fair _ (barred-fair b)

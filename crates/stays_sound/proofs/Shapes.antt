@@ -7,12 +7,12 @@ use lib.ListN.{length, length-set}
 use Rattle.laws.specs.Choice.{pick}
 use Rattle.laws.proofs.Places.{each-length}
 use Rattle.values.specs.Values.{invalidV, timeoutV}
-use Rattle.faces.specs.Types.{Value, Config, Runnable, Runnables, Variable, Variables, Area, Areas, Element, Elements, Operation, Operations, Timer, Timers, Slot, Slots, State}
+use Rattle.faces.specs.Types.{Value, Config, Runnable, Runnables, Variable, Variables, Area, Areas, Element, Elements, Operation, Operations, Timer, Timers, Slot, Slots, State, Awaited}
 use Rattle.config.specs.Tables.{runnableConfIn, operationConfIn, timerConfIn}
 use Rattle.state.specs.Parts.{noSlot, noRunnable, noElement, noOperation, noTimer}
-use Rattle.state.specs.Tables.{runnableIn, elementIn, operationIn, slotIn, withRunnables, withVariables, withAreas, withElements, withOperations, withTimers, withSlots, withRunnable, withVariable, withArea, withElement, withOperation, withTimer, withSlot}
+use Rattle.state.specs.Tables.{maxSlots, runnableIn, elementIn, operationIn, slotIn, withRunnables, withVariables, withAreas, withElements, withOperations, withTimers, withSlots, withRunnable, withVariable, withArea, withElement, withOperation, withTimer, withSlot}
 use Rattle.rules.specs.Sound.{shaped}
-use Rattle.effects.specs.Steps.{stored, entering, exiting, entered, exited, seen, looked, fedElement, fedElements, woken, isFed, fedRunnables, fed, invalidated, receiving, received, opening, asking, callerAfter, called, runningOn, goneOn, closing, isReturned, returnedRunnables, closed, finishing, failing, failed, clientOf, finished, answered, emptied, lowestEmpty, spawned, ticked, operationAfter, timerAfter, runnableAfter, operationsAfter, timersAfter, runnablesAfter, waited}
+use Rattle.effects.specs.Steps.{stored, entering, exiting, entered, exited, seen, looked, fedElement, fedElements, woken, isFed, fedRunnables, fed, invalidated, receiving, opening, asking, callerAfter, called, closing, isReturned, returnedRunnables, closed, finishing, failing, failed, clientOf, finished, answered, emptied, lowestEmpty, spawned, ticked, operationAfter, timerAfter, runnableAfter, operationsAfter, timersAfter, runnablesAfter, waited, dequeued, awaiting, awaited, slotAfter, slotsAfter}
 use Rattle.stays_sound.proofs.Told.{Shape, shape-told, shape-made}
 use Rattle.stays_sound.specs.Facts.{Sound}
 
@@ -70,6 +70,10 @@ module _ (cfg : Config) where
   pub timers-after-length : (ts : Timers) (t : ℕ) → length (timersAfter cfg ts t .at) ≡ length (ts .at)
   unfolding timersAfter
   timers-after-length ts t = each-length (λ (k : ℕ) (x : Timer). timerAfter t x) noTimer (cfg .timers .n) (ts .at)
+
+pub slots-after-length : (ss : Slots) (t : ℕ) → length (slotsAfter ss t .at) ≡ length (ss .at)
+unfolding slotsAfter
+slots-after-length ss t = each-length (λ (i : ℕ) (x : Slot). slotAfter t x) noSlot maxSlots (ss .at)
 
 -- ---- one table of a state put in place of another of its length
 
@@ -131,7 +135,7 @@ module _ (cfg : Config) (st : State) where
   pub invalidate-keeps-shape : (p : ℕ) → Sound cfg st → shaped (invalidated cfg st p) ≡ true
   invalidate-keeps-shape p s = shape-made _ (in-elements st (now cfg st s) _ (fed-elements-length cfg p invalidV (st .elements)))
 
-  pub receive-keeps-shape : (q : ℕ) → Sound cfg st → shaped (received st q) ≡ true
+  pub receive-keeps-shape : (q : ℕ) → Sound cfg st → shaped (dequeued st q) ≡ true
   receive-keeps-shape q s = shape-made _ (in-elements st (now cfg st s) _ (element-length (st .elements) q (receiving (elementIn (st .elements) q))))
 
   pub call-keeps-shape : (i o : ℕ) (v : Value) → Sound cfg st → shaped (called cfg st i o v) ≡ true
@@ -145,8 +149,9 @@ module _ (cfg : Config) (st : State) where
       (asking (runnableIn (st .runnables) (operationConfIn (cfg .operations) o .server)) (record { operation = o; number = operationIn (st .operations) o .number; argument = v }))))
       _ (slot-length (st .slots) i (callerAfter cfg o (slotIn (st .slots) i))))
 
-  pub collect-keeps-shape : (i : ℕ) → Sound cfg st → shaped (goneOn st i) ≡ true
-  collect-keeps-shape i s = shape-made _ (in-slots st (now cfg st s) _ (slot-length (st .slots) i (runningOn (slotIn (st .slots) i))))
+  -- what an instance waits for, or no longer
+  pub await-keeps-shape : (i : ℕ) (a : Awaited) → Sound cfg st → shaped (awaited st i a) ≡ true
+  await-keeps-shape i a s = shape-made _ (in-slots st (now cfg st s) _ (slot-length (st .slots) i (awaiting (slotIn (st .slots) i) a)))
 
   pub fail-keeps-shape : (i : ℕ) → Sound cfg st → shaped (failed st i) ≡ true
   fail-keeps-shape i s = shape-made _ (in-slots st (now cfg st s) _ (slot-length (st .slots) i (failing (slotIn (st .slots) i))))
@@ -178,6 +183,8 @@ module _ (cfg : Config) (st : State) where
   unfolding waited
   wait-keeps-shape t s =
       shape-made _
+      (in-slots _
       (in-runnables _
       (in-timers _ (in-operations st (now cfg st s) _ (operations-after-length cfg (st .operations) t)) _ (timers-after-length cfg (st .timers) t))
       _ (runnables-after-length cfg (st .runnables) t))
+      _ (slots-after-length (st .slots) t))

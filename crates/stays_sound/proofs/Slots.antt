@@ -2,27 +2,29 @@
 -- Assumes nothing.
 use Prim.Native.Nat.{ℕ, _+_, _-_, _<_}
 use mathlib.Core.Bool.{Bool, true, false, not}
+use mathlib.Core.List.{[], _∷_}
 use mathlib.Core.Path.{_≡_, refl, sym, _∙_, ap}
 use native.Mathlib.Nat.{mod-eq-of-lt}
 use native.Mathlib.Omega.{arith}
 use lib.Dec.{eqb}
-use borrow.Author.Tests.{ltb-true, eqb-true, eqb-false, lt-ltb, le-leb, eq-eqb}
+use lib.ListN.{getD}
+use borrow.Author.Tests.{ltb-true, leb-true, eqb-true, eqb-false, lt-ltb, le-leb, eq-eqb}
 use Rattle.laws.specs.Choice.{pick, allOf}
 use Rattle.laws.specs.Loop.{allBelow}
 use Rattle.laws.specs.Row.{placeFilled, filled}
 use Rattle.laws.proofs.Choosing.{both-make, all-told, all-made}
-use Rattle.laws.proofs.Places.{all-put, filled-push, filled-pop}
+use Rattle.laws.proofs.Places.{all-put, all-each, filled-push, filled-pop}
 use Rattle.values.specs.Values.{isVoid}
-use Rattle.faces.specs.Types.{Value, Config, RunnableConf, Life, Runnable, Owed, Stack, Slot, Slots, State}
+use Rattle.faces.specs.Types.{Value, Config, RunnableConf, Awaited, Life, Runnable, Owed, Stack, Slot, Slots, State}
 use Rattle.config.specs.Tables.{maxAreaConfs, runnableConfIn, areaConfIn, operationConfIn}
-use Rattle.entries.specs.Faults.{isServer}
+use Rattle.entries.specs.Faults.{maxTime, isServer}
 use Rattle.state.specs.Parts.{noAwaited, noOwed, noStack, noSlot}
 use Rattle.state.specs.Queues.{upOne, pushArea, popArea, firstRequest}
-use Rattle.state.specs.Fields.{lifeOf, lifeAwaiting, lifeFinished}
+use Rattle.state.specs.Fields.{withLeft, lifeOf, lifeAwaiting, lifeFinished}
 use Rattle.state.specs.Tables.{maxSlots, slotIn, withSlot, runnableIn}
-use Rattle.rules.specs.Sound.{componentOf, isNoClient, isNoAwaited, waitsWell, awaitsWell, lifeSound, owedSound, areaFits, isZero, stackSound, isNoLife, isNoOwed, isNoStack, isNoSlot, slotSound, slotsSound}
-use Rattle.effects.specs.Steps.{entering, exiting, entered, exited, onOperation, waitingOn, callerAfter, called, runningOn, goneOn, finishing, finished, failing, failed, emptied, isDue, fresh, instanceOf, lowestEmpty, spawned}
-use Rattle.stays_sound.specs.Facts.{Sound, CanEnter, CanExit, CanCall, CanCollect, CanHandBack, CanEnd, CanSpawn, CanFail}
+use Rattle.rules.specs.Sound.{componentOf, isNoClient, isCaller, isHeld, isNoAwaited, waitsWell, heldWell, awaitsWell, lifeSound, owedSound, areaFits, isZero, stackSound, isNoLife, isNoOwed, isNoStack, isNoSlot, slotSound, slotsSound}
+use Rattle.effects.specs.Steps.{entering, exiting, entered, exited, awaiting, awaited, onOperation, waitingOn, callerAfter, called, goneOn, finishing, finished, failing, failed, emptied, isDue, fresh, instanceOf, lowestEmpty, spawned, slotAfter, slotsAfter, waited, onElement, held}
+use Rattle.stays_sound.specs.Facts.{Sound, CanEnter, CanExit, There, CanCall, CanHandBack, CanEnd, CanSpawn, CanWait, CanFail, CanHold}
 use Rattle.rules.proofs.Configured.{areas-most}
 use Rattle.stays_sound.proofs.Areas.{free-room}
 use Rattle.stays_sound.proofs.Instances.{Instance, instance-made, slot-below, instance-at, owed-server, stack-most, stack-filled}
@@ -65,24 +67,46 @@ module _ (cfg : Config) (l : Life) (k : Stack) where
 
 -- ---- lives
 
+life-awaits : (cfg : Config) (l : Life) (a : Awaited) → lifeSound cfg l ≡ true → awaitsWell cfg (lifeAwaiting l a) ≡ true → lifeSound cfg (lifeAwaiting l a) ≡ true
+unfolding lifeSound
+life-awaits cfg l a h w = let t = all-told _ h in all-made _ (t .0, (t .1 .0, (w, tt)))
+
+-- what is left after some time
+less-zero : (n t : ℕ) → eqb n 0 ≡ true → eqb (n - t) 0 ≡ true
+less-zero n t h = eq-eqb (n - t) 0 (omega (arith, eqb-true n 0 h))
+
+abbrev lifeAfter : ℕ → Life → Life
+lifeAfter t l = lifeAwaiting l (withLeft (l .awaited) (l .awaited .left - t))
+
+no-awaited-after : (a : Awaited) (t : ℕ) → isNoAwaited a ≡ true → isNoAwaited (withLeft a (a .left - t)) ≡ true
+unfolding isNoAwaited
+no-awaited-after a t h = let z = all-told _ h in all-made _ (z .0, (z .1 .0, (less-zero (a .left) t (z .1 .1 .0), tt)))
+
+awaits-after : (cfg : Config) (l : Life) (t : ℕ) → awaitsWell cfg l ≡ true → awaitsWell cfg (lifeAfter t l) ≡ true
+unfolding awaitsWell waitsWell heldWell
+awaits-after cfg l t h = go (isCaller l) (isHeld l) h
+  where
+    go : (b c : Bool) → pick b (waitsWell cfg l) (pick c (heldWell cfg l) (isNoAwaited (l .awaited))) ≡ true → pick b (waitsWell cfg (lifeAfter t l)) (pick c (heldWell cfg (lifeAfter t l)) (isNoAwaited (lifeAfter t l .awaited))) ≡ true
+    go true c q = let z = all-told _ q in all-made _ (z .0, (z .1 .0, (z .1 .1 .0, (less-zero (l .awaited .left) t (z .1 .1 .1 .0), tt))))
+    go false true q = let z = all-told _ q in all-made _ (z .0, (z .1 .0, (z .1 .1 .0, (le-leb (l .awaited .left - t) maxTime (omega (arith, leb-true (l .awaited .left) maxTime (z .1 .1 .1 .0))), tt))))
+    go false false q = no-awaited-after (l .awaited) t q
+
 life-waits : (cfg : Config) (l : Life) (o : ℕ) → o < cfg .operations .n → operationConfIn (cfg .operations) o .asynchronous ≡ false → operationConfIn (cfg .operations) o .component ≡ componentOf cfg (l .runnable) → lifeSound cfg l ≡ true
     → lifeSound cfg (lifeAwaiting l (onOperation o)) ≡ true
-unfolding lifeSound awaitsWell waitsWell
-life-waits cfg l o b y c h =
-    let t = all-told _ h in
-    all-made _ (t .0, (t .1 .0, (all-made _ (lt-ltb _ _ b, (ap not y, (eq-eqb _ _ c, tt))), tt)))
+unfolding awaitsWell waitsWell
+life-waits cfg l o b y c h = life-awaits cfg l (onOperation o) h (all-made _ (lt-ltb _ _ b, (ap not y, (eq-eqb _ _ c, (refl, tt)))))
 
-life-runs : (cfg : Config) (l : Life) → lifeSound cfg l ≡ true → lifeSound cfg (lifeAwaiting l noAwaited) ≡ true
-unfolding lifeSound awaitsWell isNoAwaited
-life-runs cfg l h = let t = all-told _ h in all-made _ (t .0, (t .1 .0, (refl, tt)))
+no-awaited-well : (cfg : Config) (l : Life) → awaitsWell cfg (lifeAwaiting l noAwaited) ≡ true
+unfolding awaitsWell isNoAwaited
+no-awaited-well cfg l = all-made _ (refl, (refl, (refl, tt)))
 
 life-finishes : (cfg : Config) (l : Life) → isServer cfg (l .runnable) ≡ true → lifeSound cfg l ≡ true → lifeSound cfg (lifeFinished l) ≡ true
-unfolding lifeSound awaitsWell waitsWell
+unfolding lifeSound awaitsWell waitsWell heldWell
 life-finishes cfg l e h = let t = all-told _ h in all-made _ (t .0, (e, (t .1 .1 .0, tt)))
 
 pub life-fresh : (cfg : Config) (r : ℕ) → r < cfg .runnables .n → lifeSound cfg (lifeOf r) ≡ true
 unfolding lifeSound awaitsWell isNoAwaited
-life-fresh cfg r b = all-made _ (lt-ltb _ _ b, (refl, (refl, tt)))
+life-fresh cfg r b = all-made _ (lt-ltb _ _ b, (refl, (all-made _ (refl, (refl, (refl, tt))), tt)))
 
 -- a blank stack and a blank slot
 stack-fresh : (cfg : Config) (l : Life) → stackSound cfg l noStack ≡ true
@@ -92,6 +116,17 @@ stack-fresh cfg l = refl
 pub blank-slot : (cfg : Config) → slotSound cfg noSlot ≡ true
 unfolding slotSound isNoSlot isNoLife isNoAwaited isNoOwed isNoStack isNoClient isVoid allOf filled placeFilled allBelow noSlot noStack
 blank-slot cfg = refl
+
+-- a slot after some time
+slot-after : (cfg : Config) (t : ℕ) (x : Slot) → slotSound cfg x ≡ true → slotSound cfg (slotAfter t x) ≡ true
+unfolding slotSound lifeSound owedSound stackSound isNoSlot isNoLife
+slot-after cfg t x = go (x .used)
+  where
+    go : (b : Bool)
+        → pick b (allOf (lifeSound cfg (x .life) ∷ owedSound cfg (x .life) (x .owed) ∷ stackSound cfg (x .life) (x .stack) ∷ [])) (isNoSlot x) ≡ true
+        → pick b (allOf (lifeSound cfg (lifeAfter t (x .life)) ∷ owedSound cfg (x .life) (x .owed) ∷ stackSound cfg (x .life) (x .stack) ∷ [])) (isNoSlot (slotAfter t x)) ≡ true
+    go true h = let z = all-told _ h in let l = all-told _ (z .0) in all-made _ (all-made _ (l .0, (l .1 .0, (awaits-after cfg (x .life) t (l .1 .1 .0), tt))), z .1)
+    go false h = let z = all-told _ h in let l = all-told _ (z .0) in all-made _ (all-made _ (l .0, (no-awaited-after (x .life .awaited) t (l .1 .0), l .1 .1)), z .1)
 
 -- ---- step by step
 
@@ -123,12 +158,24 @@ module _ (cfg : Config) (st : State) where
           changed cfg st s i (waitingOn x o) (z .who .there .used)
           (record { life = life-waits cfg (x .life) o (z .inside) e (z .own) (h .life); owed = h .owed; stack = h .stack })
 
-  pub collect-keeps-slots : (i o : ℕ) → Sound cfg st → CanCollect cfg st i o → slotsSound cfg (goneOn st i .slots) ≡ true
+  -- what an instance waits for, or no longer
+  await-slots : (i : ℕ) (a : Awaited) → Sound cfg st → There st i → awaitsWell cfg (lifeAwaiting (slotIn (st .slots) i .life) a) ≡ true → slotsSound cfg (awaited st i a .slots) ≡ true
   unfolding owedSound stackSound
-  collect-keeps-slots i o s z =
+  await-slots i a s z w =
       let x = slotIn (st .slots) i in
-      let h = instance-at cfg st s i (z .there .used) in
-      changed cfg st s i (runningOn x) (z .there .used) (record { life = life-runs cfg (x .life) (h .life); owed = h .owed; stack = h .stack })
+      let h = instance-at cfg st s i (z .used) in
+      changed cfg st s i (awaiting x a) (z .used) (record { life = life-awaits cfg (x .life) a (h .life) w; owed = h .owed; stack = h .stack })
+
+  pub go-on-keeps-slots : (i : ℕ) → Sound cfg st → There st i → slotsSound cfg (goneOn st i .slots) ≡ true
+  go-on-keeps-slots i s z = await-slots i noAwaited s z (no-awaited-well cfg (slotIn (st .slots) i .life))
+
+  pub hold-keeps-slots : (i q t : ℕ) → Sound cfg st → CanHold cfg st i q t → slotsSound cfg (held st i q t .slots) ≡ true
+  unfolding awaitsWell heldWell
+  hold-keeps-slots i q t s z = await-slots i (onElement q t) s (z .who .there) (all-made _ (lt-ltb _ _ (z .inside), (z .queued, (eq-eqb _ _ (z .own), (le-leb t maxTime (z .time), tt)))))
+
+  pub wait-keeps-slots : (t : ℕ) → Sound cfg st → CanWait cfg st t → slotsSound cfg (waited cfg st t .slots) ≡ true
+  unfolding waited slotsAfter slotsSound slotIn
+  wait-keeps-slots t s z = all-each (λ (i : ℕ) (x : Slot). slotAfter t x) noSlot (λ i y. slotSound cfg y) maxSlots maxSlots (st .slots .at) (s .slots) (λ i b c h. slot-after cfg t (getD (st .slots .at) i noSlot) h)
 
   pub hand-back-keeps-slots : (i : ℕ) (v : Value) → Sound cfg st → CanHandBack cfg st i v → slotsSound cfg (finished st st i .slots) ≡ true
   unfolding owedSound stackSound isNoClient isVoid
@@ -140,7 +187,7 @@ module _ (cfg : Config) (st : State) where
       (record { life = life-finishes cfg (x .life) e (h .life); owed = rw e; stack = h .stack })
 
   pub fail-keeps-slots : (i : ℕ) → Sound cfg st → CanFail st i → slotsSound cfg (failed st i .slots) ≡ true
-  unfolding lifeSound awaitsWell waitsWell owedSound stackSound
+  unfolding lifeSound awaitsWell waitsWell heldWell owedSound stackSound
   fail-keeps-slots i s z =
       let x = slotIn (st .slots) i in
       let h = instance-at cfg st s i (z .who .there .used) in

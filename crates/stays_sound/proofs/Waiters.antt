@@ -10,21 +10,22 @@ use lib.Dec.{eqb}
 use lib.ListN.{length, getD}
 use lib.Seq.{getD-set-other}
 use borrow.Author.Tests.{eqb-true, eq-eqb, ne-eqb}
+use Rattle.numbers.specs.Tags.{operationTag}
 use Rattle.laws.specs.Choice.{pick, both, bit}
-use Rattle.laws.proofs.Choosing.{clash, both-left, all-told, pick-has}
+use Rattle.laws.proofs.Choosing.{clash, all-told, pick-has}
 use Rattle.laws.proofs.Looping.{sum-same}
 use Rattle.laws.proofs.Places.{sum-put, put-each}
 use Rattle.values.specs.Values.{timeoutV}
-use Rattle.faces.specs.Types.{Value, Config, Operation, Operations, Life, Slot, Slots, State}
+use Rattle.faces.specs.Types.{Value, Config, Operation, Operations, Awaited, Life, Slot, Slots, State}
 use Rattle.config.specs.Tables.{maxOperationConfs, runnableConfIn, operationConfIn}
 use Rattle.state.specs.Parts.{noOperation, noSlot}
 use Rattle.state.specs.Tables.{maxSlots, runnableIn, operationIn, slotIn, withOperation, withSlot}
 use Rattle.rules.specs.Rows.{noPart}
 use Rattle.rules.specs.Sound.{isCaller, isNoAwaited, isNoLife, isNoSlot, slotSound, waitsOn, waitersOf}
-use Rattle.effects.specs.Steps.{entering, exiting, entered, exited, opening, waitingOn, callerAfter, called, runningOn, goneOn, closing, closed, clientOf, finishing, finished, failing, failed, handedBack, answered, emptied, instanceOf, lowestEmpty, spawned, waited}
+use Rattle.effects.specs.Steps.{entering, exiting, entered, exited, opening, waitingOn, callerAfter, called, runningOn, awaiting, awaited, goneOn, slotAfter, closing, closed, clientOf, finishing, finished, failing, failed, handedBack, answered, emptied, instanceOf, lowestEmpty, spawned, waited}
 use Rattle.stays_sound.specs.Facts.{Waiters, Sound, CanEnter, CanExit, CanCall, CanCollect, CanHandBack, CanEnd, CanSpawn, CanTimeout, CanWait, CanFail, WaitersIn}
 use Rattle.stays_sound.proofs.Told.{slots-length}
-use Rattle.stays_sound.proofs.Kept.{here, lowest-empty, slot-kept, waited-kept}
+use Rattle.stays_sound.proofs.Kept.{here, lowest-empty, slot-kept, waited-kept, slots-after-kept}
 use Rattle.stays_sound.proofs.Instances.{slot-at}
 
 -- ---- what each kind of change does
@@ -60,7 +61,7 @@ waits-none o x e = rw e
 -- nobody waits in an empty slot
 pub empty-runs : (cfg : Config) (st : State) (k : ℕ) → Sound cfg st → k < maxSlots → slotIn (st .slots) k .used ≡ false → slotIn (st .slots) k .life .awaited .part ≡ noPart
 unfolding slotSound isNoSlot isNoLife isNoAwaited
-empty-runs cfg st k s l u = eqb-true _ _ (both-left (eqb (slotIn (st .slots) k .life .awaited .part) noPart) _ (all-told _ (all-told _ (rw u at (slot-at cfg (st .slots) (s .slots) k l)) .0) .1 .0))
+empty-runs cfg st k s l u = eqb-true _ _ (all-told _ (all-told _ (all-told _ (rw u at (slot-at cfg (st .slots) (s .slots) k l)) .0) .1 .0) .0)
 
 -- ---- the steps that change waiters
 
@@ -136,9 +137,22 @@ spawn-keeps-waiters cfg st r s z =
     (waiters-slot (st .slots) k x (λ o. waits-none o x (no-caller (x .life) (new-runs cfg st r)) ∙ sym (waits-none o (slotIn (st .slots) k) (no-caller (slotIn (st .slots) k .life) (empty-runs cfg st k s (z .slot) (lowest-empty (st .slots) (z .slot)))))))
     (s .waiters)
 
+-- time leaves what is waited for
+pub after-waits : (o t : ℕ) (x : Slot) → waitsOn o (slotAfter t x) ≡ waitsOn o x
+unfolding waitsOn
+after-waits o t x = refl
+
+-- who waits on no operation before and after
+pub await-keeps-waiters : (cfg : Config) (st : State) (i : ℕ) (a : Awaited) → Sound cfg st → isCaller (slotIn (st .slots) i .life) ≡ false → eqb (a .part) operationTag ≡ false → WaitersIn cfg (awaited st i a)
+await-keeps-waiters cfg st i a s e f =
+    waiters-kept cfg (st .operations) _ (st .slots) _ (λ o q. q)
+    (waiters-slot (st .slots) i (awaiting (slotIn (st .slots) i) a) (λ o. waits-none o (awaiting (slotIn (st .slots) i) a) f ∙ sym (waits-none o (slotIn (st .slots) i) e))) (s .waiters)
+
 pub wait-keeps-waiters : (cfg : Config) (st : State) (t : ℕ) → Sound cfg st → CanWait cfg st t → WaitersIn cfg (waited cfg st t)
-unfolding waited
-wait-keeps-waiters cfg st t s z = waiters-kept cfg (st .operations) _ (st .slots) _ (λ o e. sym (waited-kept (λ x. x .calling) t (λ x n. refl) cfg (st .operations) o) ∙ e) (λ o. refl) (s .waiters)
+unfolding waited waitersOf
+wait-keeps-waiters cfg st t s z =
+    waiters-kept cfg (st .operations) _ (st .slots) _ (λ o e. sym (waited-kept (λ x. x .calling) t (λ x n. refl) cfg (st .operations) o) ∙ e)
+    (λ o. sum-same _ _ maxSlots (λ k b. ap bit (slots-after-kept (waitsOn o) t (after-waits o t) (st .slots) k))) (s .waiters)
 
 -- a call on o leaves every other operation as it was
 opened-other : (os : Operations) (o : ℕ) (x : Operation) (p : ℕ) → (p ≡ o → ⊥) → operationIn (withOperation os o x) p ≡ operationIn os p

@@ -6,8 +6,8 @@ use mathlib.Core.Bool.{true, false}
 use mathlib.Core.Path.{_≡_, refl}
 use native.Mathlib.Decide.{ℕ-discrete}
 use lib.Dec.{ltb}
-use Rattle.numbers.specs.Refusals.{malformed, areaTaken, notOnTop, queueFull, numberBorne, stillOpen, notDue, noSlotFree, tooFar, notOver, areasHeld, wrongClient}
-use Rattle.numbers.specs.Codes.{readVariableCode, writeVariableCode, enterCode, exitCode, readCode, writeCode, updatedCode, invalidateCode, receiveCode, sendCode, callCode, resultCode, handBackCode, endCode, spawnCode, timeoutCode, tickCode, waitCode, failCode}
+use Rattle.numbers.specs.Refusals.{malformed, areaTaken, notOnTop, queueFull, numberBorne, stillWaits, notDue, noSlotFree, tooFar, notOver, areasHeld, wrongClient}
+use Rattle.numbers.specs.Codes.{readVariableCode, writeVariableCode, enterCode, exitCode, readCode, writeCode, updatedCode, invalidateCode, receiveCode, sendCode, callCode, resultCode, handBackCode, endCode, spawnCode, timeoutCode, tickCode, waitCode, failCode, holdCode, giveUpCode}
 use Rattle.laws.specs.Choice.{bit}
 use Rattle.laws.proofs.Choosing.{pick-has}
 use Rattle.values.specs.Values.{voidV, numberV, okV, limitV, noDataV, timeoutV}
@@ -17,12 +17,12 @@ use Rattle.state.specs.Queues.{firstValue}
 use Rattle.state.specs.Tables.{maxSlots, runnableIn, variableIn, elementIn, operationIn, slotIn}
 use Rattle.rules.specs.Rows.{rows, rowOf}
 use Rattle.rules.specs.Refusals.{refusalOf}
-use Rattle.effects.specs.Steps.{refused, took, stored, isTaken, entered, onTop, exited, looked, fed, invalidated, fullMask, sentOf, isBare, received, isOpen, isBorne, isBusy, requestsFull, called, goneOn, closed, answers, serves, clientOf, finished, answered, handsNumber, handedBack, failed, isOver, holds, emptied, maySpawn, lowestEmpty, spawned, isUp, ticked, allLet, waited, readVariableOf, writeVariableOf, enterOf, exitOf, readOf, writeOf, updatedOf, invalidateOf, receiveOf, sendOf, callOf, pollOf, collectOf, resultOf, handBackOf, endOf, spawnOf, timeoutOf, tickOf, waitOf, failOf}
+use Rattle.effects.specs.Steps.{refused, took, stored, isTaken, entered, onTop, exited, looked, fed, invalidated, fullMask, sentOf, waits, isBare, received, isOpen, isBorne, isBusy, requestsFull, called, goneOn, closed, answers, serves, clientOf, finished, answered, handsNumber, handedBack, failed, isOver, holds, emptied, maySpawn, lowestEmpty, spawned, isUp, ticked, allLet, waited, readVariableOf, writeVariableOf, enterOf, exitOf, readOf, writeOf, updatedOf, invalidateOf, receiveOf, sendOf, callOf, pollOf, collectOf, resultOf, handBackOf, endOf, spawnOf, timeoutOf, tickOf, waitOf, failOf, held, holdOf, isSpent, giveUpOf}
 use Rattle.effects.specs.Step.{possibleOf}
 use Rattle.effects.proofs.Codes.{Code, coded, actBy, possible-by, possible-barred}
 use Rattle.effects.proofs.Codes as code
-use Rattle.stays_sound.specs.Facts.{CanWriteVariable, CanEnter, CanExit, CanRead, CanFeed, CanInvalidate, CanReceive, CanCall, CanCollect, CanHandBack, CanEnd, CanSpawn, CanTimeout, CanTick, CanWait, CanFail}
-use Rattle.stays_sound.proofs.Says.{let-told, run-told, says-write-variable, says-enter, says-exit, says-read, says-write, says-invalidate, says-receive, says-send, says-call, says-collect, says-hand-back, says-end, says-spawn, says-timeout, says-tick, says-wait, says-fail}
+use Rattle.stays_sound.specs.Facts.{CanWriteVariable, CanEnter, CanExit, CanRead, CanFeed, CanInvalidate, CanReceive, CanCall, CanCollect, CanHandBack, CanEnd, CanSpawn, CanTimeout, CanTick, CanWait, CanFail, CanHold, CanGiveUp}
+use Rattle.stays_sound.proofs.Says.{let-told, run-told, says-write-variable, says-enter, says-exit, says-read, says-write, says-invalidate, says-receive, says-send, says-call, says-collect, says-hand-back, says-end, says-spawn, says-timeout, says-tick, says-wait, says-fail, says-hold, says-give-up}
 
 -- ---- the ways in which a step is taken: by its code, with its answer and the state after it
 
@@ -35,8 +35,8 @@ pub data Way (cfg : Config) (st : State) (s : Step) : ℕ → Value → State �
   write : CanFeed cfg st (s .who) (s .what) (s .argument) → Way cfg st s writeCode voidV (fed cfg st (s .what) (s .argument))
   updated : Way cfg st s updatedCode (numberV (bit (elementIn (st .elements) (s .what) .updated))) st
   invalidate : CanInvalidate cfg st (s .who) (s .what) → Way cfg st s invalidateCode voidV (invalidated cfg st (s .what))
-  receiveNone : isBare st (s .what) ≡ true → Way cfg st s receiveCode noDataV st
-  receive : CanReceive cfg st (s .who) (s .what) → Way cfg st s receiveCode (firstValue (elementIn (st .elements) (s .what) .queue)) (received st (s .what))
+  receiveNone : isBare st (s .what) ≡ true → waits st (s .who) ≡ false → Way cfg st s receiveCode noDataV st
+  receive : CanReceive cfg st (s .who) (s .what) → Way cfg st s receiveCode (firstValue (elementIn (st .elements) (s .what) .queue)) (received st (s .who) (s .what))
   send : CanFeed cfg st (s .who) (s .what) (s .argument) → Way cfg st s sendCode (sentOf (fullMask cfg (st .elements) (s .what))) (fed cfg st (s .what) (s .argument))
   callBusy : isBusy st (s .what) ≡ true → Way cfg st s callCode limitV st
   call : CanCall cfg st (s .who) (s .what) (s .argument) → Way cfg st s callCode okV (called cfg st (s .who) (s .what) (s .argument))
@@ -51,6 +51,8 @@ pub data Way (cfg : Config) (st : State) (s : Step) : ℕ → Value → State �
   tick : CanTick cfg st (s .what) → Way cfg st s tickCode voidV (ticked cfg st (s .what))
   wait : CanWait cfg st (s .argument .number) → Way cfg st s waitCode voidV (waited cfg st (s .argument .number))
   fail : CanFail st (s .who) → Way cfg st s failCode voidV (failed st (s .who))
+  hold : CanHold cfg st (s .who) (s .what) (s .argument .number) → Way cfg st s holdCode voidV (held st (s .who) (s .what) (s .argument .number))
+  giveUp : CanGiveUp st (s .who) → Way cfg st s giveUpCode timeoutV (goneOn st (s .who))
 
 -- ---- those in which it is refused: by its code, with its number
 
@@ -58,9 +60,10 @@ pub data Barred (cfg : Config) (st : State) (s : Step) : ℕ → ℕ → Type 0 
   shared : {n : ℕ} → (refusalOf cfg (st .slots) s ≡ 0 → ⊥) → Barred cfg st s n (refusalOf cfg (st .slots) s)
   enterTaken : isTaken st (s .what) ≡ true → Barred cfg st s enterCode areaTaken
   exitOther : onTop (slotIn (st .slots) (s .who)) (s .what) ≡ false → Barred cfg st s exitCode notOnTop
+  receiveHeld : isBare st (s .what) ≡ true → waits st (s .who) ≡ true → Barred cfg st s receiveCode stillWaits
   callBorne : isBusy st (s .what) ≡ false → isBorne st (s .what) ≡ true → Barred cfg st s callCode numberBorne
   callFull : isBusy st (s .what) ≡ false → requestsFull cfg (st .runnables) (operationConfIn (cfg .operations) (s .what) .server) ≡ true → Barred cfg st s callCode queueFull
-  collectOpen : isOpen st (s .what) ≡ true → Barred cfg st s resultCode stillOpen
+  collectOpen : isOpen st (s .what) ≡ true → Barred cfg st s resultCode stillWaits
   answerNumber : handsNumber st (s .who) (s .argument) ≡ true → Barred cfg st s handBackCode malformed
   answerNone : serves st (s .who) ≡ false → Barred cfg st s handBackCode wrongClient
   endServing : serves st (s .who) ≡ true → Barred cfg st s endCode wrongClient
@@ -70,6 +73,7 @@ pub data Barred (cfg : Config) (st : State) (s : Step) : ℕ → ℕ → Type 0 
   timeoutEarly : isOver st (s .what) ≡ false → Barred cfg st s timeoutCode notOver
   tickEarly : isUp st (s .what) ≡ false → Barred cfg st s tickCode notOver
   waitFar : allLet cfg st (s .argument .number) ≡ false → Barred cfg st s waitCode tooFar
+  giveUpEarly : isSpent st (s .who) ≡ false → Barred cfg st s giveUpCode notOver
 
 -- barred, or gone one of the ways
 pub data Went (cfg : Config) (st : State) (s : Step) (code : ℕ) : Stepped → Type 0 where
@@ -83,7 +87,7 @@ module _ (cfg : Config) (st : State) (s : Step) where
   W n r = Went cfg st s n r
 
   went-by : {n : ℕ} (c : Code n) → s .code ≡ n → refusalOf cfg (st .slots) s ≡ 0 → W n (actBy c cfg st (s .who) (s .what) (s .argument))
-  unfolding rowOf rows readVariableOf writeVariableOf enterOf exitOf readOf writeOf updatedOf invalidateOf receiveOf sendOf callOf resultOf pollOf collectOf handBackOf endOf spawnOf timeoutOf tickOf waitOf failOf
+  unfolding rowOf rows readVariableOf writeVariableOf enterOf exitOf readOf writeOf updatedOf invalidateOf receiveOf sendOf callOf resultOf pollOf collectOf handBackOf endOf spawnOf timeoutOf tickOf waitOf failOf holdOf giveUpOf
   went-by code.readVariable c h = goes readVariable
   went-by code.writeVariable c h = goes (writeVariable (says-write-variable cfg st _ _ _ (let-told cfg st s c h refl)))
   went-by code.enter c h =
@@ -95,7 +99,9 @@ module _ (cfg : Config) (st : State) (s : Step) where
   went-by code.updated c h = goes updated
   went-by code.invalidate c h = goes (invalidate (says-invalidate cfg st _ _ _ (let-told cfg st s c h refl)))
   went-by code.receive c h =
-      pick-has (W receiveCode) (isBare st (s .what)) _ _ (λ e. goes (receiveNone e)) (λ e. goes (receive (says-receive cfg st _ _ _ (let-told cfg st s c h refl) e)))
+      pick-has (W receiveCode) (isBare st (s .what)) _ _
+      (λ e. pick-has (W receiveCode) (waits st (s .who)) _ _ (λ w. bars (receiveHeld e w)) (λ w. goes (receiveNone e w)))
+      (λ e. goes (receive (says-receive cfg st _ _ _ (let-told cfg st s c h refl) e)))
   went-by code.send c h = goes (send (says-send cfg st _ _ _ (let-told cfg st s c h refl)))
   went-by code.call c h =
       pick-has (W callCode) (isBusy st (s .what)) _ _ (λ a. goes (callBusy a))
@@ -123,6 +129,8 @@ module _ (cfg : Config) (st : State) (s : Step) where
   went-by code.tick c h = pick-has (W tickCode) (isUp st (s .what)) _ _ (λ e. goes (tick (says-tick cfg st _ _ _ (run-told cfg st s c h refl) e))) (λ e. bars (tickEarly e))
   went-by code.wait c h = pick-has (W waitCode) (allLet cfg st (s .argument .number)) _ _ (λ e. goes (wait (says-wait cfg st _ e))) (λ e. bars (waitFar e))
   went-by code.fail c h = goes (fail (says-fail cfg st _ _ _ (let-told cfg st s c h refl)))
+  went-by code.hold c h = goes (hold (says-hold cfg st _ _ _ (let-told cfg st s c h refl)))
+  went-by code.giveUp c h = pick-has (W giveUpCode) (isSpent st (s .who)) _ _ (λ e. goes (giveUp (says-give-up cfg st _ _ _ (let-told cfg st s c h refl) e))) (λ e. bars (giveUpEarly e))
 
   pub went : W (s .code) (possibleOf cfg st s)
   went = go (ℕ-discrete (refusalOf cfg (st .slots) s) 0)

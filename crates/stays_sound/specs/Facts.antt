@@ -8,13 +8,13 @@ use Rattle.laws.specs.Choice.{either, bit}
 use Rattle.values.specs.Values.{isPayload}
 use Rattle.faces.specs.Types.{Value, Config, Runnables, Areas, Operations, Slots, State}
 use Rattle.config.specs.Editions.{marksInvalid}
-use Rattle.config.specs.Tables.{maxRunnableConfs, maxAreaConfs, maxOperationConfs, runnableConfIn, areaConfIn, providedConfIn, operationConfIn}
-use Rattle.entries.specs.Faults.{isQueued, configSound}
+use Rattle.config.specs.Tables.{maxRunnableConfs, maxAreaConfs, maxOperationConfs, runnableConfIn, areaConfIn, providedConfIn, operationConfIn, requiredConfIn}
+use Rattle.entries.specs.Faults.{isQueued, configSound, maxTime}
 use Rattle.state.specs.Tables.{maxSlots, runnableIn, areaIn, elementIn, operationIn, timerIn, slotIn}
 use Rattle.state.specs.Queues.{topArea}
 use Rattle.rules.specs.Rows.{noPart}
-use Rattle.rules.specs.Sound.{componentOf, isCaller, slotsOf, holders, clientsAs, waitersOf, shaped, runnablesSound, variablesSound, elementsSound, operationsSound, timersSound, slotsSound}
-use Rattle.effects.specs.Steps.{isTaken, isOpen, serves, hasFailed, handsNumber, isDue, lowestEmpty, operationsLet, timersLet}
+use Rattle.rules.specs.Sound.{componentOf, isWaiting, isCaller, slotsOf, holders, clientsAs, waitersOf, shaped, runnablesSound, variablesSound, elementsSound, operationsSound, timersSound, slotsSound}
+use Rattle.effects.specs.Steps.{isTaken, isOpen, serves, hasFailed, handsNumber, isDue, lowestEmpty, operationsLet, timersLet, slotsLet, isSpent}
 
 -- ---- the clauses over two tables and more, at every place
 
@@ -123,9 +123,11 @@ pub record CanInvalidate (cfg : Config) (st : State) (i p : ℕ) : Type 0 where
   pub inside : p < cfg .provided .n
   pub unqueued : providedConfIn (cfg .provided) p .queued ≡ false
 
--- receive from a queue that is not empty
+-- receive from a queue that is not empty, by an instance that is held there or does not wait
 pub record CanReceive (cfg : Config) (st : State) (i q : ℕ) : Type 0 where
-  pub who : Acts st i
+  pub there : There st i
+  pub free : isCaller (slotIn (st .slots) i .life) ≡ false
+  pub on : isWaiting (slotIn (st .slots) i .life) ≡ true → slotIn (st .slots) i .life .awaited .on ≡ q
   pub inside : q < cfg .required .n
   pub queued : isQueued cfg q ≡ true
   pub some : 0 < elementIn (st .elements) q .queue .queued
@@ -184,12 +186,29 @@ pub record CanTick (cfg : Config) (st : State) (t : ℕ) : Type 0 where
   pub inside : t < cfg .timers .n
   pub zero : timerIn (st .timers) t .count ≡ 0
 
--- every open call and every timer lets the time pass
+-- every open call, every timer and every held instance lets the time pass
 pub record CanWait (cfg : Config) (st : State) (t : ℕ) : Type 0 where
   pub operations : operationsLet cfg (st .operations) t ≡ true
   pub timers : timersLet cfg (st .timers) t ≡ true
+  pub slots : slotsLet (st .slots) t ≡ true
 
 -- an instance that acts, and has not failed before
 pub record CanFail (st : State) (i : ℕ) : Type 0 where
   pub who : Acts st i
   pub fine : hasFailed st i ≡ false
+
+-- an instance that acts, and has not failed, on a queued element of its own component, for an hour at most
+pub record CanHold (cfg : Config) (st : State) (i q t : ℕ) : Type 0 where
+  pub who : Acts st i
+  pub fine : hasFailed st i ≡ false
+  pub inside : q < cfg .required .n
+  pub own : requiredConfIn (cfg .required) q .component ≡ componentOf cfg (slotIn (st .slots) i .life .runnable)
+  pub queued : isQueued cfg q ≡ true
+  pub time : t ≤ maxTime
+
+-- an instance that waits, on no operation, and whose time is up
+pub record CanGiveUp (st : State) (i : ℕ) : Type 0 where
+  pub there : There st i
+  pub waiting : isWaiting (slotIn (st .slots) i .life) ≡ true
+  pub free : isCaller (slotIn (st .slots) i .life) ≡ false
+  pub spent : isSpent st i ≡ true

@@ -8,7 +8,7 @@
 ghost use Prim.Native.Nat.{_≤_, _<_};
 ghost use lib.ListN.{length};
 
-pub(crate) const FORMS: [u8; 2212] = *b"vaVoid
+pub(crate) const FORMS: [u8; 2282] = *b"vaVoid
 vbNumber
 vcOk
 vdLimit
@@ -64,6 +64,8 @@ sqscheduler timeout operation %62 -> %v8
 srscheduler tick timer %72 -> %v8
 ssscheduler wait %w3 -> %v8
 stslot %b1 fail -> %v8
+suslot %b1 hold required %32 for %w3 -> %v8
+svslot %b1 give up -> %v8
 s-step %b0 who %b1 what %b2 %v3 -> %v8
 n-runnable !0
 n-variable !1

@@ -2,7 +2,7 @@
 ghost use mathlib.Core.Path.{_≡_};
 ghost use Prim.Native.Nat.{_-_};
 ghost use Rattle.laws.specs.Choice.{both};
-ghost use Rattle.effects.specs.Steps.{isDue, maySpawn, starting, fresh, instanceOf, foundEmpty, spawnOf, tickOf, operationLets, timerLets, operationsLet, timersLet, operationAfter, timerAfter, runnableAfter, operationsAfter, timersAfter, runnablesAfter, waitOf};
+ghost use Rattle.effects.specs.Steps.{isDue, maySpawn, starting, fresh, instanceOf, foundEmpty, spawnOf, tickOf, operationLets, timerLets, slotLets, operationsLet, timersLet, slotsLet, operationAfter, timerAfter, runnableAfter, slotAfter, operationsAfter, timersAfter, runnablesAfter, slotsAfter, waitOf};
 use config::Config;
 use config::RunnableConf;
 use config::RunnableConfs;
@@ -165,7 +165,10 @@ pub fn tick(cfg: Config, st: State, t: u8) -> Stepped
 
 // ---- 18: wait
 
-// What lets t pass: each open call and each timer has t or more left. A start interval holds nothing back.
+// How many slots there are, as a number of a slot.
+const SLOTS: u8 = Slots::MAX as u8;
+
+// What lets t pass: each open call, each timer and each held instance has t or more left. A start interval holds nothing back.
 fn operation_lets(t: u32, x: Operation) -> bool
     ensures { λ r. ⌜ r ≡ operationLets t x ⌝ }
 {
@@ -176,6 +179,17 @@ fn timer_lets(t: u32, x: Timer) -> bool
     ensures { λ r. ⌜ r ≡ timerLets t x ⌝ }
 {
     t <= x.count
+}
+
+fn slot_lets(t: u32, x: Slot) -> bool
+    ensures { λ r. ⌜ r ≡ slotLets t x ⌝ }
+{
+    let l = x.life;
+    let a = l.awaited;
+    if a.part == numbers::TAG_REQUIRED {
+        return t <= a.left;
+    }
+    true
 }
 
 fn operations_let(cfg: Config, os: Operations, t: u32) -> bool
@@ -210,10 +224,24 @@ fn timers_let(cfg: Config, ts: Timers, t: u32) -> bool
     true
 }
 
-fn all_let(cfg: Config, os: Operations, ts: Timers, t: u32) -> bool
-    ensures { λ r. ⌜ r ≡ both (operationsLet cfg os t) (timersLet cfg ts t) ⌝ }
+fn slots_let(ss: Slots, t: u32) -> bool
+    ensures { λ r. ⌜ r ≡ slotsLet ss t ⌝ }
 {
-    operations_let(cfg, os, t) && timers_let(cfg, ts, t)
+    let mut i: u8 = 0;
+    while i < SLOTS {
+        if slot_lets(t, ss.get(i)) {
+            i = i + 1;
+        } else {
+            return false;
+        }
+    }
+    true
+}
+
+fn all_let(cfg: Config, os: Operations, ts: Timers, ss: Slots, t: u32) -> bool
+    ensures { λ r. ⌜ r ≡ both (operationsLet cfg os t) (both (timersLet cfg ts t) (slotsLet ss t)) ⌝ }
+{
+    operations_let(cfg, os, t) && (timers_let(cfg, ts, t) && slots_let(ss, t))
 }
 
 // What is left of n after t has passed.
@@ -252,6 +280,16 @@ fn runnable_after(t: u32, x: Runnable) -> Runnable
     let mut y = x;
     y.interval = less(x.interval, t);
     y
+}
+
+// An instance that is not held has 0 left, which stays.
+fn slot_after(t: u32, x: Slot) -> Slot
+    ensures { λ r. ⌜ r ≡ slotAfter t x ⌝ }
+{
+    let l = x.life;
+    let mut a = l.awaited;
+    a.left = less(a.left, t);
+    shared_steps::awaiting(x, a)
 }
 
 fn operations_after(cfg: Config, os: Operations, t: u32) -> Operations
@@ -299,18 +337,32 @@ fn runnables_after(cfg: Config, rs: Runnables, t: u32) -> Runnables
     u
 }
 
-// Time passes if every open call and every timer lets it.
+fn slots_after(ss: Slots, t: u32) -> Slots
+    ensures { λ r. ⌜ r ≡ slotsAfter ss t ⌝ }
+{
+    let mut u = ss;
+    let mut i: u8 = 0;
+    while i < SLOTS {
+        u = u.with(i, slot_after(t, u.get(i)));
+        i = i + 1;
+    }
+    u
+}
+
+// Time passes if every open call, every timer and every held instance lets it.
 pub fn wait(cfg: Config, st: State, t: u32) -> Stepped
     ensures { λ r. ⌜ r ≡ waitOf cfg st t ⌝ }
 {
     let os = st.operations;
     let ts = st.timers;
     let rs = st.runnables;
-    if all_let(cfg, os, ts, t) {
+    let ss = st.slots;
+    if all_let(cfg, os, ts, ss, t) {
         let mut next = st;
         next.operations = operations_after(cfg, os, t);
         next.timers = timers_after(cfg, ts, t);
         next.runnables = runnables_after(cfg, rs, t);
+        next.slots = slots_after(ss, t);
         return shared_steps::take(Value::VOID, next);
     }
     shared_steps::refuse(numbers::TOO_FAR, st)

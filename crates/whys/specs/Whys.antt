@@ -6,8 +6,8 @@ use lib.Dec.{ltb, leb, eqb}
 use lib.ListN.{getD}
 use Rattle.laws.specs.Choice.{pick, both}
 use Rattle.laws.specs.Loop.{anyBelow, firstBelow}
-use Rattle.numbers.specs.Refusals.{malformed, stepGone, notThere, notOwn, barred, areaTaken, notOnTop, queueFull, numberBorne, stillOpen, notDue, noSlotFree, tooFar, notOver, areasHeld, wrongClient, otherAnswer}
-use Rattle.numbers.specs.Codes.{timeoutCode}
+use Rattle.numbers.specs.Refusals.{malformed, stepGone, notThere, notOwn, barred, areaTaken, notOnTop, queueFull, numberBorne, notDue, noSlotFree, tooFar, notOver, areasHeld, wrongClient, otherAnswer, stillWaits}
+use Rattle.numbers.specs.Codes.{timeoutCode, receiveCode, giveUpCode}
 use Rattle.numbers.specs.Tags.{operationTag, timerTag}
 use Rattle.faces.specs.Types.{Step, Config, RunnableConf, Life, Owed, Stack, Runnable, Slots, State}
 use Rattle.config.specs.Tables.{runnableConfIn, operationConfIn}
@@ -15,12 +15,12 @@ use Rattle.entries.specs.Entries.{countOf, entryOf}
 use Rattle.state.specs.Tables.{maxSlots, runnableIn, operationIn, timerIn, slotIn}
 use Rattle.state.specs.Queues.{topArea}
 use Rattle.rules.specs.declared.Row.{Row}
-use Rattle.rules.specs.Sound.{componentOf, isClient}
+use Rattle.rules.specs.Sound.{componentOf, isCaller, isClient}
 use Rattle.rules.specs.Rows.{aSlot, scheduler, noPart, rowOf}
 use Rattle.rules.specs.Refusals.{formed, waitingLets}
 use Rattle.whys.specs.declared.Cause.{Cause}
-use Rattle.whys.specs.declared.Cause.the-variants.{NoCause, NoCode, HasWho, HasWhat, BadArgument, HandsNumber, StepGone, NoSlot, EmptySlot, NoPart, Foreign, IsQueued, NotQueued, WaitsOn, IsFinished, HasFailed, FailedBack, NotWaiting, HeldBy, NoneHeld, OnTop, QueueFull, StillServed, StillQueued, CallOpen, InInterval, Runs, NotPending, NoRequest, NoRoom, Stops, NotOpen, CallRuns, TimerRuns, StillHeld, NoClient, HasClient, Differs}
-use Rattle.passing.specs.Passing.{passesOf, operationStop, timerStop}
+use Rattle.whys.specs.declared.Cause.the-variants.{NoCause, NoCode, HasWho, HasWhat, BadArgument, HandsNumber, StepGone, NoSlot, EmptySlot, NoPart, Foreign, IsQueued, NotQueued, WaitsOn, IsFinished, HasFailed, FailedBack, NotWaiting, HeldBy, NoneHeld, OnTop, QueueFull, StillServed, StillQueued, CallOpen, InInterval, Runs, NotPending, NoRequest, NoRoom, Stops, NotOpen, CallRuns, TimerRuns, StillHeld, NoClient, HasClient, Differs, HeldOn, QueueEmpty, HoldStops, HoldRuns}
+use Rattle.passing.specs.Passing.{passesOf, operationStop, timerStop, slotStop}
 
 -- the number of refusal that a cause stands for; 0 for none ("Numbers of refusal")
 abbrev pub causeRefusal : Cause → ℕ
@@ -38,6 +38,7 @@ causeRefusal (Foreign a b) = notOwn
 causeRefusal IsQueued = notOwn
 causeRefusal NotQueued = notOwn
 causeRefusal (WaitsOn o) = barred
+causeRefusal (HeldOn q) = barred
 causeRefusal IsFinished = barred
 causeRefusal HasFailed = barred
 causeRefusal FailedBack = barred
@@ -48,16 +49,19 @@ causeRefusal (OnTop a) = notOnTop
 causeRefusal (QueueFull r n) = queueFull
 causeRefusal (StillServed i) = numberBorne
 causeRefusal (StillQueued r) = numberBorne
-causeRefusal (CallOpen t) = stillOpen
+causeRefusal (CallOpen t) = stillWaits
+causeRefusal (QueueEmpty t) = stillWaits
 causeRefusal (InInterval t) = notDue
 causeRefusal (Runs n) = notDue
 causeRefusal NotPending = notDue
 causeRefusal NoRequest = notDue
 causeRefusal NoRoom = noSlotFree
 causeRefusal (Stops tag k t) = tooFar
+causeRefusal (HoldStops i t) = tooFar
 causeRefusal NotOpen = notOver
 causeRefusal (CallRuns t) = notOver
 causeRefusal (TimerRuns t) = notOver
+causeRefusal (HoldRuns t) = notOver
 causeRefusal (StillHeld a) = areasHeld
 causeRefusal NoClient = wrongClient
 causeRefusal (HasClient o) = wrongClient
@@ -105,13 +109,13 @@ ownCause cfg ss r s =
 
 -- ---- 5
 
--- it waits, and for something else; it has failed, and handed back or not yet; it is finished; or it asks without waiting ("Numbers of refusal", 5; W-205)
+-- it waits or is held, and for something else; it has failed, and handed back or not yet; it is finished; or it asks without waiting ("Numbers of refusal", 5; W-205)
 unfoldable pub lifeCause : Life → Step → Cause
 lifeCause l s =
     pick (waitingLets l (s .code) (s .what))
     (pick (l .failed) (pick (l .finished) FailedBack HasFailed)
     (pick (l .finished) IsFinished NotWaiting))
-    (WaitsOn (l .awaited .on))
+    (pick (isCaller l) (WaitsOn (l .awaited .on)) (HeldOn (l .awaited .on)))
 
 -- ---- 6, 7, 15: areas
 
@@ -152,9 +156,11 @@ borneCause cfg st o =
     (StillServed (bearerOf (st .slots) o (operationIn (st .operations) o .number)))
     (StillQueued (operationConfIn (cfg .operations) o .server))
 
--- how long the call may still last ("Numbers of refusal", 10)
-unfoldable pub openCause : State → ℕ → Cause
-openCause st o = CallOpen (operationIn (st .operations) o .count)
+-- how long the call may still last, or the instance is held still ("Numbers of refusal", 10; W-210)
+unfoldable pub openCause : State → Step → Cause
+openCause st s =
+    pick (eqb (s .code) receiveCode) (QueueEmpty (slotIn (st .slots) (s .who) .life .awaited .left))
+    (CallOpen (operationIn (st .operations) (s .what) .count))
 
 -- ---- 11: the first need that is missing
 
@@ -172,18 +178,20 @@ spawnCause c x =
 
 -- ---- 13, 14: time
 
--- the first count that lets no more than t pass, of operations, then timers ("Numbers of refusal", 13; W-203)
+-- the first count that lets no more than t pass, of operations, then timers, then held instances ("Numbers of refusal", 13; W-203, W-210)
 unfoldable pub stopCause : Config → State → ℕ → Cause
 stopCause cfg st t =
     pick (ltb (operationStop cfg (st .operations) t) (cfg .operations .n)) (Stops operationTag (operationStop cfg (st .operations) t) t)
-    (Stops timerTag (timerStop cfg (st .timers) t) t)
+    (pick (ltb (timerStop cfg (st .timers) t) (cfg .timers .n)) (Stops timerTag (timerStop cfg (st .timers) t) t)
+    (HoldStops (slotStop (st .slots) t) t))
 
--- a timeout without a call, or before its time; a tick before its time ("Numbers of refusal", 14)
+-- a timeout without a call, or before its time; a tick, or giving up, before its time ("Numbers of refusal", 14; W-210)
 unfoldable pub earlyCause : State → Step → Cause
 earlyCause st s =
     pick (eqb (s .code) timeoutCode)
     (pick (operationIn (st .operations) (s .what) .calling) (CallRuns (operationIn (st .operations) (s .what) .count)) NotOpen)
-    (TimerRuns (timerIn (st .timers) (s .what) .count))
+    (pick (eqb (s .code) giveUpCode) (HoldRuns (slotIn (st .slots) (s .who) .life .awaited .left))
+    (TimerRuns (timerIn (st .timers) (s .what) .count)))
 
 -- ---- 16
 
@@ -204,7 +212,7 @@ whyOf cfg st s n =
     (pick (eqb n notOnTop) (topCause (st .slots) (s .who))
     (pick (eqb n queueFull) (fullCause cfg (s .what))
     (pick (eqb n numberBorne) (borneCause cfg st (s .what))
-    (pick (eqb n stillOpen) (openCause st (s .what))
+    (pick (eqb n stillWaits) (openCause st s)
     (pick (eqb n notDue) (spawnCause (runnableConfIn (cfg .runnables) (s .what)) (runnableIn (st .runnables) (s .what)))
     (pick (eqb n noSlotFree) NoRoom
     (pick (eqb n tooFar) (stopCause cfg st (passesOf cfg st (s .argument .number)))

@@ -2,7 +2,7 @@
 ghost use mathlib.Core.Path.{_≡_};
 ghost use lib.ListN.{getD};
 ghost use Rattle.config.specs.Tables.{runnableConfIn};
-ghost use Rattle.state.specs.Tables.{runnableIn};
+ghost use Rattle.state.specs.Tables.{runnableIn, slotIn};
 ghost use Rattle.whys.specs.Whys.{formCause, slotCause, codeCause, thereCause, ownCause, lifeCause, holdsOf, holderOf, topCause, fullCause, servesAs, bearerOf, borneCause, openCause, dueCause, spawnCause, stopCause, earlyCause, stillCause, owedCause, whyOf};
 use config::AreaConfs;
 use config::Config;
@@ -21,7 +21,7 @@ use values::Value;
 pub enum Cause {
     // it is not refused
     NoCause,
-    // (2) the code is none of 1 to 19; the scheduler has no slot; no part is named here; the argument is not of this kind: 0 none, 1 a payload, 2 a Number; an instance that has failed hands back a Number
+    // (2) the code is none of 1 to 21; the scheduler has no slot; no part is named here; the argument is not of this kind: 0 none, 1 a payload, 2 a Number, 3 a time; an instance that has failed hands back a Number
     NoCode,
     HasWho,
     HasWhat,
@@ -37,8 +37,9 @@ pub enum Cause {
     Foreign(u8, u8),
     IsQueued,
     NotQueued,
-    // (5) the instance waits on this operation; it is finished; it has failed, and not handed back; it has failed, and handed back; it does not wait
+    // (5) the instance waits on this operation; it is held on this element; it is finished; it has failed, and not handed back; it has failed, and handed back; it does not wait
     WaitsOn(u8),
+    HeldOn(u8),
     IsFinished,
     HasFailed,
     FailedBack,
@@ -53,8 +54,9 @@ pub enum Cause {
     // (28) this slot serves an earlier call that bears the operation's number; one that does waits in the queue of this server
     StillServed(u8),
     StillQueued(u8),
-    // (10) the call is open, with so many ms left
+    // (10) the call is open, with so many ms left; the queue is empty, and the instance is held for so many ms still
     CallOpen(u32),
+    QueueEmpty(u32),
     // (11) the start interval has so many ms left; so many instances run; it is not pending; no request waits
     InInterval(u32),
     Runs(u8),
@@ -62,12 +64,14 @@ pub enum Cause {
     NoRequest,
     // (12) all slots are in use
     NoRoom,
-    // (13) the count of this operation or timer, by its tag and number, lets no more ms pass than this
+    // (13) the count of this operation or timer, by its tag and number, lets no more ms pass than this; the instance in this slot, which is held, lets no more
     Stops(u8, u8, u32),
-    // (14) no call is open; the call, or the timer, has so many ms left
+    HoldStops(u8, u32),
+    // (14) no call is open; the call, the timer, or the held instance, has so many ms left
     NotOpen,
     CallRuns(u32),
     TimerRuns(u32),
+    HoldRuns(u32),
     // (15) this area is on top of those that are still held
     StillHeld(u8),
     // (16) the instance has no client; it has one, of this operation
@@ -159,7 +163,7 @@ fn own_cause(cfg: Config, slots: Slots, row: Row, s: Step) -> Cause
     Cause::Foreign(e.first, c.component)
 }
 
-// 5: the instance waits, has failed, is finished, or does not wait.
+// 5: the instance waits or is held, has failed, is finished, or does not wait.
 fn life_cause(l: Life, s: Step) -> Cause
     ensures { λ r. ⌜ r ≡ lifeCause l s ⌝ }
 {
@@ -176,7 +180,10 @@ fn life_cause(l: Life, s: Step) -> Cause
         return Cause::NotWaiting;
     }
     let a = l.awaited;
-    Cause::WaitsOn(a.on)
+    if a.part == numbers::TAG_OPERATION {
+        return Cause::WaitsOn(a.on);
+    }
+    Cause::HeldOn(a.on)
 }
 
 fn area_at(s: Stack, j: u8) -> u8
@@ -324,7 +331,23 @@ fn stop_cause(cfg: Config, st: State, t: u32) -> Cause
         return Cause::Stops(numbers::TAG_OPERATION, o, t);
     }
     let ts = st.timers;
-    Cause::Stops(numbers::TAG_TIMER, passing::timer_stop(cfg, ts, t), t)
+    let k = passing::timer_stop(cfg, ts, t);
+    let timers = cfg.timers;
+    if k < timers.n {
+        return Cause::Stops(numbers::TAG_TIMER, k, t);
+    }
+    let slots = st.slots;
+    Cause::HoldStops(passing::slot_stop(slots, t), t)
+}
+
+// How long the instance in the slot i is held still.
+fn left_of(slots: Slots, i: u8) -> u32
+    ensures { λ r. ⌜ r ≡ slotIn slots i .life .awaited .left ⌝ }
+{
+    let x = slots.get(i);
+    let l = x.life;
+    let a = l.awaited;
+    a.left
 }
 
 // 14: no call is open, or the count has not run out.
@@ -338,6 +361,10 @@ fn early_cause(st: State, s: Step) -> Cause
             return Cause::CallRuns(x.count);
         }
         return Cause::NotOpen;
+    }
+    if s.code == numbers::CODE_GIVE_UP {
+        let slots = st.slots;
+        return Cause::HoldRuns(left_of(slots, s.who));
     }
     let ts = st.timers;
     let y = ts.get(s.what);
@@ -366,12 +393,16 @@ fn still_cause(slots: Slots, i: u8) -> Cause
     Cause::StillHeld(t.top())
 }
 
-// 10: how long the open call may last still.
-fn open_cause(st: State, o: u8) -> Cause
-    ensures { λ r. ⌜ r ≡ openCause st o ⌝ }
+// 10: how long the open call may last still, or the instance is held still.
+fn open_cause(st: State, s: Step) -> Cause
+    ensures { λ r. ⌜ r ≡ openCause st s ⌝ }
 {
+    if s.code == numbers::CODE_RECEIVE {
+        let slots = st.slots;
+        return Cause::QueueEmpty(left_of(slots, s.who));
+    }
     let os = st.operations;
-    let x = os.get(o);
+    let x = os.get(s.what);
     Cause::CallOpen(x.count)
 }
 
@@ -401,7 +432,7 @@ pub fn why(cfg: Config, st: State, s: Step, n: u8) -> Cause
         numbers::NOT_ON_TOP => top_cause(slots, s.who),
         numbers::QUEUE_FULL => full_cause(cfg, s.what),
         numbers::NUMBER_BORNE => borne_cause(cfg, st, s.what),
-        numbers::STILL_OPEN => open_cause(st, s.what),
+        numbers::STILL_WAITS => open_cause(st, s),
         numbers::NOT_DUE => unspawned_cause(cfg, st, s.what),
         numbers::NO_SLOT_FREE => Cause::NoRoom,
         numbers::TOO_FAR => stop_cause(cfg, st, passing::passes(cfg, st, v.number)),

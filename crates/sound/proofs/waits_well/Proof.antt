@@ -1,6 +1,7 @@
 -- `sound::waits_well` meets its contract.
 -- Assumes nothing.
-use borrow.Author.Tests.{lt-ltb, le-ltb}
+use borrow.Author.Tests.{lt-ltb, le-ltb, eq-eqb, ne-eqb}
+use Rattle.config.specs.Tables.{runnableConfIn}
 use Rattle.laws.specs.Choice.{allOf}
 use Rattle.laws.proofs.Choosing.{both-true}
 use Rattle.rules.specs.Sound.{waitsWell}
@@ -8,17 +9,20 @@ use Rattle.sound.proofs.waits_well.Statement.{statement}
 use Rattle.sound.proofs.waits_well.Tie as tie
 
 returns : tie.Need-returns
-unfolding waitsWell allOf
+unfolding waitsWell allOf runnableConfIn
 returns c = rw (le-ltb _ _ (c .if1 .taken))
 
 returns-2 : tie.Need-returns-2
-unfolding waitsWell allOf
+unfolding waitsWell allOf runnableConfIn
 returns-2 c = rw (lt-ltb _ _ (c .before .before .if1 .left), ← c .before .get .ensures, c .if2 .taken)
 
 returns-3 : tie.Need-returns-3
-unfolding waitsWell allOf
-returns-3 c = rw (c .before .before .get2 .ensures, lt-ltb _ _ (c .before .before .before .before .before .before .if1 .left), ← c .before .before .before .before .before .get .ensures, c .before .before .before .before .if2 .left) (both-true _)
+unfolding waitsWell allOf runnableConfIn
+returns-3 c = rw (lt-ltb _ _ (c .before .before .before .before .before .before .before .if1 .left), ← c .before .before .before .before .before .before .get .ensures, c .before .before .before .before .before .if2 .left, ← c .before .before .before .get2 .ensures, ne-eqb _ _ (c .if3 .taken))
+
+returns-4 : tie.Need-returns-4
+unfolding waitsWell allOf runnableConfIn
+returns-4 c = rw (lt-ltb _ _ (c .before .before .before .before .before .before .before .before .if1 .left), ← c .before .before .before .before .before .before .before .get .ensures, c .before .before .before .before .before .before .if2 .left, ← c .before .before .before .before .get2 .ensures, eq-eqb _ _ (c .before .if3 .left)) (both-true _)
 
 pub waits-well-spec : {M : Type 1} → statement M
-waits-well-spec =
-    tie.close (tie.spec returns (λ c κs. tt) returns-2 (λ c κs. tt) returns-3)
+waits-well-spec = tie.close (tie.spec returns (λ c κs. tt) returns-2 (λ c κs. tt) returns-3 returns-4)
