@@ -44,7 +44,8 @@ use Rattle.stays_sound.proofs.Elements.{linked-alike}
 use Rattle.stays_sound.proofs.Ways.{Way}
 use Rattle.stays_sound.proofs.Ways as go
 use Rattle.stays_sound.proofs.Accepted.{accepted, answerIn, gone, way}
-use Rattle.history.specs.History.{timeSince, heldIn}
+use Rattle.history.specs.History.{tracedFrom, timeSince, heldIn}
+use Rattle.history.proofs.Traced.{traced-one, traced-always}
 use Rattle.history.proofs.Proofs.{held-goes-on}
 use Rattle.history.specs.Promises.{Run, OfSteps}
 use Rattle.history.specs.Sends.{Said}
@@ -54,18 +55,13 @@ use Rattle.history.proofs.Lets.{sent-queued}
 use Rattle.history.proofs.Runs.{Halves, halves, first, along}
 use Rattle.history.proofs.Sends.{said}
 use Rattle.crew.specs.Crew.{NamesParts}
-use Rattle.crew.specs.Values.{valuesAfter, valuesFrom, valuesIn, ValuesWaitingFit, OkHadRoom, FullNamesSpent, ReceivesOldest, HeldWaits}
+use Rattle.crew.specs.Values.{valuesAfter, valuesIn, ValuesWaitingFit, OkHadRoom, FullNamesSpent, ReceivesOldest, HeldWaits}
 
 -- ---- the followed values, step by step
 
-values-append : (cfg : Config) (q : ℕ) (w : List Value) (xs ys : List Step) → valuesFrom cfg q w (xs ++ ys) ≡ valuesFrom cfg q (valuesFrom cfg q w xs) ys
-unfolding valuesFrom
-values-append cfg q w [] ys = refl
-values-append cfg q w (x ∷ xs) ys = values-append cfg q (valuesAfter cfg q w x) xs ys
-
 values-one : (cfg : Config) (q : ℕ) (before : List Step) (s : Step) → valuesIn cfg q (before ++ (s ∷ [])) ≡ valuesAfter cfg q (valuesIn cfg q before) s
-unfolding valuesIn valuesFrom
-values-one cfg q before s = values-append cfg q [] before (s ∷ [])
+unfolding valuesIn
+values-one cfg q before s = traced-one (λ n. valuesAfter cfg q) [] before s
 
 -- a step never adds past the capacity
 after-fits : (cfg : Config) (q : ℕ) (w : List Value) (s : Step) → length w ≤ requiredConfIn (cfg .required) q .capacity → length (valuesAfter cfg q w s) ≤ requiredConfIn (cfg .required) q .capacity
@@ -79,14 +75,9 @@ after-fits cfg q w s h =
     fits : List Value → Type 0
     fits l = length l ≤ requiredConfIn (cfg .required) q .capacity
 
-from-fits : (cfg : Config) (q : ℕ) (w : List Value) (rs : List Step) → length w ≤ requiredConfIn (cfg .required) q .capacity → length (valuesFrom cfg q w rs) ≤ requiredConfIn (cfg .required) q .capacity
-unfolding valuesFrom
-from-fits cfg q w [] h = h
-from-fits cfg q w (s ∷ rs) h = from-fits cfg q (valuesAfter cfg q w s) rs (after-fits cfg q w s h)
-
 pub values-waiting-fit : (cfg : Config) (rs : List Step) → ValuesWaitingFit cfg rs
 unfolding valuesIn
-values-waiting-fit cfg rs q = from-fits cfg q [] rs (omega arith)
+values-waiting-fit cfg rs q = traced-always (λ n. valuesAfter cfg q) (λ n w. length w ≤ requiredConfIn (cfg .required) q .capacity) (λ n w s h. after-fits cfg q w s h) [] rs (omega arith)
 
 -- ---- what a step was let through with: the part that it names is there, a write is of an element that is not queued, a receive of one that is
 
@@ -279,7 +270,7 @@ module _ (cfg : Config) (c : configSound cfg ≡ true) (q : ℕ) (y : isQueued c
     follows-way s w a k (go.giveUp z) r = follows-other s _ w k refl refl refl r
 
   follows-at : (rs : List Step) (st : State) → Run cfg rs st → Follows (st .elements) q (valuesIn cfg q rs)
-  unfolding valuesIn valuesFrom
+  unfolding valuesIn tracedFrom
   follows-at =
       along cfg (λ before m. Follows (m .elements) q (valuesIn cfg q before))
       (λ before s m r f a. rw (values-one cfg q before s) (follows-way m (told cfg m (accepted cfg m s a .0)) s (valuesIn cfg q before) a refl (gone cfg m s refl a) f))

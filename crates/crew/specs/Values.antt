@@ -15,7 +15,7 @@ use Rattle.values.specs.Values.{okV, noDataV, fullV, timeoutV}
 use Rattle.config.specs.Tables.{requiredConfIn}
 use Rattle.rules.specs.Rows.{aSlot, rowOf}
 use Rattle.effects.specs.Steps.{linked}
-use Rattle.history.specs.History.{timeSince, heldIn, HeldFor}
+use Rattle.history.specs.History.{traced, timeSince, heldIn, HeldFor}
 
 -- what waits at the required element q after the step s, if w did before: a send that is linked there adds its value as the newest while there is room, a receive there takes the oldest ("The eighteen steps", 9 and 10)
 unfoldable pub valuesAfter : Config → ℕ → List Value → Step → List Value
@@ -24,14 +24,9 @@ valuesAfter cfg q w s =
     (pick (both (eqb (s .code) receiveCode) (eqb (s .what) q)) (drop 1 w)
     w)
 
--- the same after more steps ("The eighteen steps", 9 and 10)
-unfoldable pub valuesFrom : Config → ℕ → List Value → List Step → List Value
-valuesFrom cfg q w [] = w
-valuesFrom cfg q w (s ∷ rs) = valuesFrom cfg q (valuesAfter cfg q w s) rs
-
 -- the values that wait at the required element q after the steps of a recording, the oldest in front ("The eighteen steps", 9 and 10)
 unfoldable pub valuesIn : Config → ℕ → List Step → List Value
-valuesIn cfg q rs = valuesFrom cfg q [] rs
+valuesIn cfg q rs = traced (λ n. valuesAfter cfg q) [] rs
 
 -- no queue of values passes its capacity ("How tight the contracts are", demand 3)
 abbrev pub ValuesWaitingFit : Config → List Step → Type 0

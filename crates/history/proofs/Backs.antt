@@ -25,21 +25,17 @@ use Rattle.effects.specs.Steps.{called, callerAfter, waitingOn, closed, finishi
 use Rattle.stays_sound.specs.Facts.{Sound, CanSpawn}
 use Rattle.stays_sound.proofs.Told.{slots-length}
 use Rattle.stays_sound.proofs.Kept.{here, slot-kept, slot-has, slot-inside, caller-kept}
-use Rattle.history.specs.History.{Request, noRequest, History, nothing, observe, backAfter, backFrom, backIn}
+use Rattle.history.specs.History.{Request, noRequest, History, nothing, observe, tracedFrom, backAfter, backIn}
 use Rattle.history.proofs.Tied.{Tied}
 use Rattle.history.proofs.Beside.{all-alike, set-each}
+use Rattle.history.proofs.Traced.{traced-one}
 use Rattle.history.proofs.Deeds.{Deed, pass, call, answer, late, end, server, plain, timeout, fail, other-code, pass-adds, call-adds, answer-adds, late-adds, end-adds, server-adds, plain-adds, timeout-adds, fail-adds, server-capacity}
 
 -- ---- who has handed back, step by step
 
-back-append : (i : ℕ) (w : Bool) (xs ys : List Step) → backFrom i w (xs ++ ys) ≡ backFrom i (backFrom i w xs) ys
-unfolding backFrom
-back-append i w [] ys = refl
-back-append i w (x ∷ xs) ys = back-append i (backAfter i w x) xs ys
-
 back-one : (i : ℕ) (rs : List Step) (s : Step) → backIn i (rs ++ (s ∷ [])) ≡ backAfter i (backIn i rs) s
-unfolding backIn backFrom
-back-one i rs s = back-append i false rs (s ∷ [])
+unfolding backIn
+back-one i rs s = traced-one (λ n. backAfter i) false rs s
 
 module _ (i : ℕ) (w : Bool) (s : Step) where
   back-spawn : s .code ≡ spawnCode → s .claim .number ≡ i → backAfter i w s ≡ false
@@ -69,7 +65,7 @@ pub record Backs (ss : Slots) (rs : List Step) : Type 0 where
   pub finished : (i : ℕ) → slotIn ss i .life .finished ≡ backIn i rs
 
 pub backs-start : (cfg : Config) → Backs (startOf cfg .slots) []
-unfolding startOf noSlots slotIn noSlot backIn backFrom
+unfolding startOf noSlots slotIn noSlot backIn tracedFrom
 backs-start cfg = record { finished = λ i. all-alike (λ (y : Slot). y .life .finished ≡ false) 32 noSlot i refl }
 
 module _ (ss : Slots) (rs : List Step) (s : Step) (l : Backs ss rs) where

@@ -26,23 +26,19 @@ use Rattle.rules.proofs.Configured.{areas-most}
 use Rattle.stays_sound.proofs.Told.{areas-length}
 use Rattle.stays_sound.proofs.Kept.{slot-kept, slot-inside, here}
 use Rattle.stays_sound.proofs.Areas.{enter-stack, exit-stack, call-stack, end-stack, spawn-stack}
-use Rattle.history.specs.History.{holderAfter, holderFrom, holderOf}
+use Rattle.history.specs.History.{tracedFrom, holderAfter, holderOf}
 use Rattle.history.specs.Promises.{HeldBy}
 use Rattle.history.proofs.Beside.{all-alike}
+use Rattle.history.proofs.Traced.{traced-one}
 use Rattle.history.proofs.Passes.{Unmoved}
 use Rattle.history.proofs.Deeds.{Moves, enters, exits, stays, Deed, pass, call, answer, late, end, server, plain, timeout, fail, other-code}
 use Rattle.history.proofs.Finals.{holder, no-holder}
 
 -- ---- the holder, step by step
 
-holder-append : (a : ℕ) (w : Option ℕ) (xs ys : List Step) → holderFrom a w (xs ++ ys) ≡ holderFrom a (holderFrom a w xs) ys
-unfolding holderFrom
-holder-append a w [] ys = refl
-holder-append a w (x ∷ xs) ys = holder-append a (holderAfter a w x) xs ys
-
 pub holder-one : (a : ℕ) (before : List Step) (s : Step) → holderOf a (before ++ (s ∷ [])) ≡ holderAfter a (holderOf a before) s
-unfolding holderOf holderFrom
-holder-one a before s = holder-append a none before (s ∷ [])
+unfolding holderOf
+holder-one a before s = traced-one (λ n. holderAfter a) none before s
 
 enter-makes : (a : ℕ) (w : Option ℕ) (s : Step) → s .code ≡ enterCode → s .what ≡ a → holderAfter a w s ≡ some (s .who)
 unfolding holderAfter
@@ -95,7 +91,7 @@ Holds st a none = areaIn (st .areas) a .taken ≡ false
 Holds st a (some i) = (i < 32) × (1 ≤ timesIn a (slotIn (st .slots) i .stack))
 
 pub holds-start : (cfg : Config) (a : ℕ) → Holds (startOf cfg) a (holderOf a [])
-unfolding startOf noAreas areaIn holderOf holderFrom
+unfolding startOf noAreas areaIn holderOf tracedFrom
 holds-start cfg a = all-alike (λ (y : Area). y .taken ≡ false) 16 noArea a refl
 
 -- one area replaced, and one slot

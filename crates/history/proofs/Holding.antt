@@ -6,7 +6,7 @@ use mathlib.Core.Bool.{Bool, true, false}
 use mathlib.Core.List.{List, [], _∷_, _++_, append-assoc}
 use mathlib.Core.Path.{_≡_, refl, sym, _∙_, ap}
 use native.Mathlib.Decide.{ℕ-discrete}
-use native.Mathlib.Nat.{add-zero, zero-add}
+use native.Mathlib.Nat.{add-zero}
 use native.Mathlib.Omega.{arith}
 use lib.Dec.{eqb}
 use lib.ListN.{length, getD, length-append}
@@ -34,8 +34,9 @@ use Rattle.stays_sound.proofs.Waiters.{empty-runs, new-runs}
 use Rattle.stays_sound.proofs.Ways.{Way}
 use Rattle.stays_sound.proofs.Ways as go
 use Rattle.stays_sound.proofs.Accepted.{accepted, gone}
-use Rattle.history.specs.History.{timeOf, timeSince, heldAfter, heldFrom, heldIn, HeldFor}
+use Rattle.history.specs.History.{timeOf, timeSince, tracedFrom, heldAfter, heldIn, HeldFor}
 use Rattle.history.proofs.Beside.{all-alike}
+use Rattle.history.proofs.Traced.{traced-one}
 use Rattle.history.proofs.Timed.{since-more, since-now, still}
 use Rattle.history.proofs.Deeds.{other-code}
 
@@ -158,16 +159,9 @@ module _ (cfg : Config) (st : State) (s : Step) where
 
 -- ---- the recording, step by step
 
-held-append : (i w n : ℕ) (xs ys : List Step) → heldFrom i w n (xs ++ ys) ≡ heldFrom i (heldFrom i w n xs) (n + length xs) ys
-unfolding heldFrom
-held-append i w n [] ys = rw add-zero
-held-append i w n (x ∷ xs) ys =
-    let m : n + 1 + length xs ≡ n + length (x ∷ xs) = omega arith in
-    held-append i (heldAfter i (n + 1) w x) (n + 1) xs ys ∙ ap (λ j. heldFrom i (heldFrom i (heldAfter i (n + 1) w x) (n + 1) xs) j ys) m
-
 held-one : (i : ℕ) (rs : List Step) (s : Step) → heldIn i (rs ++ (s ∷ [])) ≡ heldAfter i (length rs + 1) (heldIn i rs) s
-unfolding heldIn heldFrom
-held-one i rs s = held-append i 0 0 rs (s ∷ []) ∙ rw zero-add
+unfolding heldIn
+held-one i rs s = traced-one (heldAfter i) 0 rs s
 
 module _ (s : Step) (i n w : ℕ) where
   held-rests : eqb (s .code) holdCode ≡ false → frees (s .code) ≡ false → heldAfter i n w s ≡ w
@@ -197,7 +191,7 @@ pub record Held (ss : Slots) (rs : List Step) : Type 0 where
   pub idle : (i : ℕ) → isHeld (slotIn ss i .life) ≡ false → heldIn i rs ≡ 0
 
 pub held-start : (cfg : Config) → Held (startOf cfg .slots) []
-unfolding startOf noSlots slotIn noSlot heldIn heldFrom
+unfolding startOf noSlots slotIn noSlot heldIn tracedFrom
 held-start cfg = record {
   each = λ i e. absurd (clash _ e (all-alike (λ (y : Slot). isHeld (y .life) ≡ false) 32 noSlot i refl));
   idle = λ i e. refl;

@@ -1,5 +1,6 @@
 -- What holds over every accepted recording: from the rows of a state and of its history to the promises.
 pub mod Beside
+pub mod Traced
 pub mod Tied
 pub mod Calls
 pub mod Tags

@@ -5,7 +5,6 @@ use Prim.Native.Nat.{ℕ, _+_, _<_}
 use mathlib.Core.Bool.{true, false}
 use mathlib.Core.List.{List, [], _∷_, _++_}
 use mathlib.Core.Path.{_≡_, refl, sym, _∙_, ap}
-use native.Mathlib.Nat.{add-zero, zero-add}
 use native.Mathlib.Omega.{arith}
 use lib.Dec.{ltb, eqb}
 use lib.ListN.{length}
@@ -23,22 +22,16 @@ use Rattle.effects.specs.Steps.{called, closed, finishing, instanceOf, lowestEm
 use Rattle.stays_sound.specs.Facts.{Sound, CanSpawn}
 use Rattle.stays_sound.proofs.Told.{slots-length}
 use Rattle.stays_sound.proofs.Kept.{slot-kept, slot-inside, caller-kept}
-use Rattle.history.specs.History.{livesAfter, livesFrom, livesIn}
+use Rattle.history.specs.History.{tracedFrom, livesAfter, livesIn}
 use Rattle.history.proofs.Beside.{all-alike, set-each}
+use Rattle.history.proofs.Traced.{traced-one}
 use Rattle.history.proofs.Deeds.{Deed, pass, call, answer, late, end, server, plain, timeout, fail, other-code}
 
 -- ---- who lives there, step by step
 
-lives-append : (i w n : ℕ) (xs ys : List Step) → livesFrom i w n (xs ++ ys) ≡ livesFrom i (livesFrom i w n xs) (n + length xs) ys
-unfolding livesFrom
-lives-append i w n [] ys = rw add-zero
-lives-append i w n (x ∷ xs) ys =
-    let m : n + 1 + length xs ≡ n + length (x ∷ xs) = omega arith in
-    lives-append i (livesAfter i (n + 1) w x) (n + 1) xs ys ∙ ap (λ j. livesFrom i (livesFrom i (livesAfter i (n + 1) w x) (n + 1) xs) j ys) m
-
 pub lives-one : (i : ℕ) (rs : List Step) (s : Step) → livesIn i (rs ++ (s ∷ [])) ≡ livesAfter i (length rs + 1) (livesIn i rs) s
-unfolding livesIn livesFrom
-lives-one i rs s = lives-append i 0 0 rs (s ∷ []) ∙ rw zero-add
+unfolding livesIn
+lives-one i rs s = traced-one (livesAfter i) 0 rs s
 
 spawn-puts : (i n w : ℕ) (s : Step) → s .code ≡ spawnCode → s .claim .number ≡ i → livesAfter i n w s ≡ n
 unfolding livesAfter
@@ -64,7 +57,7 @@ pub record Lives (ss : Slots) (rs : List Step) : Type 0 where
   pub used : (i : ℕ) → slotIn ss i .used ≡ ltb 0 (livesIn i rs)
 
 pub lives-start : (cfg : Config) → Lives (startOf cfg .slots) []
-unfolding startOf noSlots slotIn noSlot livesIn livesFrom
+unfolding startOf noSlots slotIn noSlot livesIn tracedFrom
 lives-start cfg = record { used = λ i. all-alike (λ (y : Slot). y .used ≡ false) 32 noSlot i refl }
 
 module _ (ss : Slots) (rs : List Step) (s : Step) (l : Lives ss rs) where

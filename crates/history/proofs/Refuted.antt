@@ -16,7 +16,7 @@ use Rattle.entries.specs.Faults.{isServer}
 use Rattle.state.specs.Tables.{operationIn}
 use Rattle.rules.specs.Rows.{rows, rowOf}
 use Rattle.rules.specs.Refusals.{asksSynchronous}
-use Rattle.history.specs.History.{nothing, observe, historyFrom, historyOf, endsOf, lastOn, isUnended, endedCall, Started, timeOf, timeIn, livesAfter, livesFrom, livesIn, binds, boundAfter, boundFrom, boundIn, awaitsAfter, awaitsFrom, awaitsIn, holderAfter, holderFrom, holderOf}
+use Rattle.history.specs.History.{nothing, observe, historyFrom, historyOf, endsOf, lastOn, isUnended, endedCall, Started, timeOf, timeIn, tracedFrom, livesAfter, livesIn, binds, boundAfter, boundIn, awaitsAfter, awaitsIn, holderAfter, holderOf}
 use Rattle.history.specs.Promises.{SpawnsEmpty, FailedStops, HolderStays, CallsOneByOne, WaiterWaits, EndsOnce, OpenInTime, ResultIsDelivered, ResultIsOwn, DoneIsDelivered, UnendedIsLatest}
 
 -- a step on the part 0, by the instance in the slot 0 or by the scheduler
@@ -47,16 +47,16 @@ module _ (cfg : Config) (st : State) (q : isServer cfg 0 ≡ false) where
 
   -- `call_limits_full`: with the queue full, a call on the operation 1 is answered as if one were open there
   pub call-limits-full : CallsOneByOne cfg (spawns ∷ calls ∷ []) (record { code = callCode; who = 0; what = 1; argument = voidV; claim = limitV }) [] → ⊥
-  unfolding historyOf historyFrom observe nothing sameValue endsOf isUnended boundIn boundFrom boundAfter
+  unfolding historyOf historyFrom observe nothing sameValue endsOf isUnended boundIn tracedFrom boundAfter
   call-limits-full h = omega (arith, ap (λ (v : Value). v .kind) (rw q at (h refl)))
 
   -- `spawn_over_living`: the second instance has the area that the first one entered
   pub spawn-over-living : SpawnsEmpty cfg (spawns ∷ step enterCode voidV voidV ∷ step tickCode voidV voidV ∷ []) spawns [] → ⊥
-  unfolding livesIn livesFrom livesAfter
+  unfolding livesIn tracedFrom livesAfter
   spawn-over-living h = omega (arith, h refl .1)
 
   pub spawn-over-living-holds : HolderStays cfg (spawns ∷ step enterCode voidV voidV ∷ step tickCode voidV voidV ∷ []) spawns [] → ⊥
-  unfolding livesIn livesFrom livesAfter holderOf holderFrom holderAfter
+  unfolding livesIn livesAfter holderOf tracedFrom holderAfter
   spawn-over-living-holds h = omega (arith, h 0 0 (omega arith) refl .1)
 
   -- `result_clears`: the second result is Void, where the first was Timeout
@@ -120,32 +120,32 @@ joins = record { code = spawnCode; who = 0; what = 0; argument = voidV; claim = 
 module _ (cfg : Config) (q : isServer cfg 0 ≡ false) (f : operationConfIn (cfg .operations) 0 .asynchronous ≡ false) where
   -- `limit_while_open`: the first caller's call has timed out, it has not collected, and the second caller's is answered Ok
   pub limit-while-open : (t : ℕ) → CallsOneByOne cfg (spawns ∷ joins ∷ calls ∷ waits t ∷ step timeoutCode voidV voidV ∷ []) (other callCode voidV okV) [] → ⊥
-  unfolding historyOf historyFrom observe nothing sameValue endsOf isUnended boundIn boundFrom boundAfter binds asksSynchronous
+  unfolding historyOf historyFrom observe nothing sameValue endsOf isUnended boundIn tracedFrom boundAfter binds asksSynchronous
   limit-while-open t h = omega (arith, ap (λ (v : Value). v .kind) (rw (q, f) at (h refl)))
 
   -- and so the first collects what the second's call came to, a timeout here
   pub others-result : (t u : ℕ)
       → ResultIsOwn cfg (spawns ∷ joins ∷ calls ∷ waits t ∷ step timeoutCode voidV voidV ∷ other callCode voidV okV ∷ waits u ∷ step timeoutCode voidV voidV ∷ []) (gets timeoutV) [] → ⊥
-  unfolding historyOf historyFrom observe nothing sameValue lastOn awaitsIn awaitsFrom awaitsAfter binds asksSynchronous
+  unfolding historyOf historyFrom observe nothing sameValue lastOn awaitsIn tracedFrom awaitsAfter binds asksSynchronous
   others-result t u h = let r = h refl f in omega (arith, rw q at (ap endedCall (r .1)), rw f at (r .3 .waits))
 
   -- `caller_runs_on`: who waits for its call writes the variable 0
   pub caller-runs-on : WaiterWaits cfg (spawns ∷ calls ∷ []) (step writeVariableCode (numberV 7) voidV) [] → ⊥
-  unfolding rowOf rows sameValue awaitsIn awaitsFrom awaitsAfter binds asksSynchronous
+  unfolding rowOf rows sameValue awaitsIn tracedFrom awaitsAfter binds asksSynchronous
   caller-runs-on h = omega (arith, h refl (rw f (omega arith)) .0)
 
   -- it ends
   pub waiter-ends : WaiterWaits cfg (spawns ∷ calls ∷ []) (step endCode voidV voidV) [] → ⊥
-  unfolding rowOf rows sameValue awaitsIn awaitsFrom awaitsAfter binds asksSynchronous
+  unfolding rowOf rows sameValue awaitsIn tracedFrom awaitsAfter binds asksSynchronous
   waiter-ends h = omega (arith, h refl (rw f (omega arith)) .0)
 
   -- it collects again what it has collected
   pub collects-twice : (t : ℕ) → ResultIsOwn cfg (spawns ∷ calls ∷ waits t ∷ step timeoutCode voidV voidV ∷ gets timeoutV ∷ []) (gets timeoutV) [] → ⊥
-  unfolding historyOf historyFrom observe nothing sameValue lastOn awaitsIn awaitsFrom awaitsAfter binds asksSynchronous
+  unfolding historyOf historyFrom observe nothing sameValue lastOn awaitsIn tracedFrom awaitsAfter binds asksSynchronous
   collects-twice t h = let r = h refl f in omega (arith, rw q at (ap endedCall (r .1)), rw f at (r .3 .waits))
 
 -- `bound_asynchronous`: the operation 0 is asynchronous, its call has ended, and the next is answered Limit all the same
 pub bound-asynchronous : (cfg : Config) (t : ℕ) → isServer cfg 0 ≡ false → operationConfIn (cfg .operations) 0 .asynchronous ≡ true
     → CallsOneByOne cfg (spawns ∷ calls ∷ waits t ∷ step timeoutCode voidV voidV ∷ []) (step callCode voidV limitV) [] → ⊥
-unfolding historyOf historyFrom observe nothing sameValue endsOf isUnended boundIn boundFrom boundAfter binds asksSynchronous
+unfolding historyOf historyFrom observe nothing sameValue endsOf isUnended boundIn tracedFrom boundAfter binds asksSynchronous
 bound-asynchronous cfg t q f h = omega (arith, ap (λ (v : Value). v .kind) (rw (q, f) at (h refl)))

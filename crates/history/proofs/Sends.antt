@@ -25,7 +25,7 @@ use Rattle.stays_sound.specs.Facts.{Sound}
 use Rattle.stays_sound.proofs.Told.{told, shape-told}
 use Rattle.stays_sound.proofs.Elements.{linked-alike}
 use Rattle.stays_sound.proofs.Accepted.{accepted, claim-told, gone, send-told}
-use Rattle.history.specs.History.{observe, Started, timeOf, tickFrom, livesAfter, backAfter, binds, boundAfter, awaitsAfter, heldAfter, holderAfter, allQueued, allSpawns}
+use Rattle.history.specs.History.{observe, Started, timeOf, tickAfter, livesAfter, backAfter, binds, boundAfter, awaitsAfter, heldAfter, holderAfter, allQueued, allSpawns}
 use Rattle.history.specs.Promises.{OfSteps, AtStep}
 use Rattle.history.specs.Sends.{ClaimIsAnswer, Said, SendSays, claiming, Unread, SendIsUnread}
 use Rattle.history.proofs.Runs.{halves, first}
@@ -112,12 +112,12 @@ module _ (s : Step) (v : Value) (c : s .code ≡ sendCode) where
   unread-started rs (suc (suc k)) o = (λ h. h, λ h. h)
 
   unread : Unread s v
-  unfolding observe timeOf tickFrom livesAfter backAfter boundAfter awaitsAfter heldAfter binds asksSynchronous holderAfter allQueued allSpawns
+  unfolding observe timeOf tickAfter livesAfter backAfter boundAfter awaitsAfter heldAfter binds asksSynchronous holderAfter allQueued allSpawns
   unread = record {
     history = λ cfg h. rw c;
     started = unread-started;
     time = refl;
-    ticks = λ k last n rs. refl;
+    ticks = λ k n w. refl;
     lives = λ i n w. rw c;
     backs = λ i w. rw c;
     bounds = λ cfg o w. rw c;

@@ -5,9 +5,8 @@
 use Prim.Native.Nat.{ℕ, _+_, _≤_, _<_}
 use mathlib.Core.Bool.{Bool, true, false}
 use mathlib.Core.List.{List, [], _∷_, _++_}
-use mathlib.Core.Path.{_≡_, refl, sym, _∙_, ap}
+use mathlib.Core.Path.{_≡_, refl, sym, _∙_}
 use native.Mathlib.Decide.{ℕ-discrete}
-use native.Mathlib.Nat.{add-zero, zero-add}
 use native.Mathlib.Omega.{arith}
 use lib.Dec.{eqb}
 use lib.ListN.{length, length-append}
@@ -27,34 +26,23 @@ use Rattle.effects.specs.Steps.{called, closed, spawned, timerLets, timersLet, 
 use Rattle.stays_sound.specs.Facts.{Sound}
 use Rattle.rules.proofs.Configured.{timers-most}
 use Rattle.stays_sound.proofs.Told.{timers-length}
-use Rattle.history.specs.History.{timeOf, timeIn, timeSince, tickFrom, lastTick}
+use Rattle.history.specs.History.{timeOf, timeIn, timeSince, tracedFrom, tickAfter, lastTick}
 use Rattle.history.proofs.Beside.{all-alike}
+use Rattle.history.proofs.Traced.{traced-one, traced-always}
 use Rattle.history.proofs.Timed.{since-more, since-now, still}
 use Rattle.history.proofs.Deeds.{Clocks, ticks, waits, keeps, Deed, pass, call, answer, late, end, server, plain, timeout, fail, other-code}
 
 -- ---- the last tick, step by step
 
-tick-append : (k last n : ℕ) (xs ys : List Step) → tickFrom k last n (xs ++ ys) ≡ tickFrom k (tickFrom k last n xs) (n + length xs) ys
-unfolding tickFrom
-tick-append k last n [] ys = rw add-zero
-tick-append k last n (x ∷ xs) ys =
-    let m : n + 1 + length xs ≡ n + length (x ∷ xs) = omega arith in
-    tick-append k (pick (both (eqb (x .code) tickCode) (eqb (x .what) k)) (n + 1) last) (n + 1) xs ys
-    ∙ ap (λ j. tickFrom k (tickFrom k (pick (both (eqb (x .code) tickCode) (eqb (x .what) k)) (n + 1) last) (n + 1) xs) j ys) m
-
 last-one : (k : ℕ) (rs : List Step) (s : Step) → lastTick k (rs ++ (s ∷ [])) ≡ pick (both (eqb (s .code) tickCode) (eqb (s .what) k)) (length rs + 1) (lastTick k rs)
-unfolding lastTick tickFrom
-last-one k rs s = tick-append k 0 0 rs (s ∷ []) ∙ rw zero-add
-
-tick-past : (k last n : ℕ) (rs : List Step) → last ≤ n → tickFrom k last n rs ≤ n + length rs
-unfolding tickFrom
-tick-past k last n [] l = omega (arith, l)
-tick-past k last n (s ∷ rs) l =
-    omega (arith, tick-past k (pick (both (eqb (s .code) tickCode) (eqb (s .what) k)) (n + 1) last) (n + 1) rs (pick-has (λ m. m ≤ n + 1) (both (eqb (s .code) tickCode) (eqb (s .what) k)) (n + 1) last (λ e. omega arith) (λ e. omega (arith, l))))
+unfolding lastTick tickAfter
+last-one k rs s = traced-one (tickAfter k) 0 rs s
 
 last-past : (k : ℕ) (rs : List Step) → lastTick k rs ≤ length rs
-unfolding lastTick
-last-past k rs = omega (arith, tick-past k 0 0 rs (omega arith))
+unfolding lastTick tickAfter
+last-past k rs =
+    traced-always (tickAfter k) (λ n p. p ≤ n)
+    (λ n p s l. pick-has (λ m. m ≤ n + 1) (both (eqb (s .code) tickCode) (eqb (s .what) k)) (n + 1) p (λ e. omega arith) (λ e. omega (arith, l))) 0 rs (omega arith)
 
 -- a tick of this timer, and any other step
 last-here : (k : ℕ) (rs : List Step) (s : Step) → s .code ≡ tickCode → s .what ≡ k → lastTick k (rs ++ (s ∷ [])) ≡ length rs + 1
@@ -80,7 +68,7 @@ pub record Ticked (cfg : Config) (ts : Timers) (rs : List Step) : Type 0 where
   pub rest : (k : ℕ) → k < cfg .timers .n → timeSince (lastTick k rs) rs + timerIn ts k .count ≡ round cfg k (lastTick k rs)
 
 pub ticked-start : (cfg : Config) → Ticked cfg (startOf cfg .timers) []
-unfolding startOf noTimers timerIn lastTick tickFrom timeIn
+unfolding startOf noTimers timerIn lastTick tracedFrom timeIn
 ticked-start cfg = record { rest = λ k b. all-alike (λ (y : Timer). 0 + y .count ≡ 0) 8 noTimer k refl }
 
 module _ (cfg : Config) (ts : Timers) (rs : List Step) (s : Step) (t : Ticked cfg ts rs) where

@@ -7,7 +7,7 @@ use mathlib.Core.List.{List, [], _∷_, _++_, append-assoc}
 use mathlib.Core.Option.{Option, none, some}
 use mathlib.Core.Path.{_≡_, refl, sym, _∙_, ap}
 use native.Mathlib.Decide.{ℕ-discrete}
-use native.Mathlib.Nat.{add-zero, zero-add}
+use native.Mathlib.Nat.{add-zero}
 use native.Mathlib.Numerals.{add-one}
 use native.Mathlib.Omega.{arith}
 use lib.Dec.{ltb, eqb}
@@ -37,9 +37,10 @@ use Rattle.stays_sound.proofs.Waiters.{no-caller, waits-none, after-waits, empt
 use Rattle.stays_sound.proofs.Ways.{Way}
 use Rattle.stays_sound.proofs.Ways as go
 use Rattle.stays_sound.proofs.Accepted.{accepted, claim-told, gone, way, call-told, end-told, spawn-told}
-use Rattle.history.specs.History.{Ending, History, nothing, latestOn, observe, lastOn, given, delivered, endedCall, Started, livesIn, binds, frees, boundAfter, boundFrom, boundIn, awaitsAfter, awaitsFrom, awaitsIn}
+use Rattle.history.specs.History.{Ending, History, nothing, latestOn, observe, lastOn, given, delivered, endedCall, Started, tracedFrom, livesIn, binds, frees, boundAfter, boundIn, awaitsAfter, awaitsIn}
 use Rattle.history.specs.Promises.{Own}
 use Rattle.history.proofs.Beside.{all-alike}
+use Rattle.history.proofs.Traced.{traced-one}
 use Rattle.history.proofs.Tied.{Tied}
 use Rattle.history.proofs.Named.{started-more, started-here, Named}
 use Rattle.history.proofs.Deeds.{other-code, call-adds}
@@ -118,25 +119,13 @@ module _ (cfg : Config) (st : State) (s : Step) where
 
 -- ---- the recording, step by step
 
-bound-append : (cfg : Config) (o : ℕ) (w : Bool) (xs ys : List Step) → boundFrom cfg o w (xs ++ ys) ≡ boundFrom cfg o (boundFrom cfg o w xs) ys
-unfolding boundFrom
-bound-append cfg o w [] ys = refl
-bound-append cfg o w (x ∷ xs) ys = bound-append cfg o (boundAfter cfg o w x) xs ys
-
 bound-one : (cfg : Config) (o : ℕ) (rs : List Step) (s : Step) → boundIn cfg o (rs ++ (s ∷ [])) ≡ boundAfter cfg o (boundIn cfg o rs) s
-unfolding boundIn boundFrom
-bound-one cfg o rs s = bound-append cfg o false rs (s ∷ [])
-
-awaits-append : (cfg : Config) (i w n : ℕ) (xs ys : List Step) → awaitsFrom cfg i w n (xs ++ ys) ≡ awaitsFrom cfg i (awaitsFrom cfg i w n xs) (n + length xs) ys
-unfolding awaitsFrom
-awaits-append cfg i w n [] ys = rw add-zero
-awaits-append cfg i w n (x ∷ xs) ys =
-    let m : n + 1 + length xs ≡ n + length (x ∷ xs) = omega arith in
-    awaits-append cfg i (awaitsAfter cfg i (n + 1) w x) (n + 1) xs ys ∙ ap (λ j. awaitsFrom cfg i (awaitsFrom cfg i (awaitsAfter cfg i (n + 1) w x) (n + 1) xs) j ys) m
+unfolding boundIn
+bound-one cfg o rs s = traced-one (λ n. boundAfter cfg o) false rs s
 
 awaits-one : (cfg : Config) (i : ℕ) (rs : List Step) (s : Step) → awaitsIn cfg i (rs ++ (s ∷ [])) ≡ awaitsAfter cfg i (length rs + 1) (awaitsIn cfg i rs) s
-unfolding awaitsIn awaitsFrom
-awaits-one cfg i rs s = awaits-append cfg i 0 0 rs (s ∷ []) ∙ rw zero-add
+unfolding awaitsIn
+awaits-one cfg i rs s = traced-one (awaitsAfter cfg i) 0 rs s
 
 module _ (cfg : Config) (s : Step) where
   binds-told : s .code ≡ callCode → s .claim ≡ okV → operationConfIn (cfg .operations) (s .what) .asynchronous ≡ false → binds cfg s ≡ true
@@ -179,7 +168,7 @@ unfolding noSlots slotIn noSlot waitersOf waitsOn
 none-waits o = sum-zero _ 32 (λ k b. ap bit (all-alike (λ (y : Slot). waitsOn o y ≡ false) 32 noSlot k refl))
 
 pub bounds-start : (cfg : Config) → Bounds cfg (startOf cfg .slots) []
-unfolding startOf boundIn boundFrom
+unfolding startOf boundIn tracedFrom
 bounds-start cfg = record { bound = λ o. ap (ltb 0) (none-waits o) }
 
 -- slots that wait as before have as many waiters
@@ -228,7 +217,7 @@ pub record Awaits (cfg : Config) (ss : Slots) (rs : List Step) (h : History) : T
   pub idle : (i : ℕ) → isCaller (slotIn ss i .life) ≡ false → awaitsIn cfg i rs ≡ 0
 
 pub awaits-start : (cfg : Config) → Awaits cfg (startOf cfg .slots) [] nothing
-unfolding startOf noSlots slotIn noSlot awaitsIn awaitsFrom
+unfolding startOf noSlots slotIn noSlot awaitsIn tracedFrom
 awaits-start cfg = record {
   each = λ i e. absurd (clash _ e (all-alike (λ (y : Slot). isCaller (y .life) ≡ false) 32 noSlot i refl));
   idle = λ i e. refl;

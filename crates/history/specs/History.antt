@@ -200,6 +200,17 @@ EndedBy h s o k byTimeout = (s .code ≡ timeoutCode) × (s .what ≡ o)
 EndedBy h s o k (byInstance j v) = HandedBack h s o k × (j ≡ k) × (s .argument ≡ v) × (failedBy h (s .who) ≡ false)
 EndedBy h s o k (byFailure j) = HandedBack h s o k × (j ≡ k) × (s .argument ≡ voidV) × (failedBy h (s .who) ≡ true)
 
+-- ---- what the steps of a recording tell, one after the other
+
+-- what is known after the steps rs, before which n stand, if w was known before them: f says it of one step, by its place, what was known before it, and the step ("How tight the contracts are", demand 3)
+unfoldable pub tracedFrom : {A : Type 0} → (ℕ → A → Step → A) → A → ℕ → List Step → A
+tracedFrom f w n [] = w
+tracedFrom f w n (s ∷ rs) = tracedFrom f (f (n + 1) w s) (n + 1) rs
+
+-- the same of a whole recording ("How tight the contracts are", demand 3)
+abbrev pub traced : {A : Type 0} → (ℕ → A → Step → A) → A → List Step → A
+traced f w rs = tracedFrom f w 0 rs
+
 -- ---- time, as the waits of a recording tell it
 
 -- the time that a step lets pass: a wait its argument, any other none ("The eighteen steps", Wait)
@@ -215,14 +226,13 @@ timeIn (s ∷ rs) = timeOf s + timeIn rs
 abbrev pub timeSince : ℕ → List Step → ℕ
 timeSince k rs = timeIn (drop k rs)
 
--- where the timer k last ticked: last, or the last tick among rs, before which n steps stand ("The eighteen steps", 17)
-unfoldable pub tickFrom : ℕ → ℕ → ℕ → List Step → ℕ
-tickFrom k last n [] = last
-tickFrom k last n (s ∷ rs) = tickFrom k (pick (both (eqb (s .code) tickCode) (eqb (s .what) k)) (n + 1) last) (n + 1) rs
+-- where the timer k last ticked after the step s at place n, if it was w before ("The eighteen steps", 17)
+unfoldable pub tickAfter : ℕ → ℕ → ℕ → Step → ℕ
+tickAfter k n w s = pick (both (eqb (s .code) tickCode) (eqb (s .what) k)) n w
 
 -- the place of the last tick of the timer k, 0 before any ("The eighteen steps", 17)
 unfoldable pub lastTick : ℕ → List Step → ℕ
-lastTick k rs = tickFrom k 0 0 rs
+lastTick k rs = traced (tickAfter k) 0 rs
 
 -- how long a call lasted that ended so, with this timeout: exactly that long, or no longer ("The eighteen steps", 16 and Wait)
 abbrev pub InTime : ℕ → ℕ → How → Type 0
@@ -236,14 +246,9 @@ InTime t top (byFailure j) = t ≤ top
 unfoldable pub livesAfter : ℕ → ℕ → ℕ → Step → ℕ
 livesAfter i n w s = pick (both (eqb (s .code) spawnCode) (eqb (s .claim .number) i)) n (pick (both (eqb (s .code) endCode) (eqb (s .who) i)) 0 w)
 
--- the same after more steps, before which n stand ("The eighteen steps", 14 and Spawn)
-unfoldable pub livesFrom : ℕ → ℕ → ℕ → List Step → ℕ
-livesFrom i w n [] = w
-livesFrom i w n (s ∷ rs) = livesFrom i (livesAfter i (n + 1) w s) (n + 1) rs
-
 -- who lives in the slot i after the steps of a recording ("The eighteen steps", 14 and Spawn)
 unfoldable pub livesIn : ℕ → List Step → ℕ
-livesIn i rs = livesFrom i 0 0 rs
+livesIn i rs = traced (livesAfter i) 0 rs
 
 -- whether the instance in the slot i has handed back after the step s, if w says so before: its hand back does so, and a spawn there and its end begin anew ("The eighteen steps", 13, 14 and Spawn)
 unfoldable pub backAfter : ℕ → Bool → Step → Bool
@@ -253,14 +258,9 @@ backAfter i w s =
     (pick (both (eqb (s .code) handBackCode) (eqb (s .who) i)) true
     w))
 
--- the same after more steps ("The eighteen steps", 13, 14 and Spawn)
-unfoldable pub backFrom : ℕ → Bool → List Step → Bool
-backFrom i w [] = w
-backFrom i w (s ∷ rs) = backFrom i (backAfter i w s) rs
-
 -- the instance in the slot i has handed back, after the steps of a recording ("The eighteen steps", 13, 14 and Spawn)
 unfoldable pub backIn : ℕ → List Step → Bool
-backIn i rs = backFrom i false rs
+backIn i rs = traced (λ n. backAfter i) false rs
 
 -- ---- waiting callers, as calls and results tell it
 
@@ -276,27 +276,17 @@ frees cfg s = asksSynchronous cfg (s .code) (s .what)
 unfoldable pub boundAfter : Config → ℕ → Bool → Step → Bool
 boundAfter cfg o w s = pick (eqb (s .what) o) (pick (binds cfg s) true (pick (frees cfg s) false w)) w
 
--- the same after more steps (W-202)
-unfoldable pub boundFrom : Config → ℕ → Bool → List Step → Bool
-boundFrom cfg o w [] = w
-boundFrom cfg o w (s ∷ rs) = boundFrom cfg o (boundAfter cfg o w s) rs
-
 -- the operation o is bound, after the steps of a recording (W-202)
 unfoldable pub boundIn : Config → ℕ → List Step → Bool
-boundIn cfg o rs = boundFrom cfg o false rs
+boundIn cfg o rs = traced (λ n. boundAfter cfg o) false rs
 
 -- the call that the instance in the slot i waits for after the step s at place n, if it was w before: its own call on a synchronous operation, until it has collected, and 0 for none (W-202)
 unfoldable pub awaitsAfter : Config → ℕ → ℕ → ℕ → Step → ℕ
 awaitsAfter cfg i n w s = pick (eqb (s .who) i) (pick (binds cfg s) n (pick (frees cfg s) 0 w)) w
 
--- the same after more steps, before which n stand (W-202)
-unfoldable pub awaitsFrom : Config → ℕ → ℕ → ℕ → List Step → ℕ
-awaitsFrom cfg i w n [] = w
-awaitsFrom cfg i w n (s ∷ rs) = awaitsFrom cfg i (awaitsAfter cfg i (n + 1) w s) (n + 1) rs
-
 -- the call that the instance in the slot i waits for, after the steps of a recording (W-202)
 unfoldable pub awaitsIn : Config → ℕ → List Step → ℕ
-awaitsIn cfg i rs = awaitsFrom cfg i 0 0 rs
+awaitsIn cfg i rs = traced (awaitsAfter cfg i) 0 rs
 
 -- ---- held instances, as holds, receives and givings up tell it
 
@@ -304,14 +294,9 @@ awaitsIn cfg i rs = awaitsFrom cfg i 0 0 rs
 unfoldable pub heldAfter : ℕ → ℕ → ℕ → Step → ℕ
 heldAfter i n w s = pick (eqb (s .who) i) (pick (eqb (s .code) holdCode) n (pick (either (eqb (s .code) receiveCode) (eqb (s .code) giveUpCode)) 0 w)) w
 
--- the same after more steps, before which n stand (W-210)
-unfoldable pub heldFrom : ℕ → ℕ → ℕ → List Step → ℕ
-heldFrom i w n [] = w
-heldFrom i w n (s ∷ rs) = heldFrom i (heldAfter i (n + 1) w s) (n + 1) rs
-
 -- where the step stands that holds the instance in the slot i, after the steps of a recording (W-210)
 unfoldable pub heldIn : ℕ → List Step → ℕ
-heldIn i rs = heldFrom i 0 0 rs
+heldIn i rs = traced (heldAfter i) 0 rs
 
 -- the step at place k of the recording, counted from 1, holds the instance in the slot i on the element q for t milliseconds at most (W-210)
 pub record HeldFor (rs : List Step) (k i q t : ℕ) : Type 0 where
@@ -328,14 +313,9 @@ pub record HeldFor (rs : List Step) (k i q t : ℕ) : Type 0 where
 unfoldable pub holderAfter : ℕ → Option ℕ → Step → Option ℕ
 holderAfter a w s = pick (eqb (s .what) a) (pick (eqb (s .code) enterCode) (some (s .who)) (pick (eqb (s .code) exitCode) none w)) w
 
--- the same after more steps ("The eighteen steps", 3 and 4)
-unfoldable pub holderFrom : ℕ → Option ℕ → List Step → Option ℕ
-holderFrom a w [] = w
-holderFrom a w (s ∷ rs) = holderFrom a (holderAfter a w s) rs
-
 -- who holds the area a after the steps of a recording, by its slot ("The eighteen steps", 3 and 4)
 unfoldable pub holderOf : ℕ → List Step → Option ℕ
-holderOf a rs = holderFrom a none rs
+holderOf a rs = traced (λ n. holderAfter a) none rs
 
 -- ---- requests followed in a second way: all that were ever queued at r, and how many were taken there
 

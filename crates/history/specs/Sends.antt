@@ -15,7 +15,7 @@ use Rattle.state.specs.Tables.{elementIn}
 use Rattle.effects.specs.Steps.{linked, queueing, fullMask, sentOf}
 use Rattle.effects.specs.Fullness.{FullQueue}
 use Rattle.effects.specs.Step.{stepOf}
-use Rattle.history.specs.History.{History, observe, Started, timeOf, tickFrom, livesAfter, backAfter, boundAfter, awaitsAfter, heldAfter, holderAfter, allQueued, allSpawns}
+use Rattle.history.specs.History.{History, observe, Started, timeOf, tickAfter, livesAfter, backAfter, boundAfter, awaitsAfter, heldAfter, holderAfter, allQueued, allSpawns}
 use Rattle.history.specs.Promises.{Run, AtStep}
 
 -- a step of any code but send answered, in the state before it, what it claims (W-201)
@@ -53,7 +53,7 @@ pub record Unread (s : Step) (v : Value) : Type 0 where
   pub history : (cfg : Config) (h : History) → observe cfg h (claiming s v) ≡ observe cfg h s
   pub started : (rs : List Step) (k o : ℕ) → Started (claiming s v ∷ rs) k o ↔ Started (s ∷ rs) k o
   pub time : timeOf (claiming s v) ≡ timeOf s
-  pub ticks : (k last n : ℕ) (rs : List Step) → tickFrom k last n (claiming s v ∷ rs) ≡ tickFrom k last n (s ∷ rs)
+  pub ticks : (k n w : ℕ) → tickAfter k n w (claiming s v) ≡ tickAfter k n w s
   pub lives : (i n w : ℕ) → livesAfter i n w (claiming s v) ≡ livesAfter i n w s
   pub backs : (i : ℕ) (w : Bool) → backAfter i w (claiming s v) ≡ backAfter i w s
   pub bounds : (cfg : Config) (o : ℕ) (w : Bool) → boundAfter cfg o w (claiming s v) ≡ boundAfter cfg o w s
