@@ -10,6 +10,7 @@ use lib.Dec.{ltb, eqb}
 use lib.ListN.{length, getD, set, drop}
 use lib.Seq.{getD-drop}
 use borrow.Author.Tests.{eqb-true}
+use Rattle.numbers.specs.Tags.{lastTag}
 use Rattle.laws.proofs.Choosing.{pick-has}
 use Rattle.faces.specs.Types.{VariableConf, VariableConfs, Config, Entry}
 use Rattle.config.specs.Tables.{maxVariableConfs, noVariableConf, addVariableConf, noConfig}
@@ -103,9 +104,9 @@ initials-small s b = holds-from (suc (length s)) s noConfig 0 1 b blank-small .s
 
 module _ (cfg : Config) (s : configSound cfg ≡ true) (v : (i : ℕ) → getD (cfg .variables .at) i noVariableConf .initial < 2 ^ 32) where
   blank : (tag i : ℕ) → countOf cfg tag ≤ i → entryOf cfg tag i ≡ noEntry
-  blank tag i l = go (decLt tag 0x10) (decLt 0x19 tag)
+  blank tag i l = go (decLt tag 0x10) (decLt lastTag tag)
     where
-      go : Dec (tag < 0x10) → Dec (0x19 < tag) → entryOf cfg tag i ≡ noEntry
+      go : Dec (tag < 0x10) → Dec (lastTag < tag) → entryOf cfg tag i ≡ noEntry
       go (yes x) y = no-kind-entry tag (λ a b. omega (arith, x, a)) cfg i
       go (no x) (yes y) = no-kind-entry tag (λ a b. omega (arith, y, b)) cfg i
       go (no x) (no y) = no-more cfg s tag (omega (arith, x)) (omega (arith, y)) i l
@@ -114,14 +115,14 @@ module _ (cfg : Config) (s : configSound cfg ≡ true) (v : (i : ℕ) → getD (
   none e h = rw h (omega arith)
 
   numbers : (tag i : ℕ) → entryOf cfg tag i .number < 2 ^ 32
-  numbers tag i = go (decLt tag 0x10) (decLt 0x19 tag) (decLt i (countOf cfg tag))
+  numbers tag i = go (decLt tag 0x10) (decLt lastTag tag) (decLt i (countOf cfg tag))
     where
-      go : Dec (tag < 0x10) → Dec (0x19 < tag) → Dec (i < countOf cfg tag) → entryOf cfg tag i .number < 2 ^ 32
+      go : Dec (tag < 0x10) → Dec (lastTag < tag) → Dec (i < countOf cfg tag) → entryOf cfg tag i .number < 2 ^ 32
       go (yes x) y z = none _ (no-kind-entry tag (λ a b. omega (arith, x, a)) cfg i)
       go (no x) (yes y) z = none _ (no-kind-entry tag (λ a b. omega (arith, y, b)) cfg i)
       go (no x) (no y) (yes z) =
           let low : 0x10 ≤ tag = omega (arith, x) in
-          let high : tag ≤ 0x19 = omega (arith, y) in
+          let high : tag ≤ lastTag = omega (arith, y) in
           part-fits cfg v tag low high i (fault-told cfg tag i (entryOf cfg tag i) (config-told cfg s tag low high .used i z) .range)
       go (no x) (no y) (no z) = none _ (blank tag i (omega (arith, z)))
 

@@ -11,6 +11,7 @@ use lib.Dec.{ltb, eqb}
 use lib.ListN.{length, getD, drop, length-append, List·getD-append}
 use lib.Seq.{getD-at}
 use borrow.Author.Tests.{eq-eqb, ne-eqb, le-leb, lt-ltb, le-ltb}
+use Rattle.numbers.specs.Tags.{lastTag, partKinds}
 use Rattle.laws.specs.Choice.{pick}
 use Rattle.faces.specs.Types.{Step, Config, Entry}
 use Rattle.entries.specs.Entries.{noEntry, countOf, entryOf}
@@ -84,7 +85,7 @@ runs-gather f (suc n) = runs-append [] (gather f n) (f n) ∙ runs-behind (runs 
 -- a field of one of the ten kinds, whose entry its bytes say
 record Says (p : Piece) : Type 0 where
   low : 0x10 ≤ p .tag
-  high : p .tag ≤ 0x19
+  high : p .tag ≤ lastTag
   number : p .entry .number < 2 ^ 32
   shape : shapeOf (p .tag) (p .entry) ≡ p .entry
 
@@ -133,7 +134,7 @@ module _ (cfg : Config) where
   kindFields tag = gather (λ i. record { tag = tag; entry = entryOf cfg tag i } ∷ []) (countOf cfg tag)
 
   fields : List Piece
-  fields = gather (λ j. kindFields (0x10 + j)) 10
+  fields = gather (λ j. kindFields (0x10 + j)) partKinds
 
   kind-runs : (tag : ℕ) → runs [] (kindFields tag) ≡ kindBytes cfg tag
   unfolding kindFields kindBytes partBytes runs
@@ -142,14 +143,14 @@ module _ (cfg : Config) where
   text-runs : configText cfg ≡ editionBytes (cfg .edition) ++ runs endBytes fields
   unfolding configText partsBytes blockOf fields
   text-runs =
-      append-assoc (editionBytes (cfg .edition)) (build (λ (j : ℕ). kindBytes cfg (0x10 + j)) 10) endBytes
-      ∙ ap (λ (l : List ℕ). editionBytes (cfg .edition) ++ (l ++ endBytes)) (sym (runs-gather (λ j. kindFields (0x10 + j)) 10 ∙ build-same _ _ 10 (λ k l. kind-runs (0x10 + k))))
+      append-assoc (editionBytes (cfg .edition)) (build (λ (j : ℕ). kindBytes cfg (0x10 + j)) partKinds) endBytes
+      ∙ ap (λ (l : List ℕ). editionBytes (cfg .edition) ++ (l ++ endBytes)) (sym (runs-gather (λ j. kindFields (0x10 + j)) partKinds ∙ build-same _ _ partKinds (λ k l. kind-runs (0x10 + k))))
       ∙ ap (λ (l : List ℕ). editionBytes (cfg .edition) ++ l) (sym (runs-behind endBytes fields))
 
   fields-say : Fixed cfg → EachSays fields
   unfolding fields kindFields EachSays
   fields-say f =
-      says-gather (λ j. kindFields (0x10 + j)) 10
+      says-gather (λ j. kindFields (0x10 + j)) partKinds
       (λ j l. says-gather (λ i. record { tag = 0x10 + j; entry = entryOf cfg (0x10 + j) i } ∷ []) (countOf cfg (0x10 + j))
       (λ i b. (record { low = omega arith; high = omega (arith, l); number = f .numbers (0x10 + j) i; shape = part-shaped (0x10 + j) (omega arith) (omega (arith, l)) cfg i }, tt)))
 
@@ -193,12 +194,12 @@ gather-hit g c k (suc n) l = go (ℕ-discrete (c + n) k) (decLt k (c + n)) (gath
     go (no q) (yes b) h = rw (h, lt-ltb k (c + n) b, ne-eqb (c + n) k q, lt-ltb k (c + suc n) (omega (arith, b))) (append-nil (g k))
     go (no q) (no b) h = rw (h, le-ltb k (c + n) (omega (arith, b)), ne-eqb (c + n) k q, le-ltb k (c + suc n) (omega (arith, b, q)))
 
-kind-of-fields : (cfg : Config) (k : ℕ) → 0x10 ≤ k → k ≤ 0x19 → entriesOf k (fields cfg) ≡ gather (λ i. entryOf cfg k i ∷ []) (countOf cfg k)
+kind-of-fields : (cfg : Config) (k : ℕ) → 0x10 ≤ k → k ≤ lastTag → entriesOf k (fields cfg) ≡ gather (λ i. entryOf cfg k i ∷ []) (countOf cfg k)
 unfolding fields kindFields entriesOf
 kind-of-fields cfg k low high =
-    entries-gather k (λ j. kindFields cfg (0x10 + j)) 10
-    ∙ gather-same _ _ 10 (λ j l. entries-gather k (λ i. record { tag = 0x10 + j; entry = entryOf cfg (0x10 + j) i } ∷ []) (countOf cfg (0x10 + j)) ∙ gather-by (eqb (0x10 + j) k) (entryOf cfg (0x10 + j)) (countOf cfg (0x10 + j)))
-    ∙ gather-hit (λ tag. gather (λ i. entryOf cfg tag i ∷ []) (countOf cfg tag)) 0x10 k 10 low ∙ rw (lt-ltb k 26 (omega (arith, high)))
+    entries-gather k (λ j. kindFields cfg (0x10 + j)) partKinds
+    ∙ gather-same _ _ partKinds (λ j l. entries-gather k (λ i. record { tag = 0x10 + j; entry = entryOf cfg (0x10 + j) i } ∷ []) (countOf cfg (0x10 + j)) ∙ gather-by (eqb (0x10 + j) k) (entryOf cfg (0x10 + j)) (countOf cfg (0x10 + j)))
+    ∙ gather-hit (λ tag. gather (λ i. entryOf cfg tag i ∷ []) (countOf cfg tag)) 0x10 k partKinds low ∙ rw (lt-ltb k (0x10 + partKinds) (omega (arith, high)))
 
 -- ---- the same text, the same parts
 
@@ -209,7 +210,7 @@ module _ (a b : Config) (f : Fixed a) (g : Fixed b) (e : configText a ≡ config
   same-fields : fields a ≡ fields b
   same-fields = runs-one (fields a) (fields b) (fields-say a f) (fields-say b g) (ap (drop 4) (sym (text-runs a) ∙ e ∙ text-runs b))
 
-  module _ (tag : ℕ) (low : 0x10 ≤ tag) (high : tag ≤ 0x19) where
+  module _ (tag : ℕ) (low : 0x10 ≤ tag) (high : tag ≤ lastTag) where
     same-kind : gather (λ i. entryOf a tag i ∷ []) (countOf a tag) ≡ gather (λ i. entryOf b tag i ∷ []) (countOf b tag)
     same-kind = sym (kind-of-fields a tag low high) ∙ ap (entriesOf tag) same-fields ∙ kind-of-fields b tag low high
 
@@ -221,12 +222,12 @@ module _ (a b : Config) (f : Fixed a) (g : Fixed b) (e : configText a ≡ config
     same-entry i (no n) = f .blank tag i (omega (arith, n)) ∙ sym (g .blank tag i (omega (arith, n, same-count)))
 
   pub text-fixes : (tag i : ℕ) → (countOf a tag ≡ countOf b tag) × (entryOf a tag i ≡ entryOf b tag i)
-  text-fixes tag i = go (decLt tag 0x10) (decLt 0x19 tag)
+  text-fixes tag i = go (decLt tag 0x10) (decLt lastTag tag)
     where
-      outside : (0x10 ≤ tag → tag ≤ 0x19 → ⊥) → (countOf a tag ≡ countOf b tag) × (entryOf a tag i ≡ entryOf b tag i)
+      outside : (0x10 ≤ tag → tag ≤ lastTag → ⊥) → (countOf a tag ≡ countOf b tag) × (entryOf a tag i ≡ entryOf b tag i)
       outside n = (no-kind-count tag n a ∙ sym (no-kind-count tag n b), no-kind-entry tag n a i ∙ sym (no-kind-entry tag n b i))
 
-      go : Dec (tag < 0x10) → Dec (0x19 < tag) → (countOf a tag ≡ countOf b tag) × (entryOf a tag i ≡ entryOf b tag i)
+      go : Dec (tag < 0x10) → Dec (lastTag < tag) → (countOf a tag ≡ countOf b tag) × (entryOf a tag i ≡ entryOf b tag i)
       go (yes x) y = outside (λ l h. omega (arith, x, l))
       go (no x) (yes y) = outside (λ l h. omega (arith, y, h))
       go (no x) (no y) = (same-count tag (omega (arith, x)) (omega (arith, y)), same-entry tag (omega (arith, x)) (omega (arith, y)) i (decLt i (countOf a tag)))

@@ -8,6 +8,7 @@ use native.Mathlib.Omega.{arith}
 use lib.Dec.{ltb, leb, eqb}
 use lib.ListN.{length}
 use borrow.Author.Tests.{lt-ltb, le-ltb, le-leb, lt-leb, eq-eqb, ltb-true, leb-true, eqb-true}
+use Rattle.numbers.specs.Tags.{lastTag, partKinds}
 use Rattle.laws.specs.Choice.{both}
 use Rattle.laws.specs.Loop.{allBelow}
 use Rattle.laws.proofs.Choosing.{both-left, both-right, both-no, pick-on}
@@ -94,15 +95,15 @@ pub edition-told : (cfg : Config) → configSound cfg ≡ true → isEdition (cf
 unfolding configSound
 edition-told cfg h = both-left (isEdition (cfg .edition)) _ h
 
-pub config-told : (cfg : Config) → configSound cfg ≡ true → (k : ℕ) → 0x10 ≤ k → k ≤ 0x19 → Kind cfg k
+pub config-told : (cfg : Config) → configSound cfg ≡ true → (k : ℕ) → 0x10 ≤ k → k ≤ lastTag → Kind cfg k
 unfolding configSound partsSound
 config-told cfg h k a b =
     let e : 0x10 + (k - 0x10) ≡ k = omega arith in
-    kind-told cfg k (rw e at (all-at (λ (j : ℕ). kindSound cfg (0x10 + j)) 10 (both-right (isEdition (cfg .edition)) _ h) (k - 0x10) (omega arith)))
+    kind-told cfg k (rw e at (all-at (λ (j : ℕ). kindSound cfg (0x10 + j)) partKinds (both-right (isEdition (cfg .edition)) _ h) (k - 0x10) (omega arith)))
 
-pub config-made : (cfg : Config) → isEdition (cfg .edition) ≡ true → ((k : ℕ) → 0x10 ≤ k → k ≤ 0x19 → Kind cfg k) → configSound cfg ≡ true
+pub config-made : (cfg : Config) → isEdition (cfg .edition) ≡ true → ((k : ℕ) → 0x10 ≤ k → k ≤ lastTag → Kind cfg k) → configSound cfg ≡ true
 unfolding configSound partsSound
-config-made cfg e f = rw e (all-of (λ (j : ℕ). kindSound cfg (0x10 + j)) 10 (λ j l. kind-made cfg (0x10 + j) (f (0x10 + j) (omega arith) (omega arith))))
+config-made cfg e f = rw e (all-of (λ (j : ℕ). kindSound cfg (0x10 + j)) partKinds (λ j l. kind-made cfg (0x10 + j) (f (0x10 + j) (omega arith) (omega arith))))
 
 -- ---- from what a loop finds
 

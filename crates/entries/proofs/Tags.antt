@@ -7,6 +7,7 @@ use native.Mathlib.Decide.{decLt}
 use native.Mathlib.Omega.{arith}
 use lib.Dec.{eqb}
 use borrow.Author.Tests.{ne-eqb}
+use Rattle.numbers.specs.Tags.{lastTag}
 use Rattle.laws.specs.Choice.{pick}
 use Rattle.laws.specs.Loop.{allBelow}
 use Rattle.laws.proofs.Choosing.{pick-alike}
@@ -16,7 +17,7 @@ use Rattle.config.specs.Tables.{noConfig, runnableConfIn, variableConfIn, areaC
 use Rattle.entries.specs.Entries.{noEntry, maxOf, countOf, placesOf, entryOf}
 use Rattle.entries.specs.Faults.{inRange, namesThere, pairsWell, entryFault, isNoEntry, placeSound, kindSound, partsSound, configSound}
 
-module _ (k : ℕ) (n : 0x10 ≤ k → k ≤ 0x19 → ⊥) where
+module _ (k : ℕ) (n : 0x10 ≤ k → k ≤ lastTag → ⊥) where
   -- a choice by the ten tags comes to its last
   falls : {A : Type 0} (a b c d e f g h i j z : A) → pick (eqb k 0x10) a (pick (eqb k 0x11) b (pick (eqb k 0x12) c (pick (eqb k 0x13) d (pick (eqb k 0x14) e (pick (eqb k 0x15) f (pick (eqb k 0x16) g (pick (eqb k 0x17) h (pick (eqb k 0x18) i (pick (eqb k 0x19) j z))))))))) ≡ z
   falls a b c d e f g h i j z =
@@ -33,7 +34,7 @@ module _ (k : ℕ) (n : 0x10 ≤ k → k ≤ 0x19 → ⊥) where
         off 0x19 (omega arith) (omega arith),
       )
     where
-      off : (t : ℕ) → 0x10 ≤ t → t ≤ 0x19 → eqb k t ≡ false
+      off : (t : ℕ) → 0x10 ≤ t → t ≤ lastTag → eqb k t ≡ false
       off t l m = ne-eqb k t (λ q. n (omega (arith, q)) (omega (arith, q)))
 
   pub no-kind-max : maxOf k ≡ 0
@@ -49,10 +50,10 @@ module _ (k : ℕ) (n : 0x10 ≤ k → k ≤ 0x19 → ⊥) where
   no-kind-entry cfg i = falls _ _ _ _ _ _ _ _ _ _ noEntry
 
 -- a tag of which there may be a part is one of the ten
-pub kind-tag : (tag : ℕ) → 0 < maxOf tag → (0x10 ≤ tag) × (tag ≤ 0x19)
-kind-tag tag h = go (decLt tag 0x10) (decLt 0x19 tag)
+pub kind-tag : (tag : ℕ) → 0 < maxOf tag → (0x10 ≤ tag) × (tag ≤ lastTag)
+kind-tag tag h = go (decLt tag 0x10) (decLt lastTag tag)
   where
-    go : Dec (tag < 0x10) → Dec (0x19 < tag) → (0x10 ≤ tag) × (tag ≤ 0x19)
+    go : Dec (tag < 0x10) → Dec (lastTag < tag) → (0x10 ≤ tag) × (tag ≤ lastTag)
     go (yes l) b = absurd (omega (arith, no-kind-max tag (λ a b. omega (arith, l, a))))
     go (no n) (yes l) = absurd (omega (arith, no-kind-max tag (λ a b. omega (arith, l, b))))
     go (no n) (no m) = (omega (arith, n), omega (arith, m))

@@ -122,6 +122,10 @@ noLength = 65536
 abbrev pub partKinds : ℕ
 partKinds = 10
 
+-- the tag of the last kind of parts ("The files", the table)
+abbrev pub lastTag : ℕ
+lastTag = 0x19
+
 -- how long a step's field is, in all ("The files", recording)
 abbrev pub stepSize : ℕ
 stepSize = 16

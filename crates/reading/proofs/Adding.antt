@@ -9,6 +9,7 @@ use lib.Dec.{eqb, ltb, leb}
 use lib.ListN.{length, length-set, getD, set}
 use lib.Seq.{getD-set-same, getD-set-other}
 use borrow.Author.Tests.{lt-ltb, ne-eqb, leb-true}
+use Rattle.numbers.specs.Tags.{lastTag}
 use Rattle.laws.specs.Choice.{pick, bit}
 use Rattle.config.specs.declared.Config.{Config}
 use Rattle.config.specs.Tables.{noRunnableConf, runnableConfIn, addRunnableConf, noVariableConf, variableConfIn, addVariableConf, noAreaConf, areaConfIn, addAreaConf, noRequiredConf, requiredConfIn, addRequiredConf, noProvidedConf, providedConfIn, addProvidedConf, noLink, linkIn, addLink, noOperationConf, operationConfIn, addOperationConf, noTimerConf, timerConfIn, addTimerConf, noDataEvent, dataEventIn, addDataEvent, noReturnEvent, returnEventIn, addReturnEvent}
@@ -22,7 +23,7 @@ use Rattle.reading.specs.Reading.{entryRead}
 
 -- what holds of each of the ten kinds holds of any tag between them
 pub each-kind : (P : ℕ → Type 0) → P 0x10 → P 0x11 → P 0x12 → P 0x13 → P 0x14 → P 0x15 → P 0x16 → P 0x17 → P 0x18 → P 0x19
-    → (tag : ℕ) → 0x10 ≤ tag → tag ≤ 0x19 → P tag
+    → (tag : ℕ) → 0x10 ≤ tag → tag ≤ lastTag → P tag
 each-kind P a b c d e f g h i j tag low high =
     on 0x10 low a (λ l. on 0x11 l b (λ l. on 0x12 l c (λ l. on 0x13 l d (λ l. on 0x14 l e
     (λ l. on 0x15 l f (λ l. on 0x16 l g (λ l. on 0x17 l h (λ l. on 0x18 l i (λ l. on 0x19 l j (λ l. absurd (omega arith)))))))))))
@@ -75,7 +76,7 @@ row-adds {A} {cfg} {cfg′} {tag} entry d x l n b own more was now places rest s
 }
 
 -- a kind with room: one part more
-pub adds : (cfg : Config) (e : Entry) (tag : ℕ) → 0x10 ≤ tag → tag ≤ 0x19 → countOf cfg tag < maxOf tag → placesOf cfg tag ≡ maxOf tag → Adds cfg (placed cfg tag e) tag (backOf tag e)
+pub adds : (cfg : Config) (e : Entry) (tag : ℕ) → 0x10 ≤ tag → tag ≤ lastTag → countOf cfg tag < maxOf tag → placesOf cfg tag ≡ maxOf tag → Adds cfg (placed cfg tag e) tag (backOf tag e)
 unfolding countOf maxOf placesOf placed entryOf backOf runnableConfIn addRunnableConf variableConfIn addVariableConf areaConfIn addAreaConf requiredConfIn addRequiredConf providedConfIn addProvidedConf linkIn addLink operationConfIn addOperationConf timerConfIn addTimerConf dataEventIn addDataEvent returnEventIn addReturnEvent
 adds cfg e =
     each-kind (λ tag. countOf cfg tag < maxOf tag → placesOf cfg tag ≡ maxOf tag → Adds cfg (placed cfg tag e) tag (backOf tag e))
@@ -108,7 +109,7 @@ mark-back zero h = refl
 mark-back (suc zero) h = refl
 mark-back (suc (suc s)) h = absurd (omega arith)
 
-pub back-read : (tag : ℕ) → 0x10 ≤ tag → tag ≤ 0x19 → (t : List ℕ) → inRange tag (entryRead tag t) ≡ true → backOf tag (entryRead tag t) ≡ entryRead tag t
+pub back-read : (tag : ℕ) → 0x10 ≤ tag → tag ≤ lastTag → (t : List ℕ) → inRange tag (entryRead tag t) ≡ true → backOf tag (entryRead tag t) ≡ entryRead tag t
 unfolding inRange backOf entryRead
 back-read =
     each-kind (λ tag. (t : List ℕ) → inRange tag (entryRead tag t) ≡ true → backOf tag (entryRead tag t) ≡ entryRead tag t)

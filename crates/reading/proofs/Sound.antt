@@ -11,6 +11,7 @@ use native.Mathlib.Omega.{arith}
 use lib.Dec.{ltb, eqb, leb}
 use lib.ListN.{length, getD, drop}
 use borrow.Author.Tests.{ne-eqb, eqb-true, eqb-false, leb-true}
+use Rattle.numbers.specs.Tags.{lastTag}
 use Rattle.laws.specs.Choice.{pick}
 use Rattle.laws.proofs.Choosing.{both-left, pick-on, pick-has}
 use Rattle.config.specs.declared.Config.{Config}
@@ -37,7 +38,7 @@ use Rattle.reading.proofs.Kept.{fault-kept}
 -- what stands behind a field with the tag last: sound, with no part of a higher kind
 pub record Sofar (cfg : Config) (last : ℕ) : Type 0 where
   pub edition : isEdition (cfg .edition) ≡ true
-  pub kinds : (k : ℕ) → 0x10 ≤ k → k ≤ 0x19 → Kind cfg k
+  pub kinds : (k : ℕ) → 0x10 ≤ k → k ≤ lastTag → Kind cfg k
   pub above : (k : ℕ) → last < k → countOf cfg k ≡ 0
 
 sofar-starts : Sofar noConfig 0
@@ -89,7 +90,7 @@ module _ (cfg cfg′ : Config) (last tag : ℕ) (e : Entry) (f : Sofar cfg last)
         blank = λ i m c. rw (a .others k i n) (g .blank i m (omega (arith, f .above k (omega arith))));
       }
 
-  sofar-grows : 0x10 ≤ tag → tag ≤ 0x19 → Sofar cfg′ tag
+  sofar-grows : 0x10 ≤ tag → tag ≤ lastTag → Sofar cfg′ tag
   sofar-grows low high =
       record {
         edition = rw (a .edition) (f .edition);

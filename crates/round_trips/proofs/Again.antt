@@ -11,6 +11,7 @@ use lib.ListN.{length, getD, drop, drop-of-length-le}
 use lib.Seq.{getD-drop}
 use lib.Dec.{eqb, leb, ltb}
 use borrow.Author.Tests.{eq-eqb, ne-eqb, eqb-true, leb-true, ltb-false}
+use Rattle.numbers.specs.Tags.{lastTag, partKinds}
 use Rattle.laws.specs.Choice.{pick, both}
 use Rattle.laws.proofs.Choosing.{both-left, both-right, pick-on, pick-off, pick-has, clash}
 use Rattle.config.specs.declared.Config.{Config}
@@ -43,8 +44,8 @@ use Rattle.round_trips.proofs.EachEntry.{entry-front}
 
 -- behind a field with the tag last: no kind above it has a part
 pub record Tidy (cfg : Config) (last : ℕ) : Type 0 where
-  pub places : (k : ℕ) → 0x10 ≤ k → k ≤ 0x19 → placesOf cfg k ≡ maxOf k
-  pub above : (k : ℕ) → 0x10 ≤ k → k ≤ 0x19 → last < k → countOf cfg k ≡ 0
+  pub places : (k : ℕ) → 0x10 ≤ k → k ≤ lastTag → placesOf cfg k ≡ maxOf k
+  pub above : (k : ℕ) → 0x10 ≤ k → k ≤ lastTag → last < k → countOf cfg k ≡ 0
 
 tidy-starts : Tidy noConfig 0
 tidy-starts = record {
@@ -66,8 +67,8 @@ before cfg last = pick (eqb last 0) [] (editionBytes (cfg .edition) ++ partsByte
 no-parts : (cfg : Config) → Tidy cfg 0 → partsBytes cfg ≡ []
 unfolding partsBytes blockOf build
 no-parts cfg f =
-    let z : (j : ℕ) → j < 10 → kindBytes cfg (0x10 + j) ≡ [] = λ j l. no-part cfg (0x10 + j) (f .above (0x10 + j) (omega arith) (omega arith) (omega arith)) in
-    build-same (λ (j : ℕ). kindBytes cfg (0x10 + j)) (λ (j : ℕ). []) 10 z
+    let z : (j : ℕ) → j < partKinds → kindBytes cfg (0x10 + j) ≡ [] = λ j l. no-part cfg (0x10 + j) (f .above (0x10 + j) (omega arith) (omega arith) (omega arith)) in
+    build-same (λ (j : ℕ). kindBytes cfg (0x10 + j)) (λ (j : ℕ). []) partKinds z
 
 -- what the order of tags says
 order-first : (tag : ℕ) → inOrder 0 tag ≡ true → tag ≡ 0x01

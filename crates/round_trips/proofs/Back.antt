@@ -13,6 +13,7 @@ use lib.ListN.{length, getD, take, drop, length-append, length-drop}
 use lib.Seq.{take-at}
 use lib.Dec.{leb, ltb}
 use borrow.Author.Tests.{eq-eqb, ne-eqb, le-leb, le-ltb}
+use Rattle.numbers.specs.Tags.{lastTag, partKinds}
 use Rattle.laws.specs.Choice.{pick}
 use Rattle.laws.proofs.Choosing.{pick-on}
 use Rattle.config.specs.declared.Config.{Config}
@@ -62,7 +63,7 @@ first e one rest fuel =
     turn fuel (editionBytes e ++ rest) noConfig 0 1 0x01 1 (rw (l, m)) (rw one)
 
 module _ (cfg : Config) (s : configSound cfg ≡ true) (v : (i : ℕ) → getD (cfg .variables .at) i noVariableConf .initial < 2 ^ 32) where
-  module _ (tag i : ℕ) (low : 0x10 ≤ tag) (high : tag ≤ 0x19) (l : i < countOf cfg tag) (p : Config) (f : Stands cfg p tag i) (u : List ℕ) where
+  module _ (tag i : ℕ) (low : 0x10 ≤ tag) (high : tag ≤ lastTag) (l : i < countOf cfg tag) (p : Config) (f : Stands cfg p tag i) (u : List ℕ) where
     abbrev e : Entry
     e = entryOf cfg tag i
 
@@ -91,7 +92,7 @@ module _ (cfg : Config) (s : configSound cfg ≡ true) (v : (i : ℕ) → getD (
         let b = back-read tag low high t (r .range) ∙ reads-entry in
         subst (Adds p (placed p tag (entryRead tag t)) tag) b (adds p (entryRead tag t) tag low high (r .room) (f .places tag low high))
 
-  part-reads : (tag i : ℕ) → 0x10 ≤ tag → tag ≤ 0x19 → i < countOf cfg tag → (u : List ℕ) → Reads cfg tag (i + 1) u → Reads cfg tag i (partBytes cfg tag i ++ u)
+  part-reads : (tag i : ℕ) → 0x10 ≤ tag → tag ≤ lastTag → i < countOf cfg tag → (u : List ℕ) → Reads cfg tag (i + 1) u → Reads cfg tag i (partBytes cfg tag i ++ u)
   unfolding Reads partBytes
   part-reads tag i low high l u rest zero p last place b f n up = absurd (not-suc-le-zero b)
   part-reads tag i low high l u rest (suc fuel) p last place b f n up =
@@ -104,7 +105,7 @@ module _ (cfg : Config) (s : configSound cfg ≡ true) (v : (i : ℕ) → getD (
       (λ q. omega (arith, q, low)) (omega arith)
 
   -- the first n parts of a kind
-  parts-read : (tag n : ℕ) → 0x10 ≤ tag → tag ≤ 0x19 → n ≤ countOf cfg tag → (u : List ℕ) → Reads cfg tag n u → Reads cfg tag 0 (build (partBytes cfg tag) n ++ u)
+  parts-read : (tag n : ℕ) → 0x10 ≤ tag → tag ≤ lastTag → n ≤ countOf cfg tag → (u : List ℕ) → Reads cfg tag n u → Reads cfg tag 0 (build (partBytes cfg tag) n ++ u)
   unfolding build
   parts-read tag zero low high l u rest = rest
   parts-read tag (suc n) low high l u rest =
@@ -113,16 +114,16 @@ module _ (cfg : Config) (s : configSound cfg ≡ true) (v : (i : ℕ) → getD (
       (part-reads tag n low high (omega arith) u (subst (λ (k : ℕ). Reads cfg tag k u) (sym (add-one n)) rest)))
 
   -- a whole kind
-  next-kind : (tag : ℕ) → 0x10 ≤ tag → tag ≤ 0x19 → (u : List ℕ) → Reads cfg (tag + 1) 0 u → Reads cfg tag (countOf cfg tag) u
+  next-kind : (tag : ℕ) → 0x10 ≤ tag → tag ≤ lastTag → (u : List ℕ) → Reads cfg (tag + 1) 0 u → Reads cfg tag (countOf cfg tag) u
   unfolding Reads
   next-kind tag low high u rest fuel p last place b f n up = rest fuel p last place b (stands-next cfg p tag s low high f) n (omega arith)
 
-  kind-reads : (tag : ℕ) → 0x10 ≤ tag → tag ≤ 0x19 → (u : List ℕ) → Reads cfg (tag + 1) 0 u → Reads cfg tag 0 (kindBytes cfg tag ++ u)
+  kind-reads : (tag : ℕ) → 0x10 ≤ tag → tag ≤ lastTag → (u : List ℕ) → Reads cfg (tag + 1) 0 u → Reads cfg tag 0 (kindBytes cfg tag ++ u)
   unfolding kindBytes
   kind-reads tag low high u rest = parts-read tag (countOf cfg tag) low high (omega arith) u (next-kind tag low high u rest)
 
   -- the first m kinds
-  kinds-read : (m : ℕ) → m ≤ 10 → (u : List ℕ) → Reads cfg (0x10 + m) 0 u → Reads cfg 0x10 0 (build (blockOf cfg) m ++ u)
+  kinds-read : (m : ℕ) → m ≤ partKinds → (u : List ℕ) → Reads cfg (0x10 + m) 0 u → Reads cfg 0x10 0 (build (blockOf cfg) m ++ u)
   unfolding build blockOf
   kinds-read zero l u rest = rest
   kinds-read (suc m) l u rest =
@@ -142,9 +143,9 @@ module _ (cfg : Config) (s : configSound cfg ≡ true) (v : (i : ℕ) → getD (
   pub text-back : configOf (textOf cfg) ≡ wholeOf cfg
   unfolding configOf textOf partsBytes Reads
   text-back =
-      let rest : List ℕ = build (blockOf cfg) 10 ++ endBytes in
+      let rest : List ℕ = build (blockOf cfg) partKinds ++ endBytes in
       let r : (fuel : ℕ) (p : Config) (last place : ℕ) → length rest < fuel → Stands cfg p 0x10 0 → (last ≡ 0 → ⊥) → last ≤ 0x10 → readFrom fuel rest p last place ≡ wholeOf cfg =
-      kinds-read 10 (omega arith) endBytes end-reads in
+      kinds-read partKinds (omega arith) endBytes end-reads in
       first (cfg .edition) (edition-told cfg s) rest (length (editionBytes (cfg .edition) ++ rest))
       ∙ r (length (editionBytes (cfg .edition) ++ rest)) (withEdition noConfig (cfg .edition)) 0x01 2 (omega arith) (stands-start cfg) (λ q. omega (arith, q)) (omega arith)
 

@@ -8,6 +8,7 @@ use native.Mathlib.Omega.{arith}
 use lib.ListN.{length, getD, drop}
 use lib.Dec.{eqb, leb, ltb}
 use borrow.Author.Tests.{eq-eqb, le-ltb, le-leb, leb-true}
+use Rattle.numbers.specs.Tags.{lastTag}
 use Rattle.laws.specs.Choice.{pick, both}
 use Rattle.laws.proofs.Choosing.{both-left, both-right}
 use Rattle.config.specs.declared.Config.{Config}
@@ -58,7 +59,7 @@ entry-back tag e rest h = go (eqb tag 0x10) (eqb tag 0x11) (eqb tag 0x12) (eqb t
     go false false false false false = refl
 
 -- the entry of a part has no number that its kind has not
-pub part-shaped : (tag : ℕ) → 0x10 ≤ tag → tag ≤ 0x19 → (cfg : Config) (i : ℕ) → shapeOf tag (entryOf cfg tag i) ≡ entryOf cfg tag i
+pub part-shaped : (tag : ℕ) → 0x10 ≤ tag → tag ≤ lastTag → (cfg : Config) (i : ℕ) → shapeOf tag (entryOf cfg tag i) ≡ entryOf cfg tag i
 unfolding entryOf
 part-shaped =
     each-kind (λ tag. (cfg : Config) (i : ℕ) → shapeOf tag (entryOf cfg tag i) ≡ entryOf cfg tag i)
@@ -83,7 +84,7 @@ unfolding inRange
 period-fits e h = time-fits (e .number) h
 
 pub part-fits : (cfg : Config) → ((i : ℕ) → getD (cfg .variables .at) i noVariableConf .initial < 2 ^ 32)
-    → (tag : ℕ) → 0x10 ≤ tag → tag ≤ 0x19 → (i : ℕ) → inRange tag (entryOf cfg tag i) ≡ true → entryOf cfg tag i .number < 2 ^ 32
+    → (tag : ℕ) → 0x10 ≤ tag → tag ≤ lastTag → (i : ℕ) → inRange tag (entryOf cfg tag i) ≡ true → entryOf cfg tag i .number < 2 ^ 32
 unfolding entryOf variableConfIn
 part-fits cfg v =
     each-kind (λ tag. (i : ℕ) → inRange tag (entryOf cfg tag i) ≡ true → entryOf cfg tag i .number < 2 ^ 32)
@@ -112,7 +113,7 @@ pub record Leads (tag : ℕ) (e : Entry) (rest : List ℕ) (last : ℕ) : Type 0
   pub frame : Framed (entryBytes tag e ++ rest) last tag (sizeOf tag)
   pub behind : drop (3 + sizeOf tag) (entryBytes tag e ++ rest) ≡ rest
 
-pub entry-leads : (tag : ℕ) → 0x10 ≤ tag → tag ≤ 0x19 → (e : Entry) (rest : List ℕ) (last : ℕ) → inOrder last tag ≡ true → Leads tag e rest last
+pub entry-leads : (tag : ℕ) → 0x10 ≤ tag → tag ≤ lastTag → (e : Entry) (rest : List ℕ) (last : ℕ) → inOrder last tag ≡ true → Leads tag e rest last
 unfolding entryBytes sizeOf
 entry-leads =
     each-kind (λ tag. (e : Entry) (rest : List ℕ) (last : ℕ) → inOrder last tag ≡ true → Leads tag e rest last)
@@ -169,7 +170,7 @@ module _ (t : List ℕ) (h : Bytes t) where
       front-read 5 t (pairBytes tag (pairRead t)) room (cc)
 
   -- a field that was read is the field of its entry
-  pub entry-front : (tag : ℕ) → 0x10 ≤ tag → tag ≤ 0x19 → getD t 0 0 ≡ tag → lengthOf (getD t 1 0) (getD t 2 0) ≡ sizeOf tag → 3 + sizeOf tag ≤ length t
+  pub entry-front : (tag : ℕ) → 0x10 ≤ tag → tag ≤ lastTag → getD t 0 0 ≡ tag → lengthOf (getD t 1 0) (getD t 2 0) ≡ sizeOf tag → 3 + sizeOf tag ≤ length t
       → t ≡ entryBytes tag (entryRead tag t) ++ drop (3 + sizeOf tag) t
   unfolding entryRead entryBytes sizeOf
   entry-front =

@@ -6,6 +6,7 @@ use mathlib.Core.Path.{_≡_, sym, ap, ap₂, subst, _∙_}
 use native.Mathlib.Decide.{ℕ-discrete}
 use native.Mathlib.Nat.{not-suc-le-zero}
 use native.Mathlib.Omega.{arith}
+use Rattle.numbers.specs.Tags.{lastTag, partKinds}
 use Rattle.config.specs.declared.Config.{Config}
 use Rattle.wire.specs.Bytes.{build}
 use Rattle.wire.proofs.Laws.{build-same}
@@ -55,12 +56,12 @@ pub no-part : (cfg : Config) (k : ℕ) → countOf cfg k ≡ 0 → kindBytes cfg
 unfolding kindBytes build
 no-part cfg k z = ap (build (partBytes cfg k)) z
 
-pub parts-grow : (cfg cfg′ : Config) (tag : ℕ) (e : Entry) → Adds cfg cfg′ tag e → 0x10 ≤ tag → tag ≤ 0x19 → ((k : ℕ) → 0x10 ≤ k → k ≤ 0x19 → tag < k → countOf cfg k ≡ 0)
+pub parts-grow : (cfg cfg′ : Config) (tag : ℕ) (e : Entry) → Adds cfg cfg′ tag e → 0x10 ≤ tag → tag ≤ lastTag → ((k : ℕ) → 0x10 ≤ k → k ≤ lastTag → tag < k → countOf cfg k ≡ 0)
     → partsBytes cfg′ ≡ partsBytes cfg ++ entryBytes tag e
 unfolding partsBytes blockOf
 parts-grow cfg cfg′ tag e a low high none =
     let q : 0x10 + (tag - 0x10) ≡ tag = omega arith in
-    build-grow (λ (j : ℕ). kindBytes cfg (0x10 + j)) (λ (j : ℕ). kindBytes cfg′ (0x10 + j)) (entryBytes tag e) (tag - 0x10) 10 (omega arith)
+    build-grow (λ (j : ℕ). kindBytes cfg (0x10 + j)) (λ (j : ℕ). kindBytes cfg′ (0x10 + j)) (entryBytes tag e) (tag - 0x10) partKinds (omega arith)
     (λ j n. other-kind cfg cfg′ tag e a (0x10 + j) (λ z. n (omega (arith, z))))
     (subst (λ (k : ℕ). kindBytes cfg′ k ≡ kindBytes cfg k ++ entryBytes tag e) (sym q) (own-kind cfg cfg′ tag e a))
     (λ j l b. no-part cfg (0x10 + j) (none (0x10 + j) (omega arith) (omega arith) (omega arith)))

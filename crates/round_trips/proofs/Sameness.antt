@@ -9,6 +9,7 @@ use native.Mathlib.Omega.{arith}
 use lib.ListN.{length, getD}
 use lib.Seq.{ext-getD}
 use lib.Dec.{eqb, ltb}
+use Rattle.numbers.specs.Tags.{lastTag}
 use Rattle.laws.specs.Choice.{bit}
 use Rattle.laws.proofs.Choosing.{bit-back}
 use Rattle.laws.proofs.Places.{past}
@@ -139,7 +140,7 @@ configOfTables n a b c d e f g h i j =
 joined : (p q : Config) → p .edition ≡ q .edition → p .runnables ≡ q .runnables → p .variables ≡ q .variables → p .areas ≡ q .areas → p .required ≡ q .required → p .provided ≡ q .provided → p .links ≡ q .links → p .operations ≡ q .operations → p .timers ≡ q .timers → p .devents ≡ q .devents → p .revents ≡ q .revents → configOfTables (p .edition) (p .runnables) (p .variables) (p .areas) (p .required) (p .provided) (p .links) (p .operations) (p .timers) (p .devents) (p .revents) ≡ configOfTables (q .edition) (q .runnables) (q .variables) (q .areas) (q .required) (q .provided) (q .links) (q .operations) (q .timers) (q .devents) (q .revents)
 joined p q n a b c d e f g h i j = rw (n, a, b, c, d, e, f, g, h, i, j)
 
-pub same-config : (p q : Config) → p .edition ≡ q .edition → ((k : ℕ) → 0x10 ≤ k → k ≤ 0x19 → Agree p q k) → p ≡ q
+pub same-config : (p q : Config) → p .edition ≡ q .edition → ((k : ℕ) → 0x10 ≤ k → k ≤ lastTag → Agree p q k) → p ≡ q
 unfolding configOfTables
 same-config p q n f =
     joined p q n
@@ -159,7 +160,7 @@ same-config p q n f =
 is-blank : (e : Entry) → isNoEntry e ≡ true → e ≡ noEntry
 is-blank e h = let z = blank-told e h in λ i. record { first = z .first i; second = z .second i; third = z .third i; number = z .number i }
 
-past-places : (cfg : Config) (k : ℕ) → 0x10 ≤ k → k ≤ 0x19 → (n : ℕ) → placesOf cfg k ≤ n → entryOf cfg k n ≡ noEntry
+past-places : (cfg : Config) (k : ℕ) → 0x10 ≤ k → k ≤ lastTag → (n : ℕ) → placesOf cfg k ≤ n → entryOf cfg k n ≡ noEntry
 unfolding placesOf entryOf runnableConfIn variableConfIn areaConfIn requiredConfIn providedConfIn linkIn operationConfIn timerConfIn dataEventIn returnEventIn
 past-places cfg =
     each-kind (λ k. (n : ℕ) → placesOf cfg k ≤ n → entryOf cfg k n ≡ noEntry)
@@ -175,7 +176,7 @@ past-places cfg =
     (λ n h. ap returnEventEntry (past (cfg .revents .at) n (length (cfg .revents .at)) noReturnEvent refl h))
 
 -- no entry stands behind those in use
-pub no-more : (cfg : Config) → configSound cfg ≡ true → (k : ℕ) → 0x10 ≤ k → k ≤ 0x19 → (n : ℕ) → countOf cfg k ≤ n → entryOf cfg k n ≡ noEntry
+pub no-more : (cfg : Config) → configSound cfg ≡ true → (k : ℕ) → 0x10 ≤ k → k ≤ lastTag → (n : ℕ) → countOf cfg k ≤ n → entryOf cfg k n ≡ noEntry
 no-more cfg s k low high n h = go (decLt n (maxOf k))
   where
     go : Dec (n < maxOf k) → entryOf cfg k n ≡ noEntry

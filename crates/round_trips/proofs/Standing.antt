@@ -5,6 +5,7 @@ use mathlib.Core.Bool.{true}
 use mathlib.Core.Path.{_≡_, refl, sym, ap, _∙_}
 use native.Mathlib.Decide.{ℕ-discrete, decLt}
 use native.Mathlib.Omega.{arith}
+use Rattle.numbers.specs.Tags.{lastTag}
 use Rattle.config.specs.declared.Config.{Config}
 use Rattle.config.specs.Tables.{noConfig}
 use Rattle.entries.specs.Entries.{noEntry, maxOf, countOf, placesOf, entryOf, withEdition}
@@ -22,10 +23,10 @@ pub record Stands (cfg p : Config) (tag i : ℕ) : Type 0 where
   pub edition : p .edition ≡ cfg .edition
   pub own : countOf p tag ≡ i
   pub above : (k : ℕ) → tag < k → countOf p k ≡ 0
-  pub places : (k : ℕ) → 0x10 ≤ k → k ≤ 0x19 → placesOf p k ≡ maxOf k
+  pub places : (k : ℕ) → 0x10 ≤ k → k ≤ lastTag → placesOf p k ≡ maxOf k
   pub lower : (k n : ℕ) → k < tag → entryOf p k n ≡ entryOf cfg k n
   pub same : (n : ℕ) → n < i → entryOf p tag n ≡ entryOf cfg tag n
-  pub blank : (k n : ℕ) → tag ≤ k → k ≤ 0x19 → countOf p k ≤ n → entryOf p k n ≡ noEntry
+  pub blank : (k n : ℕ) → tag ≤ k → k ≤ lastTag → countOf p k ≤ n → entryOf p k n ≡ noEntry
 
 -- a configuration with nothing but its edition
 pub stands-start : (cfg : Config) → Stands cfg (withEdition noConfig (cfg .edition)) 0x10 0
@@ -57,14 +58,14 @@ stands-grow cfg p p′ tag i f a = record {
     which n l (yes q) = ap (entryOf p′ tag) (q ∙ sym (f .own)) ∙ a .entry ∙ ap (entryOf cfg tag) (sym q)
     which n l (no d) = a .earlier n (λ q. d (q ∙ f .own)) ∙ f .same n (omega (arith, l, d))
 
-    behind : (k n : ℕ) → tag ≤ k → k ≤ 0x19 → countOf p′ k ≤ n → Dec (k ≡ tag) → entryOf p′ k n ≡ noEntry
+    behind : (k n : ℕ) → tag ≤ k → k ≤ lastTag → countOf p′ k ≤ n → Dec (k ≡ tag) → entryOf p′ k n ≡ noEntry
     behind k n l h b (yes q) =
         let c : countOf p tag + 1 ≤ n = omega (arith, b, a .own, ap (countOf p′) q) in
         ap (λ (x : ℕ). entryOf p′ x n) q ∙ a .earlier n (λ z. omega (arith, z, c)) ∙ f .blank tag n (omega arith) (omega (arith, h, q)) (omega arith)
     behind k n l h b (no d) = a .others k n d ∙ f .blank k n l h (omega (arith, b, a .counts k d))
 
 -- all of a kind stands
-pub stands-next : (cfg p : Config) (tag : ℕ) → configSound cfg ≡ true → 0x10 ≤ tag → tag ≤ 0x19 → Stands cfg p tag (countOf cfg tag) → Stands cfg p (tag + 1) 0
+pub stands-next : (cfg p : Config) (tag : ℕ) → configSound cfg ≡ true → 0x10 ≤ tag → tag ≤ lastTag → Stands cfg p tag (countOf cfg tag) → Stands cfg p (tag + 1) 0
 stands-next cfg p tag s low high f = record {
   edition = f .edition;
   counts = λ k h. count k h (ℕ-discrete k tag);

@@ -7,6 +7,7 @@ use native.Mathlib.Decide.{decLt}
 use native.Mathlib.Omega.{arith}
 use lib.Dec.{ltb, leb}
 use borrow.Author.Tests.{ltb-true, leb-true, eqb-true, not-true, lt-leb}
+use Rattle.numbers.specs.Tags.{partKinds}
 use Rattle.laws.specs.Choice.{alike, bit}
 use Rattle.laws.proofs.Choosing.{clash, both-left, both-right, either-right, alike-is}
 use Rattle.laws.proofs.Places.{past}
@@ -19,14 +20,14 @@ use Rattle.entries.proofs.Kind.{Well, fault-told, Blank, blank-told, Kind, conf
 -- ---- any kind, by its tag
 
 module _ (cfg : Config) (h : configSound cfg ≡ true) where
-  kind : (j : ℕ) → j < 10 → Kind cfg (0x10 + j)
+  kind : (j : ℕ) → j < partKinds → Kind cfg (0x10 + j)
   kind j l = config-told cfg h (0x10 + j) (omega arith) (omega arith)
 
   -- a part in use, and a place not in use
-  used : (j : ℕ) → j < 10 → (i : ℕ) → i < countOf cfg (0x10 + j) → Well cfg (0x10 + j) i (entryOf cfg (0x10 + j) i)
+  used : (j : ℕ) → j < partKinds → (i : ℕ) → i < countOf cfg (0x10 + j) → Well cfg (0x10 + j) i (entryOf cfg (0x10 + j) i)
   used j l i b = fault-told cfg (0x10 + j) i (entryOf cfg (0x10 + j) i) (kind j l .used i b)
 
-  unused : (j : ℕ) → j < 10 → (i : ℕ) → i < maxOf (0x10 + j) → countOf cfg (0x10 + j) ≤ i → Blank (entryOf cfg (0x10 + j) i)
+  unused : (j : ℕ) → j < partKinds → (i : ℕ) → i < maxOf (0x10 + j) → countOf cfg (0x10 + j) ≤ i → Blank (entryOf cfg (0x10 + j) i)
   unused j l i m b = blank-told (entryOf cfg (0x10 + j) i) (kind j l .blank i m b)
 
   -- ---- how many there are

@@ -9,6 +9,7 @@ use native.Mathlib.Omega.{arith}
 use lib.ListN.{length, length-append}
 use lib.Dec.{leb, eqb}
 use borrow.Author.Tests.{le-leb, lt-leb, leb-true, leb-false}
+use Rattle.numbers.specs.Tags.{partKinds}
 use Rattle.laws.specs.Choice.{pick}
 use Rattle.laws.proofs.Looping.{sum-same}
 use Rattle.config.specs.declared.Config.{Config}
@@ -57,7 +58,7 @@ block-size cfg j = kind-size cfg (0x10 + j)
 pub parts-size : (cfg : Config) → length (partsBytes cfg) ≡ partsSize cfg
 unfolding partsBytes partsSize
 parts-size cfg =
-    build-sum (blockOf cfg) 10 ∙ sum-same (λ (j : ℕ). length (blockOf cfg j)) (λ (j : ℕ). kindSize cfg (0x10 + j)) 10 (λ j l. block-size cfg j)
+    build-sum (blockOf cfg) partKinds ∙ sum-same (λ (j : ℕ). length (blockOf cfg j)) (λ (j : ℕ). kindSize cfg (0x10 + j)) partKinds (λ j l. block-size cfg j)
 
 pub text-size : (cfg : Config) → length (textOf cfg) ≡ partsSize cfg + 7
 unfolding textOf
