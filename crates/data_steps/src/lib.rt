@@ -1,25 +1,15 @@
 // Steps 1 to 10, 20 and 21 as code, once refusals 2 to 5 have let them through: variables, areas, elements with the data events, and waiting for data. Each does what its definition in crate effects says, test for test.
 ghost use mathlib.Core.Path.{_≡_};
-ghost use mathlib.Core.Bool.{not};
-ghost use Prim.Native.Nat.{ℕ};
-ghost use lib.Dec.{ltb};
-ghost use Rattle.laws.specs.Choice.{either};
-ghost use Rattle.laws.specs.Loop.{anyBelow};
-ghost use Rattle.config.specs.Tables.{linkIn};
 ghost use Rattle.state.specs.Tables.{slotIn};
 ghost use Rattle.rules.specs.Sound.{isWaiting};
-ghost use Rattle.data_steps.specs.Rooms.{roomIn, roomsOf, feedsBy, isFedBy, fedRunnablesBy, isFullBy, fullMaskBy};
-ghost use Rattle.effects.specs.Steps.{readVariableOf, writeVariableOf, entering, exiting, enterOf, onTop, exitOf, seen, readOf, updatedOf, joins, storing, queueing, fedElement, fedElements, writeOf, invalidateOf, sentOf, sendOf, receiving, receiveOf, holdOf, giveUpOf};
+ghost use Rattle.feeding.specs.Rooms.{isFullBy, fullMaskBy};
+ghost use Rattle.effects.specs.Steps.{readVariableOf, writeVariableOf, entering, exiting, enterOf, onTop, exitOf, seen, readOf, updatedOf, writeOf, invalidateOf, sentOf, sendOf, receiving, receiveOf, holdOf, giveUpOf};
 use config::Config;
-use config::Link;
-use config::Links;
 use config::RequiredConfs;
-use config::RunnableConfs;
+use feeding::Rooms;
 use state::Area;
 use state::Awaited;
 use state::Element;
-use state::Elements;
-use state::Runnables;
 use state::Slot;
 use state::Slots;
 use state::State;
@@ -137,180 +127,6 @@ pub fn updated(st: State, q: u8) -> Stepped
 
 // ---- 6, 8, 10: a value goes to every linked element
 
-fn joins(k: Link, p: u8, q: u8) -> bool
-    ensures { λ r. ⌜ r ≡ joins k p q ⌝ }
-{
-    k.provided == p && k.required == q
-}
-
-// The provided element p is linked to the required element q.
-fn linked(t: Links, p: u8, q: u8) -> bool
-    ensures { λ r. ⌜ r ≡ anyBelow (λ (l : ℕ). joins (linkIn t l) p q) (t .n) ⌝ }
-{
-    let n = t.n;
-    let mut l: u8 = 0;
-    while l < n {
-        if joins(t.get(l), p, q) {
-            return true;
-        }
-        l = l + 1;
-    }
-    false
-}
-
-// An unqueued element takes any value, a queued one while it has room.
-fn accepts(capacity: u8, queued: u8) -> bool
-    ensures { λ r. ⌜ r ≡ either (not (ltb 0 capacity)) (ltb queued capacity) ⌝ }
-{
-    if 0 < capacity {
-        return queued < capacity;
-    }
-    true
-}
-
-fn storing(v: Value, x: Element) -> Element
-    ensures { λ r. ⌜ r ≡ storing v x ⌝ }
-{
-    let mut y = x;
-    y.value = v;
-    y.updated = true;
-    y
-}
-
-fn queueing(v: Value, x: Element) -> Element
-    ensures { λ r. ⌜ r ≡ queueing v x ⌝ }
-{
-    let q = x.queue;
-    let mut y = x;
-    y.queue = q.push(v);
-    y
-}
-
-// The element q after p has handed over v: a full queue drops it, and stops no other.
-fn fed_element(cfg: Config, p: u8, v: Value, q: u8, x: Element) -> Element
-    ensures { λ r. ⌜ r ≡ fedElement cfg p v q x ⌝ }
-{
-    let links = cfg.links;
-    if linked(links, p, q) {
-        let required = cfg.required;
-        let c = required.get(q);
-        let queue = x.queue;
-        if accepts(c.capacity, queue.queued) {
-            if 0 < c.capacity {
-                return queueing(v, x);
-            }
-            return storing(v, x);
-        }
-        return x;
-    }
-    x
-}
-
-fn fed_elements(cfg: Config, p: u8, v: Value, t: Elements) -> Elements
-    ensures { λ r. ⌜ r ≡ fedElements cfg p v t ⌝ }
-{
-    let required = cfg.required;
-    let n = shared_steps::within(required.n, RequiredConfs::MAX as u8);
-    let mut u = t;
-    let mut q: u8 = 0;
-    while q < n {
-        let k = q as usize;
-        let x = u.at[k];
-        let y = fed_element(cfg, p, v, q, x);
-        u.at[k] = y;
-        q = q + 1;
-    }
-    u
-}
-
-// Which required elements take one more value. Past the last place there is none, and nothing holds a value back.
-struct Rooms {
-    at: [bool; RequiredConfs::MAX],
-}
-
-impl Rooms {
-    fn of(cfg: Config, t: Elements) -> Rooms
-        ensures { λ r. ⌜ r ≡ roomsOf cfg t ⌝ }
-    {
-        let required = cfg.required;
-        let mut u = Rooms {
-            at: [true; RequiredConfs::MAX],
-        };
-        let mut q: u8 = 0;
-        let mut k: usize = 0;
-        while k < RequiredConfs::MAX {
-            let c = required.get(q);
-            let x = t.at[k];
-            let queue = x.queue;
-            let b = accepts(c.capacity, queue.queued);
-            u.at[k] = b;
-            q = q + 1;
-            k = k + 1;
-        }
-        u
-    }
-
-    fn get(self, q: u8) -> bool
-        ensures { λ r. ⌜ r ≡ roomIn self q ⌝ }
-    {
-        let k = q as usize;
-        if k < RequiredConfs::MAX {
-            return self.at[k];
-        }
-        true
-    }
-}
-
-// The data event e is one of r, and its element stores what p hands over.
-fn feeds(cfg: Config, rooms: Rooms, p: u8, r: u8, e: u8) -> bool
-    ensures { λ b. ⌜ b ≡ feedsBy cfg rooms p r e ⌝ }
-{
-    let devents = cfg.devents;
-    let d = devents.get(e);
-    if d.runnable == r {
-        let links = cfg.links;
-        if linked(links, p, d.required) {
-            return rooms.get(d.required);
-        }
-        return false;
-    }
-    false
-}
-
-fn is_fed(cfg: Config, rooms: Rooms, p: u8, r: u8) -> bool
-    ensures { λ b. ⌜ b ≡ isFedBy cfg rooms p r ⌝ }
-{
-    let devents = cfg.devents;
-    let n = devents.n;
-    let mut e: u8 = 0;
-    while e < n {
-        if feeds(cfg, rooms, p, r, e) {
-            return true;
-        }
-        e = e + 1;
-    }
-    false
-}
-
-// Each runnable that data events wake, once.
-fn fed_runnables(cfg: Config, rooms: Rooms, p: u8, rs: Runnables) -> Runnables
-    ensures { λ r. ⌜ r ≡ fedRunnablesBy cfg rooms p rs ⌝ }
-{
-    let confs = cfg.runnables;
-    let n = shared_steps::within(confs.n, RunnableConfs::MAX as u8);
-    let mut u = rs;
-    let mut r: u8 = 0;
-    while r < n {
-        let k = r as usize;
-        let x = u.at[k];
-        let c = confs.at[k];
-        let y = shared_steps::woken_if(is_fed(cfg, rooms, p, r), c, x);
-        u.at[k] = y;
-        r = r + 1;
-    }
-    u
-}
-
 pub fn write(cfg: Config, st: State, p: u8, v: Value) -> Stepped
     ensures { λ r. ⌜ r ≡ writeOf cfg st p v ⌝ }
 {
@@ -318,8 +134,8 @@ pub fn write(cfg: Config, st: State, p: u8, v: Value) -> Stepped
     let rs = st.runnables;
     let rooms = Rooms::of(cfg, t);
     let mut next = st;
-    next.elements = fed_elements(cfg, p, v, t);
-    next.runnables = fed_runnables(cfg, rooms, p, rs);
+    next.elements = feeding::fed_elements(cfg, p, v, t);
+    next.runnables = feeding::fed_runnables(cfg, rooms, p, rs);
     shared_steps::take(Value::VOID, next)
 }
 
@@ -329,7 +145,7 @@ pub fn invalidate(cfg: Config, st: State, p: u8) -> Stepped
 {
     let t = st.elements;
     let mut next = st;
-    next.elements = fed_elements(cfg, p, Value::INVALID, t);
+    next.elements = feeding::fed_elements(cfg, p, Value::INVALID, t);
     shared_steps::take(Value::VOID, next)
 }
 
@@ -338,7 +154,7 @@ fn is_full(cfg: Config, rooms: Rooms, p: u8, q: u8) -> bool
     ensures { λ r. ⌜ r ≡ isFullBy cfg rooms p q ⌝ }
 {
     let links = cfg.links;
-    if linked(links, p, q) {
+    if feeding::linked(links, p, q) {
         if rooms.get(q) {
             return false;
         }
@@ -384,8 +200,8 @@ pub fn send(cfg: Config, st: State, p: u8, v: Value) -> Stepped
     let rs = st.runnables;
     let rooms = Rooms::of(cfg, t);
     let mut next = st;
-    next.elements = fed_elements(cfg, p, v, t);
-    next.runnables = fed_runnables(cfg, rooms, p, rs);
+    next.elements = feeding::fed_elements(cfg, p, v, t);
+    next.runnables = feeding::fed_runnables(cfg, rooms, p, rs);
     shared_steps::take(sent(full_mask(cfg, rooms, p)), next)
 }
 

@@ -400,6 +400,26 @@ shared-steps-woken κs a x y s t = same
 pub shared-steps-woken-if : One Rattle.shared_steps.proofs.woken_if.Kinds.ps Rattle.shared_steps.proofs.woken_if.Kinds.r Rattle.shared_steps.proofs.woken_if.Reads.Post
 shared-steps-woken-if κs a x y s t = same
 
+-- ---- feeding
+
+pub feeding-linked : One Rattle.feeding.proofs.linked.Kinds.ps Rattle.feeding.proofs.linked.Kinds.r Rattle.feeding.proofs.linked.Reads.Post
+feeding-linked κs a x y s t = same
+
+pub feeding-fed-elements : One Rattle.feeding.proofs.fed_elements.Kinds.ps Rattle.feeding.proofs.fed_elements.Kinds.r Rattle.feeding.proofs.fed_elements.Reads.Post
+feeding-fed-elements κs a x y s t = same
+
+pub feeding-Rooms-of : One Rattle.feeding.proofs.Rooms.of.Kinds.ps Rattle.feeding.proofs.Rooms.of.Kinds.r Rattle.feeding.proofs.Rooms.of.Reads.Post
+feeding-Rooms-of κs a x y s t = same
+
+pub feeding-Rooms-get : One Rattle.feeding.proofs.Rooms.get.Kinds.ps Rattle.feeding.proofs.Rooms.get.Kinds.r Rattle.feeding.proofs.Rooms.get.Reads.Post
+feeding-Rooms-get κs a x y s t = same
+
+pub feeding-is-fed : One Rattle.feeding.proofs.is_fed.Kinds.ps Rattle.feeding.proofs.is_fed.Kinds.r Rattle.feeding.proofs.is_fed.Reads.Post
+feeding-is-fed κs a x y s t = same
+
+pub feeding-fed-runnables : One Rattle.feeding.proofs.fed_runnables.Kinds.ps Rattle.feeding.proofs.fed_runnables.Kinds.r Rattle.feeding.proofs.fed_runnables.Reads.Post
+feeding-fed-runnables κs a x y s t = same
+
 -- ---- data_steps
 
 pub data-steps-read-variable : One Rattle.data_steps.proofs.read_variable.Kinds.ps Rattle.data_steps.proofs.read_variable.Kinds.r Rattle.data_steps.proofs.read_variable.Reads.Post

@@ -11,8 +11,8 @@ use native.Mathlib.Omega.{arith}
 use Rattle.laws.proofs.Masks.{mask-none, mask-on, mask-off, mask-small, mask-within}
 use Rattle.laws.proofs.Places.{length-mapped}
 use Rattle.laws.specs.Mask.{maskBelow}
-use Rattle.data_steps.specs.Rooms.{fullMaskBy, isFullBy}
-use Rattle.data_steps.proofs.Noted.{full-past}
+use Rattle.feeding.specs.Rooms.{fullMaskBy, isFullBy}
+use Rattle.feeding.proofs.Noted.{full-past}
 use Rattle.data_steps.proofs.full_mask.Statement.{statement}
 use Rattle.data_steps.proofs.full_mask.Tie as tie
 

@@ -1,7 +1,7 @@
 -- `data_steps::is_full` meets its contract.
 -- Assumes nothing.
 use Rattle.effects.specs.Steps.{linked}
-use Rattle.data_steps.specs.Rooms.{isFullBy}
+use Rattle.feeding.specs.Rooms.{isFullBy}
 use Rattle.data_steps.proofs.is_full.Statement.{statement}
 use Rattle.data_steps.proofs.is_full.Tie as tie
 

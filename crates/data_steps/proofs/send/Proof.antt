@@ -4,7 +4,7 @@ use lib.ListN.{length}
 use mathlib.Core.Path.{_≡_}
 use Rattle.laws.proofs.Places.{length-mapped}
 use Rattle.effects.specs.Steps.{fed, sendOf}
-use Rattle.data_steps.proofs.Noted.{full-mask-by, fed-runnables-by}
+use Rattle.feeding.proofs.Noted.{full-mask-by, fed-runnables-by}
 use Rattle.data_steps.proofs.send.Statement.{statement}
 use Rattle.data_steps.proofs.send.Tie as tie
 

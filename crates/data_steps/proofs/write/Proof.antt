@@ -4,7 +4,7 @@ use lib.ListN.{length}
 use mathlib.Core.Path.{_≡_}
 use Rattle.laws.proofs.Places.{length-mapped}
 use Rattle.effects.specs.Steps.{fed, writeOf}
-use Rattle.data_steps.proofs.Noted.{fed-runnables-by}
+use Rattle.feeding.proofs.Noted.{fed-runnables-by}
 use Rattle.data_steps.proofs.write.Statement.{statement}
 use Rattle.data_steps.proofs.write.Tie as tie
 

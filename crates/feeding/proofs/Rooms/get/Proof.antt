@@ -1,13 +1,13 @@
--- `data_steps::Rooms::get` meets its contract.
+-- `feeding::Rooms::get` meets its contract.
 -- Assumes nothing.
 use borrow.Author.Needs.{needs}
 use lib.ListN.{length}
 use mathlib.Core.Bool.{true}
 use mathlib.Core.Path.{_≡_, sym}
 use Rattle.laws.proofs.Places.{inside, past}
-use Rattle.data_steps.specs.Rooms.{roomIn}
-use Rattle.data_steps.proofs.Rooms.get.Statement.{statement}
-use Rattle.data_steps.proofs.Rooms.get.Tie as tie
+use Rattle.feeding.specs.Rooms.{roomIn}
+use Rattle.feeding.proofs.Rooms.get.Statement.{statement}
+use Rattle.feeding.proofs.Rooms.get.Tie as tie
 
 returns : tie.Need-returns
 unfolding roomIn

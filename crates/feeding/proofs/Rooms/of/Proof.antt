@@ -1,4 +1,4 @@
--- `data_steps::Rooms::of` meets its contract. The loop has noted the elements below its counter (`eachBelow`).
+-- `feeding::Rooms::of` meets its contract. The loop has noted the elements below its counter (`eachBelow`).
 -- Assumes nothing.
 use Prim.Native.Nat.{_-_, _≤_, ℕ, _<_}
 use borrow.Author.Needs.{needs}
@@ -14,11 +14,11 @@ use Rattle.laws.specs.Choice.{either}
 use Rattle.laws.specs.Row.{eachBelow}
 use Rattle.effects.specs.Steps.{accepts}
 use Rattle.state.specs.Tables.{elementIn}
-use Rattle.data_steps.proofs.Noted.{rooms-made}
+use Rattle.feeding.proofs.Noted.{rooms-made}
 use Rattle.shared_steps.proofs.Stopping.{each-put, element-here}
-use Rattle.data_steps.specs.Rooms.{roomsOf}
-use Rattle.data_steps.proofs.Rooms.of.Statement.{statement}
-use Rattle.data_steps.proofs.Rooms.of.Tie as tie
+use Rattle.feeding.specs.Rooms.{roomsOf}
+use Rattle.feeding.proofs.Rooms.of.Statement.{statement}
+use Rattle.feeding.proofs.Rooms.of.Tie as tie
 
 abbrev Inv-loop : tie.InvT-loop
 Inv-loop t required u₀ q₀ k₀ u q k = (k ≤ 16) × (q ≡ k) × (u .at ≡ eachBelow (λ (j : ℕ) (b : Bool). either (not (ltb 0 (requiredConfIn required j .capacity))) (ltb (elementIn t j .queue .queued) (requiredConfIn required j .capacity))) true k (replicate 16 true))

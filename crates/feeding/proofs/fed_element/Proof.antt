@@ -1,10 +1,10 @@
--- `data_steps::fed_element` meets its contract.
+-- `feeding::fed_element` meets its contract.
 -- Assumes nothing.
 use borrow.Author.Tests.{le-ltb, lt-ltb}
 use Rattle.entries.specs.Faults.{isQueued}
 use Rattle.effects.specs.Steps.{accepts, fedElement, linked}
-use Rattle.data_steps.proofs.fed_element.Statement.{statement}
-use Rattle.data_steps.proofs.fed_element.Tie as tie
+use Rattle.feeding.proofs.fed_element.Statement.{statement}
+use Rattle.feeding.proofs.fed_element.Tie as tie
 
 returns : tie.Need-returns
 unfolding fedElement linked accepts isQueued

@@ -1,4 +1,4 @@
--- `data_steps::linked` meets its contract.
+-- `feeding::linked` meets its contract.
 -- Assumes nothing.
 use Prim.Native.Nat.{_-_, _≤_, ℕ}
 use borrow.Author.Needs.{needs}
@@ -9,8 +9,8 @@ use Rattle.config.specs.Tables.{linkIn}
 use Rattle.laws.proofs.Looping.{any-here, any-more, any-none}
 use Rattle.laws.specs.Loop.{anyBelow}
 use Rattle.effects.specs.Steps.{joins}
-use Rattle.data_steps.proofs.linked.Statement.{statement}
-use Rattle.data_steps.proofs.linked.Tie as tie
+use Rattle.feeding.proofs.linked.Statement.{statement}
+use Rattle.feeding.proofs.linked.Tie as tie
 
 abbrev Inv-loop : tie.InvT-loop
 Inv-loop t p q n l₀ l = (l ≤ n) × (anyBelow (λ (k : ℕ). joins (linkIn t k) p q) l ≡ false)

@@ -19,8 +19,8 @@ use Rattle.entries.specs.Faults.{isQueued}
 use Rattle.state.specs.Parts.{noRunnable}
 use Rattle.state.specs.Tables.{elementIn}
 use Rattle.effects.specs.Steps.{linked, accepts, woken, feeds, isFed, fedRunnables, isFull, fullMask}
-use Rattle.data_steps.specs.declared.Rooms.{Rooms}
-use Rattle.data_steps.specs.Rooms.{roomsOf, roomIn, feedsBy, isFedBy, fedRunnablesBy, isFullBy, fullMaskBy}
+use Rattle.feeding.specs.declared.Rooms.{Rooms}
+use Rattle.feeding.specs.Rooms.{roomsOf, roomIn, feedsBy, isFedBy, fedRunnablesBy, isFullBy, fullMaskBy}
 
 pub rooms-made : {u : Rooms} {l : List Bool} → u .at ≡ l → _≡_ {A = Rooms} u (record { at = l })
 rooms-made h = rw (← h)

@@ -13,7 +13,7 @@ use Rattle.config.specs.Tables.{maxRequiredConfs, runnableConfIn, dataEventIn}
 use Rattle.state.specs.Parts.{noRunnable}
 use Rattle.state.specs.Tables.{elementIn}
 use Rattle.effects.specs.Steps.{linked, accepts, woken}
-use Rattle.data_steps.specs.declared.Rooms.{Rooms}
+use Rattle.feeding.specs.declared.Rooms.{Rooms}
 
 -- each element that takes one more; past the last place nothing holds a value back ("The eighteen steps", 6 and 10)
 unfoldable pub roomsOf : Config → Elements → Rooms

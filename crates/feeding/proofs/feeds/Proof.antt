@@ -1,10 +1,10 @@
--- `data_steps::feeds` meets its contract.
+-- `feeding::feeds` meets its contract.
 -- Assumes nothing.
 use borrow.Author.Tests.{eq-eqb, ne-eqb}
 use Rattle.effects.specs.Steps.{linked}
-use Rattle.data_steps.specs.Rooms.{feedsBy}
-use Rattle.data_steps.proofs.feeds.Statement.{statement}
-use Rattle.data_steps.proofs.feeds.Tie as tie
+use Rattle.feeding.specs.Rooms.{feedsBy}
+use Rattle.feeding.proofs.feeds.Statement.{statement}
+use Rattle.feeding.proofs.feeds.Tie as tie
 
 returns : tie.Need-returns
 unfolding feedsBy linked

@@ -1,4 +1,4 @@
--- `data_steps::is_fed` meets its contract.
+-- `feeding::is_fed` meets its contract.
 -- Assumes nothing.
 use Prim.Native.Nat.{_-_, _≤_}
 use borrow.Author.Needs.{needs}
@@ -7,9 +7,9 @@ use mathlib.Core.Path.{_∙_, _≡_, sym}
 use native.Mathlib.Omega.{arith}
 use Rattle.laws.proofs.Looping.{any-here, any-more, any-none}
 use Rattle.laws.specs.Loop.{anyBelow}
-use Rattle.data_steps.specs.Rooms.{feedsBy, isFedBy}
-use Rattle.data_steps.proofs.is_fed.Statement.{statement}
-use Rattle.data_steps.proofs.is_fed.Tie as tie
+use Rattle.feeding.specs.Rooms.{feedsBy, isFedBy}
+use Rattle.feeding.proofs.is_fed.Statement.{statement}
+use Rattle.feeding.proofs.is_fed.Tie as tie
 
 abbrev Inv-loop : tie.InvT-loop
 Inv-loop cfg rooms p r n e₀ e = (e ≤ n) × (anyBelow (feedsBy cfg rooms p r) e ≡ false)

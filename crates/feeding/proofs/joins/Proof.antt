@@ -1,8 +1,8 @@
--- `data_steps::joins` meets its contract.
+-- `feeding::joins` meets its contract.
 -- Assumes nothing.
 use borrow.Author.Tests.{eq-eqb, ne-eqb}
-use Rattle.data_steps.proofs.joins.Statement.{statement}
-use Rattle.data_steps.proofs.joins.Tie as tie
+use Rattle.feeding.proofs.joins.Statement.{statement}
+use Rattle.feeding.proofs.joins.Tie as tie
 
 returns : tie.Need-returns
 returns c = rw (eq-eqb _ _ (c .before .if1 .taken))

@@ -1,8 +1,8 @@
--- `data_steps::accepts` meets its contract.
+-- `feeding::accepts` meets its contract.
 -- Assumes nothing.
 use borrow.Author.Tests.{le-ltb, lt-ltb}
-use Rattle.data_steps.proofs.accepts.Statement.{statement}
-use Rattle.data_steps.proofs.accepts.Tie as tie
+use Rattle.feeding.proofs.accepts.Statement.{statement}
+use Rattle.feeding.proofs.accepts.Tie as tie
 
 returns : tie.Need-returns
 returns c = rw (lt-ltb _ _ (c .if1 .taken))

@@ -1,4 +1,4 @@
--- `data_steps::fed_runnables` meets its contract. The loop has been over the places below its counter (`eachBelow`), and takes one more by `each-put`.
+-- `feeding::fed_runnables` meets its contract. The loop has been over the places below its counter (`eachBelow`), and takes one more by `each-put`.
 -- Assumes nothing.
 use Prim.Native.Nat.{_-_, _≤_, ℕ}
 use borrow.Author.Needs.{needs}
@@ -13,9 +13,9 @@ use Rattle.effects.specs.Steps.{woken}
 use Rattle.state.specs.Parts.{noRunnable}
 use Rattle.faces.specs.Types.{Runnable}
 use Rattle.shared_steps.proofs.Stopping.{each-put, each-within, runnables-made}
-use Rattle.data_steps.specs.Rooms.{fedRunnablesBy, isFedBy}
-use Rattle.data_steps.proofs.fed_runnables.Statement.{statement}
-use Rattle.data_steps.proofs.fed_runnables.Tie as tie
+use Rattle.feeding.specs.Rooms.{fedRunnablesBy, isFedBy}
+use Rattle.feeding.proofs.fed_runnables.Statement.{statement}
+use Rattle.feeding.proofs.fed_runnables.Tie as tie
 
 abbrev Inv-loop : tie.InvT-loop
 Inv-loop cfg rooms p confs n u₀ r₀ u r =

@@ -1,7 +1,7 @@
--- `data_steps::queueing` meets its contract.
+-- `feeding::queueing` meets its contract.
 -- Assumes nothing.
-use Rattle.data_steps.proofs.queueing.Statement.{statement}
-use Rattle.data_steps.proofs.queueing.Tie as tie
+use Rattle.feeding.proofs.queueing.Statement.{statement}
+use Rattle.feeding.proofs.queueing.Tie as tie
 
 returns : tie.Need-returns
 returns c = rw (c .push .ensures)

@@ -1,4 +1,4 @@
--- `data_steps::fed_elements` meets its contract. The loop has been over the places below its counter (`eachBelow`), and takes one more by `each-put`.
+-- `feeding::fed_elements` meets its contract. The loop has been over the places below its counter (`eachBelow`), and takes one more by `each-put`.
 -- Assumes nothing.
 use Prim.Native.Nat.{_-_, _≤_}
 use borrow.Author.Needs.{needs}
@@ -10,8 +10,8 @@ use Rattle.laws.specs.Row.{eachBelow}
 use Rattle.effects.specs.Steps.{fedElement, fedElements}
 use Rattle.state.specs.Parts.{noElement}
 use Rattle.shared_steps.proofs.Stopping.{each-put, each-within, elements-made}
-use Rattle.data_steps.proofs.fed_elements.Statement.{statement}
-use Rattle.data_steps.proofs.fed_elements.Tie as tie
+use Rattle.feeding.proofs.fed_elements.Statement.{statement}
+use Rattle.feeding.proofs.fed_elements.Tie as tie
 
 abbrev Inv-loop : tie.InvT-loop
 Inv-loop cfg p v n u₀ q₀ u q = (q ≤ n) × (u .at ≡ eachBelow (fedElement cfg p v) noElement q (u₀ .at))

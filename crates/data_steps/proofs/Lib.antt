@@ -1,2 +1,0 @@
--- Laws that the proofs of steps 1 to 10 cite.
-pub mod Noted
