@@ -9,17 +9,17 @@ use lib.Dec.{eqb}
 use lib.ListN.{length}
 use lib.Seq.{getD-set-same, getD-set-other}
 use borrow.Author.Tests.{lt-leb, le-leb, leb-true, ltb-true, ltb-false, eq-eqb, ne-eqb, eqb-true}
-use Rattle.numbers.specs.Codes.{writeCode, sendCode, handBackCode, spawnCode, timeoutCode, tickCode}
+use Rattle.numbers.specs.Codes.{writeCode, sendCode, handBackCode, endCode, spawnCode, timeoutCode, tickCode}
 use Rattle.laws.specs.Choice.{pick, both, bit}
 use Rattle.laws.proofs.Choosing.{both-left}
 use Rattle.laws.proofs.Places.{each-at}
-use Rattle.faces.specs.Types.{Value, Step, RunnableConf, Config, Runnable, State}
+use Rattle.faces.specs.Types.{Value, Step, RunnableConf, Config, Runnable, Copies, State}
 use Rattle.config.specs.Tables.{runnableConfIn, timerConfIn, topOf}
 use Rattle.entries.specs.Faults.{isServer}
 use Rattle.state.specs.Parts.{noRunnable}
-use Rattle.state.specs.Tables.{runnableIn, withRunnable}
+use Rattle.state.specs.Tables.{runnableIn, withRunnable, copiesIn}
 use Rattle.rules.proofs.Configured.{runnables-most}
-use Rattle.effects.specs.Steps.{oneMore, woken, isFed, fedRunnables, fed, called, isReturned, returnedRunnables, closed, answers, clientOf, isDue, starting, spawned, waited}
+use Rattle.effects.specs.Steps.{runnableOf, leaving, isGivenTo, givenRunnables, handsOn, handedRunnables, oneMore, woken, isFed, fedRunnables, fed, called, isReturned, returnedRunnables, closed, answers, clientOf, isDue, starting, spawned, waited}
 use Rattle.effects.proofs.Pending.{more-below, more-above}
 use Rattle.stays_sound.specs.Facts.{Sound, CanSpawn}
 use Rattle.stays_sound.proofs.Told.{told, runnables-length}
@@ -29,7 +29,7 @@ use Rattle.stays_sound.proofs.Ways.{Way}
 use Rattle.stays_sound.proofs.Ways as go
 use Rattle.stays_sound.proofs.Accepted.{accepted, gone}
 use Rattle.history.proofs.Runs.{taken-of}
-use Rattle.activations.specs.Claims.{pendingOf, topAt, Plain, triggers, loses, spawns, StepCounts, TopHolds}
+use Rattle.activations.specs.Claims.{pendingOf, topAt, Plain, handsOnTo, triggers, loses, spawns, StepCounts, TopHolds}
 
 -- ---- the top
 
@@ -63,7 +63,8 @@ module _ (cfg : Config) (st : State) (s : Step) (r : ℕ) (p : Plain cfg r) (g :
       (pick (eqb n sendCode) (isFed cfg (st .elements) (s .what) r)
       (pick (eqb n handBackCode) (both (answers (st .operations) (clientOf st (s .who))) (isReturned cfg (clientOf st (s .who) .operation) r))
       (pick (eqb n timeoutCode) (isReturned cfg (s .what) r)
-      (both (eqb n tickCode) (eqb (timerConfIn (cfg .timers) (s .what) .runnable) r)))))
+      (pick (eqb n endCode) (handsOnTo cfg st (s .who) r)
+      (both (eqb n tickCode) (eqb (timerConfIn (cfg .timers) (s .what) .runnable) r))))))
 
   trigger : {n : ℕ} → s .code ≡ n → triggers cfg st s r ≡ triggersBy n
   unfolding triggers
@@ -112,11 +113,32 @@ module _ (cfg : Config) (st : State) (s : Step) (r : ℕ) (p : Plain cfg r) (g :
       ap (λ (x : Runnable). x .pending) (each-at (λ (k : ℕ) (x : Runnable). pick (isFed cfg (st .elements) q k) (woken (runnableConfIn (cfg .runnables) k) x) x) noRunnable (cfg .runnables .n) (st .runnables .at) r (p .0) here)
       ∙ woken-pending (isFed cfg (st .elements) q r) (runnableConfIn (cfg .runnables) r) (runnableIn (st .runnables) r)
 
+  given-at : (k : ℕ) (c : Copies) → runnableIn (givenRunnables cfg (st .elements) k c (st .runnables)) r .pending ≡ pick (isGivenTo cfg (st .elements) k c r) (oneMore (topAt cfg r) (pendingOf st r)) (pendingOf st r)
+  unfolding givenRunnables runnableIn
+  given-at k c =
+      ap (λ (x : Runnable). x .pending) (each-at (λ (j : ℕ) (x : Runnable). pick (isGivenTo cfg (st .elements) k c j) (woken (runnableConfIn (cfg .runnables) j) x) x) noRunnable (cfg .runnables .n) (st .runnables .at) r (p .0) here)
+      ∙ woken-pending (isGivenTo cfg (st .elements) k c r) (runnableConfIn (cfg .runnables) r) (runnableIn (st .runnables) r)
+
   closed-pending : (o : ℕ) (v : Value) → pendingOf (closed cfg st o v) r ≡ pick (isReturned cfg o r) (oneMore (topAt cfg r) (pendingOf st r)) (pendingOf st r)
   unfolding closed returnedRunnables runnableIn
   closed-pending o v =
       ap (λ (x : Runnable). x .pending) (each-at (λ (k : ℕ) (x : Runnable). pick (isReturned cfg o k) (woken (runnableConfIn (cfg .runnables) k) x) x) noRunnable (cfg .runnables .n) (st .runnables .at) r (p .0) here)
       ∙ woken-pending (isReturned cfg o r) (runnableConfIn (cfg .runnables) r) (runnableIn (st .runnables) r)
+
+  -- an end hands on what its instance has set
+  handed-pending : (i : ℕ) → runnableIn (handedRunnables cfg st i) r .pending ≡ pick (handsOnTo cfg st i r) (oneMore (topAt cfg r) (pendingOf st r)) (pendingOf st r)
+  unfolding handedRunnables
+  handed-pending i = by (handsOn cfg st i) refl
+    where
+      k : ℕ
+      k = runnableOf st i
+
+      given-pending : runnableIn (givenRunnables cfg (st .elements) k (copiesIn (st .outgoing) i) (st .runnables)) r .pending ≡ pick (isGivenTo cfg (st .elements) k (copiesIn (st .outgoing) i) r) (oneMore (topAt cfg r) (pendingOf st r)) (pendingOf st r)
+      given-pending = given-at k (copiesIn (st .outgoing) i)
+
+      by : (b : Bool) → handsOn cfg st i ≡ b → runnableIn (pick b (givenRunnables cfg (st .elements) k (copiesIn (st .outgoing) i) (st .runnables)) (st .runnables)) r .pending ≡ pick (both b (isGivenTo cfg (st .elements) k (copiesIn (st .outgoing) i) r)) (oneMore (topAt cfg r) (pendingOf st r)) (pendingOf st r)
+      by true e = given-pending
+      by false e = refl
 
   -- one runnable changed: r itself, or another
   put-same : (x : Runnable) → runnableIn (withRunnable (st .runnables) r x) r ≡ x
@@ -180,7 +202,7 @@ module _ (cfg : Config) (st : State) (s : Step) (r : ℕ) (p : Plain cfg r) (g :
   counts-way c (go.answer z e) =
       wakes (isReturned cfg (clientOf st (s .who) .operation) r) (trigger c ∙ ap (λ (b : Bool). both b (isReturned cfg (clientOf st (s .who) .operation) r)) e) (spawn c) (closed-pending (clientOf st (s .who) .operation) _)
   counts-way c (go.late z e) = calm (trigger c ∙ ap (λ (b : Bool). both b (isReturned cfg (clientOf st (s .who) .operation) r)) e) (spawn c) refl
-  counts-way c (go.end z) = calm (trigger c) (spawn c) (runnable-kept (λ x. x .pending) (st .runnables) _ _ refl r)
+  counts-way c (go.end z) = wakes (handsOnTo cfg st (s .who) r) (trigger c) (spawn c) (runnable-kept (λ x. x .pending) (handedRunnables cfg st (s .who)) (runnableOf st (s .who)) (leaving (runnableIn (handedRunnables cfg st (s .who)) (runnableOf st (s .who)))) refl r ∙ handed-pending (s .who))
   counts-way c (go.spawn z) = spawn-counts c z
   counts-way c (go.timeout z) = wakes (isReturned cfg (s .what) r) (trigger c) (spawn c) (closed-pending (s .what) _)
   counts-way c (go.tick z) = wakes (eqb (timerConfIn (cfg .timers) (s .what) .runnable) r) (trigger c) (spawn c) (tick-pending (timerConfIn (cfg .timers) (s .what) .runnable))
@@ -188,6 +210,8 @@ module _ (cfg : Config) (st : State) (s : Step) (r : ℕ) (p : Plain cfg r) (g :
   counts-way c (go.fail z) = calm (trigger c) (spawn c) refl
   counts-way c (go.hold z) = calm (trigger c) (spawn c) refl
   counts-way c (go.giveUp z) = calm (trigger c) (spawn c) refl
+  counts-way c (go.readCopy z) = calm (trigger c) (spawn c) refl
+  counts-way c (go.writeCopy z) = calm (trigger c) (spawn c) refl
 
 pub step-counts : StepCounts
 step-counts cfg st s r p a =

@@ -6,14 +6,14 @@ use mathlib.Core.Bool.{Bool, true, false}
 use mathlib.Core.List.{List, [], _∷_}
 use mathlib.Core.Path.{_≡_}
 use lib.Dec.{leb, eqb}
-use Rattle.numbers.specs.Codes.{writeCode, sendCode, handBackCode, spawnCode, timeoutCode, tickCode}
+use Rattle.numbers.specs.Codes.{writeCode, sendCode, handBackCode, endCode, spawnCode, timeoutCode, tickCode}
 use Rattle.laws.specs.Choice.{pick, both, either, bit}
 use Rattle.faces.specs.Types.{Step, Config, State}
 use Rattle.config.specs.Tables.{maxPending, runnableConfIn, timerConfIn, topOf}
 use Rattle.entries.specs.Faults.{isServer}
-use Rattle.state.specs.Tables.{maxSlots, runnableIn}
+use Rattle.state.specs.Tables.{maxSlots, runnableIn, copiesIn}
 use Rattle.rules.specs.Sound.{soundOf}
-use Rattle.effects.specs.Steps.{isFed, isReturned, answers, clientOf, lowestEmpty}
+use Rattle.effects.specs.Steps.{runnableOf, isGivenTo, handsOn, isFed, isReturned, answers, clientOf, lowestEmpty}
 use Rattle.effects.specs.Step.{stepOf}
 use Rattle.history.specs.Promises.{Answers, Accepted, Possible}
 
@@ -31,14 +31,19 @@ topAt cfg r = topOf (runnableConfIn (cfg .runnables) r)
 abbrev pub Plain : Config → ℕ → Type 0
 Plain cfg r = (r < cfg .runnables .n) × (isServer cfg r ≡ false)
 
--- the step s in the state st triggers r: some data event whose element stores what it hands over, some return event of the call that it ends, or its tick ("The eighteen steps", events; W-212)
+-- the end of the instance i hands on something that feeds a data event of r (W-211)
+abbrev pub handsOnTo : Config → State → ℕ → ℕ → Bool
+handsOnTo cfg st i r = both (handsOn cfg st i) (isGivenTo cfg (st .elements) (runnableOf st i) (copiesIn (st .outgoing) i) r)
+
+-- the step s in the state st triggers r: some data event whose element stores what it hands over, by a write, a send or an end, some return event of the call that it ends, or its tick ("The eighteen steps", events; W-212; W-211)
 unfoldable pub triggers : Config → State → Step → ℕ → Bool
 triggers cfg st s r =
     pick (eqb (s .code) writeCode) (isFed cfg (st .elements) (s .what) r)
     (pick (eqb (s .code) sendCode) (isFed cfg (st .elements) (s .what) r)
     (pick (eqb (s .code) handBackCode) (both (answers (st .operations) (clientOf st (s .who))) (isReturned cfg (clientOf st (s .who) .operation) r))
     (pick (eqb (s .code) timeoutCode) (isReturned cfg (s .what) r)
-    (both (eqb (s .code) tickCode) (eqb (timerConfIn (cfg .timers) (s .what) .runnable) r)))))
+    (pick (eqb (s .code) endCode) (handsOnTo cfg st (s .who) r)
+    (both (eqb (s .code) tickCode) (eqb (timerConfIn (cfg .timers) (s .what) .runnable) r))))))
 
 -- it does so while r is at its top (W-212)
 unfoldable pub loses : Config → State → Step → ℕ → Bool

@@ -17,7 +17,7 @@ use Rattle.rules.specs.declared.Row.{Row}
 use Rattle.rules.specs.Rows.{noPart, rowOf, rows}
 use Rattle.rules.specs.Refusals.{argues, formed, instanceRefusal, schedulerRefusal, refusalBy, refusalOf}
 use Rattle.entries.specs.Faults.{isTime}
-use Rattle.effects.specs.Steps.{requestsFull, isBusy, isBorne, serves, clientOf, answers, hasFailed, handsNumber, writeVariableOf, writeOf, sendOf, callOf, handBackOf, holdOf}
+use Rattle.effects.specs.Steps.{requestsFull, isBusy, isBorne, serves, clientOf, answers, hasFailed, handsNumber, writeVariableOf, writeOf, sendOf, callOf, handBackOf, holdOf, writeCopyOf}
 use Rattle.effects.specs.Step.{possibleOf}
 use Rattle.effects.proofs.Codes.{Code, coded, actBy, possible-by, possible-barred}
 use Rattle.effects.proofs.Codes as code
@@ -59,7 +59,7 @@ module _ (cfg : Config) (st : State) where
 
   -- what a step answers does not depend on what it hands over, but for a wait, and for a Number from an instance that has failed
   act-answers : {n : ℕ} (c : Code n) → (n ≡ waitCode → ⊥) → (i k : ℕ) (v w : Value) → Spoken n i v → Spoken n i w → actBy c cfg st i k v .answer ≡ actBy c cfg st i k w .answer
-  unfolding writeVariableOf writeOf sendOf callOf handBackOf holdOf
+  unfolding writeVariableOf writeOf sendOf callOf handBackOf holdOf writeCopyOf
   act-answers code.readVariable l i k v w p q = refl
   act-answers code.writeVariable l i k v w p q = refl
   act-answers code.enter l i k v w p q = refl
@@ -85,6 +85,8 @@ module _ (cfg : Config) (st : State) where
   act-answers code.fail l i k v w p q = refl
   act-answers code.hold l i k v w p q = refl
   act-answers code.giveUp l i k v w p q = refl
+  act-answers code.readCopy l i k v w p q = refl
+  act-answers code.writeCopy l i k v w p q = refl
 
   module _ (s : Step) (h : argues (rowOf (s .code) .argument) (s .argument) ≡ true) where
     -- the step that is asked about

@@ -13,12 +13,12 @@ use Rattle.values.specs.Values.{answerRefusal}
 use Rattle.faces.specs.Types.{Value, Step, Answer, Taken, Refused, Config, RunnableConf, Life, Runnable, Slots, State, Stepped}
 use Rattle.config.specs.Editions.{hasStep}
 use Rattle.config.specs.Tables.{runnableConfIn}
-use Rattle.entries.specs.Entries.{entryOf}
+use Rattle.entries.specs.Entries.{countOf, entryOf}
 use Rattle.state.specs.Tables.{maxSlots, runnableIn, operationIn, slotIn}
 use Rattle.rules.specs.declared.Row.{Row}
 use Rattle.rules.specs.Sound.{isCaller, componentOf, soundOf}
 use Rattle.rules.specs.Rows.{aSlot, scheduler, noPart, rowOf}
-use Rattle.rules.specs.Refusals.{formed, partThere, partOwn, waitingLets, lifeLets, ownedRefusal, instanceRefusal, schedulerRefusal, refusalBy, refusalOf}
+use Rattle.rules.specs.Refusals.{formed, partThere, namedThere, partOwn, waitingLets, lifeLets, ownedRefusal, instanceRefusal, schedulerRefusal, refusalBy, refusalOf}
 use Rattle.effects.specs.Steps.{refused}
 use Rattle.effects.specs.Step.{possibleOf, onAnswer, agrees, claimedOf, innerOf, stepOf}
 use Rattle.effects.proofs.Codes.{never}
@@ -27,7 +27,7 @@ use Rattle.stays_sound.proofs.Refusals.{refused-same}
 use Rattle.whys.specs.declared.Cause.{Cause}
 use Rattle.whys.specs.declared.Cause.the-variants.{NoCause, Differs}
 use Rattle.passing.specs.Passing.{passesOf, operationStop, timerStop}
-use Rattle.whys.specs.Whys.{causeRefusal, formCause, slotCause, codeCause, thereCause, ownCause, lifeCause, topCause, stillCause, fullCause, bearerOf, borneCause, openCause, dueCause, spawnCause, stopCause, earlyCause, owedCause, whyOf}
+use Rattle.whys.specs.Whys.{causeRefusal, formCause, slotCause, codeCause, partCause, thereCause, ownCause, lifeCause, topCause, stillCause, fullCause, bearerOf, borneCause, openCause, dueCause, spawnCause, stopCause, earlyCause, owedCause, whyOf}
 use Rattle.causes.specs.Causes.{claimCause, causeOf}
 
 -- ---- each number's causes have that number
@@ -51,11 +51,15 @@ code-number r s =
     either-number (eqb (r .who) aSlot) _ _ malformed (slot-number r s)
     (either-number (eqb (r .who) scheduler) _ _ malformed (either-number (eqb (s .who) 0) _ _ malformed (form-number r s) refl) refl)
 
+part-number : (cfg : Config) (w : ℕ) (r : Row) (n : ℕ) → causeRefusal (partCause cfg w r n) ≡ notThere
+unfolding partCause
+part-number cfg w r n = either-number (ltb n (countOf cfg (r .part))) _ _ notThere refl refl
+
 there-number : (cfg : Config) (ss : Slots) (r : Row) (s : Step) → causeRefusal (thereCause cfg ss r s) ≡ notThere
 unfolding thereCause
 there-number cfg ss r s =
     either-number (eqb (r .who) aSlot) _ _ notThere
-    (either-number (leb maxSlots (s .who)) _ _ notThere refl (either-number (slotIn ss (s .who) .used) _ _ notThere refl refl))
+    (either-number (leb maxSlots (s .who)) _ _ notThere refl (either-number (slotIn ss (s .who) .used) _ _ notThere (part-number cfg (slotIn ss (s .who) .life .runnable) r (s .what)) refl))
     refl
 
 own-number : (cfg : Config) (ss : Slots) (r : Row) (s : Step) → causeRefusal (ownCause cfg ss r s) ≡ notOwn
@@ -209,7 +213,7 @@ module _ (cfg : Config) (st : State) (s : Step) where
   refusal-named : (r : Row) → (refusalBy cfg (st .slots) r s ≡ 0 → ⊥) → Named (refusalBy cfg (st .slots) r s)
   unfolding refusalBy instanceRefusal ownedRefusal schedulerRefusal
   refusal-named r = pick-has Good (eqb (r .who) aSlot) _ _
-      (λ e. shared-named (formed r (s .what) (s .argument)) (hasStep (cfg .edition) (s .code)) (both (slotIn (st .slots) (s .who) .used) (partThere cfg (r .part) (s .what)))
+      (λ e. shared-named (formed r (s .what) (s .argument)) (hasStep (cfg .edition) (s .code)) (both (slotIn (st .slots) (s .who) .used) (namedThere cfg (slotIn (st .slots) (s .who) .life .runnable) r (s .what)))
       (partOwn cfg (componentOf cfg (slotIn (st .slots) (s .who) .life .runnable)) r (s .what)) (lifeLets cfg (slotIn (st .slots) (s .who) .life) (s .code) (s .what)))
       (λ e. pick-has Good (eqb (r .who) scheduler) _ _
       (λ d. shared-named (both (eqb (s .who) 0) (formed r (s .what) (s .argument))) true (partThere cfg (r .part) (s .what)) true true)

@@ -14,7 +14,7 @@ use Rattle.state.specs.Start.{startOf}
 use Rattle.state.specs.Tables.{slotIn}
 use Rattle.rules.specs.declared.Row.{Row}
 use Rattle.rules.specs.Rows.{aSlot, scheduler, rowOf}
-use Rattle.rules.specs.Refusals.{formed, partThere, ownedRefusal, schedulerRefusal}
+use Rattle.rules.specs.Refusals.{formed, namedThere, ownedRefusal, schedulerRefusal}
 use Rattle.effects.specs.Steps.{refused}
 use Rattle.effects.specs.Step.{actOf, claimedOf}
 use Rattle.judging.specs.Judging.{judgeFrom, judgeOf}
@@ -23,7 +23,7 @@ use Rattle.judging.specs.Judging.{judgeFrom, judgeOf}
 unfoldable pub instanceBefore : Config → Slots → Row → Step → ℕ
 instanceBefore cfg ss r s =
     pick (formed r (s .what) (s .argument))
-    (pick (both (slotIn ss (s .who) .used) (partThere cfg (r .part) (s .what)))
+    (pick (both (slotIn ss (s .who) .used) (namedThere cfg (slotIn ss (s .who) .life .runnable) r (s .what)))
     (ownedRefusal cfg (slotIn ss (s .who) .life) r (s .code) (s .what))
     notThere)
     malformed

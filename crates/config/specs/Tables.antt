@@ -1,4 +1,4 @@
--- The ten tables of a configuration: how many a table holds, what stands at a place, one part more ("The parts, and how many").
+-- The tables of a configuration: how many a table holds, what stands at a place, one part more ("The parts, and how many").
 -- Past its end a table gives the blank part, which is what an unused place holds; a part added to a full table changes nothing.
 -- Assumes nothing.
 use Prim.Native.Nat.{ℕ, _+_}
@@ -27,6 +27,8 @@ use Rattle.config.specs.declared.DataEvent.{DataEvent}
 use Rattle.config.specs.declared.DataEvents.{DataEvents}
 use Rattle.config.specs.declared.ReturnEvent.{ReturnEvent}
 use Rattle.config.specs.declared.ReturnEvents.{ReturnEvents}
+use Rattle.config.specs.declared.Listed.{Listed}
+use Rattle.config.specs.declared.Lists.{Lists}
 use Rattle.config.specs.declared.Config.{Config}
 
 -- the top of a capacity, and so the places of a queue; where it is 0 a runnable is plain, and an element unqueued ("The files", below the table)
@@ -261,6 +263,32 @@ returnEventIn t i = getD (t .at) i noReturnEvent
 unfoldable pub addReturnEvent : ReturnEvents → ReturnEvent → ReturnEvents
 addReturnEvent t x = pick (ltb (t .n) maxReturnEvents) (record { n = t .n + 1; at = set (t .at) (t .n) x }) t
 
+-- ---- listed elements, at most 64 in a list: 4 for each of 16 runnables
+
+-- the most elements that a runnable lists (W-211)
+abbrev pub maxListed : ℕ
+maxListed = 4
+
+-- the most elements that all runnables list (W-211)
+abbrev pub maxLists : ℕ
+maxLists = 64
+
+-- the listed element of an unused place (W-211)
+abbrev pub noListed : Listed
+noListed = record { runnable = 0; element = 0 }
+
+-- a list with no element (W-211)
+abbrev pub noLists : Lists
+noLists = record { n = 0; at = replicate maxLists noListed }
+
+-- the listed element at place i (W-211)
+unfoldable pub listedIn : Lists → ℕ → Listed
+listedIn t i = getD (t .at) i noListed
+
+-- one listed element more, at the first unused place (W-211)
+unfoldable pub addListed : Lists → Listed → Lists
+addListed t x = pick (ltb (t .n) maxLists) (record { n = t .n + 1; at = set (t .at) (t .n) x }) t
+
 -- a configuration with no part, of the first edition ("A sound state", unused places; W-208)
 unfoldable pub noConfig : Config
-noConfig = record { edition = firstEdition; runnables = noRunnableConfs; variables = noVariableConfs; areas = noAreaConfs; required = noRequiredConfs; provided = noProvidedConfs; links = noLinks; operations = noOperationConfs; timers = noTimerConfs; devents = noDataEvents; revents = noReturnEvents }
+noConfig = record { edition = firstEdition; runnables = noRunnableConfs; variables = noVariableConfs; areas = noAreaConfs; required = noRequiredConfs; provided = noProvidedConfs; links = noLinks; operations = noOperationConfs; timers = noTimerConfs; devents = noDataEvents; revents = noReturnEvents; incoming = noLists; outgoing = noLists }

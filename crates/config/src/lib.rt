@@ -1,8 +1,10 @@
 // The parts of a configuration at their real sizes. Each kind stands in a table of its own, and a table type says how many it holds.
 ghost use mathlib.Core.Path.{_≡_};
-ghost use Rattle.laws.specs.Choice.{bit};
-ghost use Rattle.config.specs.Editions.{isEdition, marksInvalid, hasStep};
-ghost use Rattle.config.specs.Tables.{noRunnableConfs, noVariableConfs, noAreaConfs, noRequiredConfs, noProvidedConfs, noLinks, noOperationConfs, noTimerConfs, noDataEvents, noReturnEvents, runnableConfIn, variableConfIn, areaConfIn, requiredConfIn, providedConfIn, linkIn, operationConfIn, timerConfIn, dataEventIn, returnEventIn, addRunnableConf, addVariableConf, addAreaConf, addRequiredConf, addProvidedConf, addLink, addOperationConf, addTimerConf, addDataEvent, addReturnEvent, noConfig, topOf};
+ghost use lib.Dec.{eqb};
+ghost use Rattle.laws.specs.Choice.{bit, both};
+ghost use Rattle.config.specs.Editions.{isEdition, marksInvalid, hasStep, listsElements, hasField};
+ghost use Rattle.config.specs.Tables.{noRunnableConfs, noVariableConfs, noAreaConfs, noRequiredConfs, noProvidedConfs, noLinks, noOperationConfs, noTimerConfs, noDataEvents, noReturnEvents, runnableConfIn, variableConfIn, areaConfIn, requiredConfIn, providedConfIn, linkIn, operationConfIn, timerConfIn, dataEventIn, returnEventIn, addRunnableConf, addVariableConf, addAreaConf, addRequiredConf, addProvidedConf, addLink, addOperationConf, addTimerConf, addDataEvent, addReturnEvent, noConfig, topOf, noLists, listedIn, addListed};
+ghost use Rattle.config.specs.Lists.{listedBelow, firstListed, listsAt, elementAt, placeOf, isListed};
 
 // A flag as a number.
 pub fn bit(b: bool) -> u8
@@ -607,7 +609,147 @@ impl ReturnEvent {
     };
 }
 
-// A configuration: its ten kinds of parts, and its edition.
+// An element that a runnable lists: to be copied at its spawn, or to be written at its end.
+pub struct Listed {
+    pub runnable: u8,
+    pub element: u8,
+}
+
+// The listed elements, in the order of the file and counted from 0; the first n places are in use.
+pub struct Lists {
+    pub n: u8,
+    pub at: [Listed; Lists::MAX],
+}
+
+impl Lists {
+    pub const MAX: usize = 64;
+
+    // The most elements that one runnable lists.
+    pub const MAX_LISTED: u8 = 4;
+
+    pub fn none() -> Lists
+        ensures { λ r. ⌜ r ≡ noLists ⌝ }
+    {
+        Lists {
+            n: 0,
+            at: [Listed::BLANK; Lists::MAX],
+        }
+    }
+
+    // What stands at place i, or the blank part past the last place.
+    pub fn get(self, i: usize) -> Listed
+        ensures { λ r. ⌜ r ≡ listedIn self i ⌝ }
+    {
+        if i < Lists::MAX {
+            return self.at[i];
+        }
+        Listed::BLANK
+    }
+
+    // One more, at the first unused place; nothing changes where there is none.
+    pub fn add(self, x: Listed) -> Lists
+        ensures { λ r. ⌜ r ≡ addListed self x ⌝ }
+    {
+        let n = self.n;
+        let k = n as usize;
+        if k < Lists::MAX {
+            let mut t = self;
+            t.at[k] = x;
+            t.n = n + 1;
+            return t;
+        }
+        self
+    }
+
+    // How many of the first n pairs are of the runnable r.
+    pub fn below(self, r: u8, n: u8) -> u8
+        ensures { λ m. ⌜ m ≡ listedBelow self r n ⌝ }
+    {
+        let mut m: u8 = 0;
+        let mut k: u8 = 0;
+        while k < n {
+            let x = self.get(k as usize);
+            m = m + bit(x.runnable == r);
+            k = k + 1;
+        }
+        m
+    }
+
+    // Where the pairs of the runnable r begin, or how many pairs there are.
+    pub fn first(self, r: u8) -> u8
+        ensures { λ k. ⌜ k ≡ firstListed self r ⌝ }
+    {
+        let n = self.n;
+        let mut k: u8 = 0;
+        while k < n {
+            let x = self.get(k as usize);
+            if x.runnable == r {
+                return k;
+            }
+            k = k + 1;
+        }
+        n
+    }
+
+    // The runnable r has a pair j places behind its first.
+    pub fn lists_at(self, r: u8, j: u8) -> bool
+        ensures { λ b. ⌜ b ≡ listsAt self r j ⌝ }
+    {
+        let k = self.first(r) as usize + j as usize;
+        let n = self.n as usize;
+        if k < n {
+            let x = self.get(k);
+            return x.runnable == r;
+        }
+        false
+    }
+
+    // The element of that pair.
+    pub fn element_at(self, r: u8, j: u8) -> u8
+        ensures { λ q. ⌜ q ≡ elementAt self r j ⌝ }
+    {
+        let k = self.first(r) as usize + j as usize;
+        let x = self.get(k);
+        x.element
+    }
+
+    // It is there, and its element is q.
+    fn has_at(self, r: u8, q: u8, j: u8) -> bool
+        ensures { λ b. ⌜ b ≡ both (listsAt self r j) (eqb (elementAt self r j) q) ⌝ }
+    {
+        self.lists_at(r, j) && self.element_at(r, j) == q
+    }
+
+    // The place of the element q among those that the runnable r lists, or 4.
+    pub fn place(self, r: u8, q: u8) -> u8
+        ensures { λ j. ⌜ j ≡ placeOf self r q ⌝ }
+    {
+        let mut j: u8 = 0;
+        while j < Lists::MAX_LISTED {
+            if self.has_at(r, q, j) {
+                return j;
+            }
+            j = j + 1;
+        }
+        Lists::MAX_LISTED
+    }
+
+    // The runnable r lists the element q.
+    pub fn has(self, r: u8, q: u8) -> bool
+        ensures { λ b. ⌜ b ≡ isListed self r q ⌝ }
+    {
+        self.place(r, q) < Lists::MAX_LISTED
+    }
+}
+
+impl Listed {
+    pub const BLANK: Listed = Listed {
+        runnable: 0,
+        element: 0,
+    };
+}
+
+// A configuration: its kinds of parts, and its edition.
 pub struct Config {
     pub runnables: RunnableConfs,
     pub variables: VariableConfs,
@@ -619,6 +761,8 @@ pub struct Config {
     pub timers: TimerConfs,
     pub devents: DataEvents,
     pub revents: ReturnEvents,
+    pub incoming: Lists,
+    pub outgoing: Lists,
     pub edition: u8,
 }
 
@@ -642,6 +786,8 @@ impl Config {
             timers: TimerConfs::none(),
             devents: DataEvents::none(),
             revents: ReturnEvents::none(),
+            incoming: Lists::none(),
+            outgoing: Lists::none(),
             edition: Config::FIRST_EDITION,
         }
     }
@@ -666,4 +812,24 @@ pub fn has_step(e: u8, code: u8) -> bool
     ensures { λ r. ⌜ r ≡ hasStep e code ⌝ }
 {
     code != numbers::CODE_INVALIDATE || marks_invalid(e)
+}
+
+// Runnables list elements in the second edition alone.
+pub fn lists_elements(e: u8) -> bool
+    ensures { λ r. ⌜ r ≡ listsElements e ⌝ }
+{
+    e == Config::LAST_EDITION
+}
+
+// The edition has fields with this tag.
+pub fn has_field(e: u8, tag: u8) -> bool
+    ensures { λ r. ⌜ r ≡ hasField e tag ⌝ }
+{
+    if tag == numbers::TAG_INCOMING {
+        return lists_elements(e);
+    }
+    if tag == numbers::TAG_OUTGOING {
+        return lists_elements(e);
+    }
+    true
 }

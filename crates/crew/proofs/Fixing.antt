@@ -71,7 +71,9 @@ placed-small cfg tag t b h =
     (λ _. pick-has Small (eqb tag 0x17) _ _ (λ _. record { each = h .each })
     (λ _. pick-has Small (eqb tag 0x18) _ _ (λ _. record { each = h .each })
     (λ _. pick-has Small (eqb tag 0x19) _ _ (λ _. record { each = h .each })
-    (λ _. pick-has Small (eqb tag 0x01) _ _ (λ _. record { each = h .each }) (λ _. h)))))))))))
+    (λ _. pick-has Small (eqb tag 0x1a) _ _ (λ _. record { each = h .each })
+    (λ _. pick-has Small (eqb tag 0x1b) _ _ (λ _. record { each = h .each })
+    (λ _. pick-has Small (eqb tag 0x01) _ _ (λ _. record { each = h .each }) (λ _. h)))))))))))))
 
 -- what a reading gives
 record Holds (r : Reading) : Type 0 where
@@ -85,7 +87,7 @@ holds-from : (fuel : ℕ) (t : List ℕ) (cfg : Config) (last place : ℕ) → B
 unfolding readFrom
 holds-from zero t cfg last place b h = holds-refused place 21
 holds-from (suc fuel) t cfg last place b h =
-    go (λ tag size g. holds-from fuel (drop (3 + size) t) (placed cfg tag (entryRead tag t)) tag (place + 1) (λ i. rw getD-drop (b (3 + size + i))) g) (headOf t last)
+    go (λ tag size g. holds-from fuel (drop (3 + size) t) (placed cfg tag (entryRead tag t)) tag (place + 1) (λ i. rw getD-drop (b (3 + size + i))) g) (headOf (cfg .edition) t last)
   where
     next : ℕ → ℕ → Reading
     next tag size = readFrom fuel (drop (3 + size) t) (placed cfg tag (entryRead tag t)) tag (place + 1)

@@ -1,7 +1,7 @@
 -- The values that are followed are those of the machine's queues: as many, and the same in the same order (`Follows`). A send adds to a linked queue that has room, a receive takes the oldest, and every
 -- other step leaves the queues as they were (`follows-way`); so it is of every run and the state that it reaches (`follows-at`), and what is promised of them is read off that. Beside it, that a step names a part that is there.
 -- Assumes nothing.
-use Prim.Native.Nat.{ℕ, _+_, _≤_, _<_}
+use Prim.Native.Nat.{ℕ, _+_, _≤_, _<_, zero, suc}
 use mathlib.Core.Bool.{Bool, true, false, not}
 use mathlib.Core.List.{List, [], _∷_, _++_}
 use mathlib.Core.Logic.{inl, inr, ⊎-elim}
@@ -13,13 +13,16 @@ use lib.Dec.{ltb, leb, eqb}
 use lib.ListN.{length, getD, set, drop, length-append, length-drop}
 use lib.Seq.{getD-set-same, getD-set-other}
 use borrow.Author.Tests.{ltb-true, eqb-true, eq-eqb, ne-eqb}
+use Rattle.stays_sound.proofs.Shapes.{fed-elements-length}
+use Rattle.rules.proofs.Listing.{lists-there}
+use Rattle.config.specs.Lists.{firstListed, listsAt, elementAt, isListed}
 use Rattle.numbers.specs.Codes.{writeCode, receiveCode, sendCode, giveUpCode}
 use Rattle.laws.specs.Choice.{pick, both, bit}
 use Rattle.laws.specs.Mask.{isSet}
-use Rattle.laws.proofs.Choosing.{clash, both-right, alike-is, pick-has}
+use Rattle.laws.proofs.Choosing.{clash, both-right, alike-is, pick-has, both-left}
 use Rattle.laws.proofs.Looping.{all-at}
 use Rattle.laws.proofs.Places.{filled-length, each-has}
-use Rattle.faces.specs.Types.{Value, Step, Taken, RequiredConf, Config, Element, Elements, State}
+use Rattle.faces.specs.Types.{Value, Step, Taken, RequiredConf, Config, Element, Elements, State, Copies}
 use Rattle.values.specs.Values.{voidV, limitV, noDataV, neverReceivedV, fullV, isVoid, isPayload, timeoutV}
 use Rattle.config.specs.Tables.{requiredConfIn, providedConfIn}
 use Rattle.entries.specs.Entries.{entryOf}
@@ -27,14 +30,14 @@ use Rattle.entries.specs.Faults.{isQueued, configSound}
 use Rattle.state.specs.Parts.{noValues, noElement}
 use Rattle.state.specs.Queues.{upOne, pushValue, restValues, firstValue}
 use Rattle.state.specs.Start.{startElement, startElements, startOf}
-use Rattle.state.specs.Tables.{noElements, elementIn, withElement, slotIn}
+use Rattle.state.specs.Tables.{noElements, elementIn, withElement, slotIn, copyIn}
 use Rattle.rules.specs.Rows.{aSlot, scheduler, rows, rowOf}
 use Rattle.rules.specs.Sound.{componentOf, isStored, valuesSound, elementSound, elementsSound}
 use Rattle.rules.specs.Refusals.{partThere, queuesAs, partOwn, refusalBy, refusalOf}
-use Rattle.rules.proofs.Configured.{required-most, required-blank, length-most}
+use Rattle.rules.proofs.Configured.{required-most, required-blank, length-most, outgoing-unqueued}
 use Rattle.effects.specs.Fullness.{FullQueue}
 use Rattle.effects.specs.Step.{stepOf}
-use Rattle.effects.specs.Steps.{linked, accepts, fedElement, fedElements, fed, fullMask, sentOf, isBare, receiving, received, called, closed, spawned, waited}
+use Rattle.effects.specs.Steps.{linked, accepts, fedElement, fedElements, fed, fullMask, sentOf, isBare, receiving, received, called, closed, spawned, waited, seen, isGiven, givenElements, handsOn, handedElements, seenElements, copiedElements}
 use Rattle.effects.proofs.Codes.{possible-let}
 use Rattle.effects.proofs.Sends.{fed-at, unlinked-kept, sent-full}
 use Rattle.stays_sound.specs.Facts.{Sound}
@@ -177,12 +180,39 @@ module _ (cfg : Config) (c : configSound cfg ≡ true) (q : ℕ) (y : isQueued c
     follows-other s t w k f h e r = rw (k, f, h) (follows-same (st .elements) t q w e r)
 
     -- a value that is handed over from an element that is not queued passes this queue by
-    unfed : (p : ℕ) (v : Value) → providedConfIn (cfg .provided) p .queued ≡ false → elementIn (fedElements cfg p v (st .elements)) q .queue ≡ x .queue
-    unfed p v u = ap (λ (z : Element). z .queue) (fed-at cfg (st .elements) p q v there inside ∙ unlinked-kept cfg (st .elements) p q v (off (linked cfg p q) refl))
+    passed-by : (t : Elements) (p : ℕ) (v : Value) → length (t .at) ≡ length (st .elements .at) → providedConfIn (cfg .provided) p .queued ≡ false → elementIn (fedElements cfg p v t) q .queue ≡ elementIn t q .queue
+    passed-by t p v l u = ap (λ (z : Element). z .queue) (fed-at cfg t p q v there (omega (arith, l, inside)) ∙ unlinked-kept cfg t p q v (off (linked cfg p q) refl))
       where
         off : (b : Bool) → linked cfg p q ≡ b → linked cfg p q ≡ false
         off true e = absurd (clash (isQueued cfg q) y (sym (linked-alike cfg c p q e) ∙ u))
         off false e = e
+
+    unfed : (p : ℕ) (v : Value) → providedConfIn (cfg .provided) p .queued ≡ false → elementIn (fedElements cfg p v (st .elements)) q .queue ≡ x .queue
+    unfed p v u = passed-by (st .elements) p v refl u
+
+    -- what an instance hands on at its end is of elements that are not queued, and so is what a new one copies
+    given-queue : (r : ℕ) (d : Copies) (n : ℕ) → (length (givenElements cfg r d n (st .elements) .at) ≡ length (st .elements .at)) × (elementIn (givenElements cfg r d n (st .elements)) q .queue ≡ x .queue)
+    unfolding givenElements isGiven elementAt
+    given-queue r d zero = (refl, refl)
+    given-queue r d (suc n) =
+        let h = given-queue r d n in
+        let t = givenElements cfg r d n (st .elements) in
+        pick-has (λ (u : Elements). (length (u .at) ≡ length (st .elements .at)) × (elementIn u q .queue ≡ x .queue)) (both (listsAt (cfg .outgoing) r n) (isPayload (copyIn d n))) _ t
+        (λ e. (fed-elements-length cfg (elementAt (cfg .outgoing) r n) (copyIn d n) t ∙ h .0, passed-by t (elementAt (cfg .outgoing) r n) (copyIn d n) (h .0) (listed-unqueued r n (both-left (listsAt (cfg .outgoing) r n) _ e)) ∙ h .1)) (λ e. h)
+      where
+        listed-unqueued : (r n : ℕ) → listsAt (cfg .outgoing) r n ≡ true → providedConfIn (cfg .provided) (elementAt (cfg .outgoing) r n) .queued ≡ false
+        listed-unqueued r n e = outgoing-unqueued cfg c (firstListed (cfg .outgoing) r + n) (lists-there (cfg .outgoing) r n e)
+
+    handed-queue : (i : ℕ) → elementIn (handedElements cfg st i) q .queue ≡ x .queue
+    unfolding handedElements
+    handed-queue i = pick-has (λ (u : Elements). elementIn u q .queue ≡ x .queue) (handsOn cfg st i) _ (st .elements) (λ _. given-queue _ _ 4 .1) (λ _. refl)
+
+    copied-queue : (r : ℕ) → elementIn (copiedElements cfg r (st .elements)) q .queue ≡ x .queue
+    unfolding copiedElements seenElements elementIn
+    copied-queue r =
+        pick-has (λ (u : Elements). getD (u .at) q noElement .queue ≡ x .queue) (listsAt (cfg .incoming) r 0) _ (st .elements)
+        (λ _. each-has (λ (k : ℕ) (z : Element). pick (isListed (cfg .incoming) r k) (seen z) z) noElement (λ k z. z .queue ≡ getD (st .elements .at) k noElement .queue) (cfg .required .n) (st .elements .at) q
+        (λ _. pick-has (λ (z : Element). z .queue ≡ x .queue) (isListed (cfg .incoming) r q) _ _ (λ _. refl) (λ _. refl)) refl) (λ _. refl)
 
     -- another element is replaced, or this one with its queue kept
     replaced : (k : ℕ) (z : Element) → z .queue ≡ elementIn (st .elements) k .queue → elementIn (withElement (st .elements) k z) q .queue ≡ x .queue
@@ -260,14 +290,16 @@ module _ (cfg : Config) (c : configSound cfg ≡ true) (q : ℕ) (y : isQueued c
     follows-way s w a k (go.collect z) r = follows-other s _ w k refl refl refl r
     follows-way s w a k (go.answer z e) r = follows-other s _ w k refl refl refl r
     follows-way s w a k (go.late z e) r = follows-other s _ w k refl refl refl r
-    follows-way s w a k (go.end z) r = follows-other s _ w k refl refl refl r
-    follows-way s w a k (go.spawn z) r = follows-other s _ w k refl refl refl r
+    follows-way s w a k (go.end z) r = follows-other s _ w k refl refl (handed-queue (s .who)) r
+    follows-way s w a k (go.spawn z) r = follows-other s _ w k refl refl (copied-queue (s .what)) r
     follows-way s w a k (go.timeout z) r = follows-other s _ w k refl refl refl r
     follows-way s w a k (go.tick z) r = follows-other s _ w k refl refl refl r
     follows-way s w a k (go.wait z) r = follows-other s _ w k refl refl refl r
     follows-way s w a k (go.fail z) r = follows-other s _ w k refl refl refl r
     follows-way s w a k (go.hold z) r = follows-other s _ w k refl refl refl r
     follows-way s w a k (go.giveUp z) r = follows-other s _ w k refl refl refl r
+    follows-way s w a k (go.readCopy z) r = follows-other s _ w k refl refl refl r
+    follows-way s w a k (go.writeCopy z) r = follows-other s _ w k refl refl refl r
 
   follows-at : (rs : List Step) (st : State) → Run cfg rs st → Follows (st .elements) q (valuesIn cfg q rs)
   unfolding valuesIn tracedFrom

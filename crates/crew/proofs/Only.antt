@@ -10,7 +10,7 @@ use native.Mathlib.Omega.{arith}
 use lib.Dec.{ltb, eqb}
 use lib.ListN.{length, getD, drop, length-append, List·getD-append}
 use lib.Seq.{getD-at}
-use borrow.Author.Tests.{eq-eqb, ne-eqb, le-leb, lt-ltb, le-ltb}
+use borrow.Author.Tests.{eq-eqb, ne-eqb, lt-ltb, le-ltb}
 use Rattle.numbers.specs.Tags.{lastTag, partKinds}
 use Rattle.laws.specs.Choice.{pick}
 use Rattle.faces.specs.Types.{Step, Config, Entry}
@@ -18,7 +18,7 @@ use Rattle.entries.specs.Entries.{noEntry, countOf, entryOf}
 use Rattle.entries.proofs.Tags.{no-kind-count, no-kind-entry}
 use Rattle.wire.specs.Bytes.{endBytes, build}
 use Rattle.wire.proofs.Laws.{build-same}
-use Rattle.reading.specs.Reading.{sizeOf, entryRead, inOrder}
+use Rattle.reading.specs.Reading.{sizeOf, entryRead}
 use Rattle.recording.specs.Whole.{Whole, wholeOf as stepsOf, textOf as stepsText, EachRecorded}
 use Rattle.recording.proofs.Texts.{text-reads}
 use Rattle.writing.specs.Writing.{entryBytes, partBytes, kindBytes, blockOf, partsBytes, editionBytes, textOf as configText}
@@ -82,7 +82,7 @@ unfolding runs gather build
 runs-gather f zero = refl
 runs-gather f (suc n) = runs-append [] (gather f n) (f n) ∙ runs-behind (runs [] (f n)) (gather f n) ∙ ap (λ (l : List ℕ). l ++ runs [] (f n)) (runs-gather f n)
 
--- a field of one of the ten kinds, whose entry its bytes say
+-- a field of a kind, whose entry its bytes say
 record Says (p : Piece) : Type 0 where
   low : 0x10 ≤ p .tag
   high : p .tag ≤ lastTag
@@ -103,16 +103,15 @@ unfolding EachSays gather
 says-gather f zero h = tt
 says-gather f (suc n) h = says-append (gather f n) (f n) (says-gather f n (λ i l. h i (omega arith))) (h n (omega arith))
 
-leads : (p : Piece) (rest : List ℕ) → Says p → Leads (p .tag) (p .entry) rest 0x10
-unfolding inOrder
-leads p rest s = entry-leads (p .tag) (s .low) (s .high) (p .entry) rest 0x10 (rw (le-leb 0x10 (p .tag) (s .low), ne-eqb (p .tag) 0x01 (λ q. omega (arith, q, s .low))))
+leads : (p : Piece) (rest : List ℕ) → Says p → Leads (p .tag) (p .entry) rest
+leads p rest s = entry-leads (p .tag) (s .low) (s .high) (p .entry) rest
 
 reads : (p : Piece) (rest : List ℕ) → Says p → entryRead (p .tag) (entryBytes (p .tag) (p .entry) ++ rest) ≡ p .entry
 reads p rest s = entry-back (p .tag) (p .entry) rest (s .number) ∙ s .shape
 
 -- a field is not the end
 no-end : (p : Piece) (rest : List ℕ) → Says p → endBytes ≡ entryBytes (p .tag) (p .entry) ++ rest → ⊥
-no-end p rest s e = omega (arith, ap (λ (l : List ℕ). getD l 0 0) e, leads p rest s .frame .first, s .high)
+no-end p rest s e = omega (arith, ap (λ (l : List ℕ). getD l 0 0) e, leads p rest s .first, s .high)
 
 runs-one : (xs ys : List Piece) → EachSays xs → EachSays ys → runs endBytes xs ≡ runs endBytes ys → xs ≡ ys
 unfolding runs EachSays
@@ -122,7 +121,7 @@ runs-one (p ∷ xs) [] h g e = absurd (no-end p (runs endBytes xs) (h .0) (sym e
 runs-one (p ∷ xs) (q ∷ ys) h g e =
     let a = leads p (runs endBytes xs) (h .0) in
     let b = leads q (runs endBytes ys) (g .0) in
-    let t : p .tag ≡ q .tag = sym (a .frame .first) ∙ ap (λ (l : List ℕ). getD l 0 0) e ∙ b .frame .first in
+    let t : p .tag ≡ q .tag = sym (a .first) ∙ ap (λ (l : List ℕ). getD l 0 0) e ∙ b .first in
     let x : p .entry ≡ q .entry = sym (reads p (runs endBytes xs) (h .0)) ∙ ap₂ entryRead t e ∙ reads q (runs endBytes ys) (g .0) in
     let r : runs endBytes xs ≡ runs endBytes ys = sym (a .behind) ∙ ap₂ (λ (n : ℕ) (l : List ℕ). drop (3 + sizeOf n) l) t e ∙ b .behind in
     ap₂ (λ (z : Piece) (zs : List Piece). z ∷ zs) (ap₂ (λ (n : ℕ) (y : Entry). record { tag = n; entry = y }) t x) (runs-one xs ys (h .1) (g .1) r)

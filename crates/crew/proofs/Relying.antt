@@ -41,6 +41,7 @@ demanded cfg rs st c e = record {
   held = λ b a s w. held-waits cfg b a s st c (whole b a s w);
   spent = λ b a s w. d .steps b a s w .spent;
   hold = λ b a w. d .moments b a w .1 .held;
+  copies = λ b a s w. d .steps b a s w .copies;
   once = λ b a w. d .moments b a w .1 .once;
   call = λ b a s w. d .steps b a s w .call;
   latest = λ b a w. d .moments b a w .1 .history .latest;

@@ -17,7 +17,7 @@ use Rattle.lines.specs.Lines.{lineBytes}
 use Rattle.judging.specs.Line.{lineOf}
 use Rattle.printing.specs.Printed.{acceptedWord, printedOf}
 use Rattle.history.specs.History.{historyOf, queuedAt}
-use Rattle.history.specs.Promises.{EntersFree, ExitsHeld, EndsEmpty, SpawnsEmpty, ActsAlive, HolderStays, FailedStops, BackIsLast, EndsPaid, CallsOneByOne, WaiterWaits, BackIsAnswered, EndsOnce, EndsProperly, TimeoutEndsOpen, TimeoutInTime, BackInTime, OpenInTime, TicksInTime, TimersInTime, ResultIsDelivered, ResultIsOwn, NumberIsFinal, FailureIsFinal, UnendedIsLatest, LatestStarted, FirstInFirstOut, SpawnTakesNext, GivesUpHeld, HeldInTime}
+use Rattle.history.specs.Promises.{EntersFree, ExitsHeld, EndsEmpty, SpawnsEmpty, ActsAlive, HolderStays, FailedStops, BackIsLast, EndsPaid, CallsOneByOne, WaiterWaits, BackIsAnswered, EndsOnce, EndsProperly, TimeoutEndsOpen, TimeoutInTime, BackInTime, OpenInTime, TicksInTime, TimersInTime, ResultIsDelivered, ResultIsOwn, NumberIsFinal, FailureIsFinal, UnendedIsLatest, LatestStarted, FirstInFirstOut, SpawnTakesNext, GivesUpHeld, ReadsAlike, HeldInTime}
 use Rattle.crew.specs.Values.{ValuesWaitingFit, OkHadRoom, FullNamesSpent, ReceivesOldest, HeldWaits}
 
 -- ---- demand 3 of steps
@@ -62,6 +62,8 @@ pub record Demanded (cfg : Config) (rs : List Step) : Type 0 where
   pub held : EveryStep rs (HeldWaits cfg)
   pub spent : EveryStep rs (GivesUpHeld cfg)
   pub hold : EveryMoment rs (HeldInTime cfg)
+  -- who reads a copy is answered the same each time, from its spawn to its end
+  pub copies : EveryStep rs (ReadsAlike cfg)
   -- each started call ends at most once
   pub once : EveryMoment rs (EndsOnce cfg)
   pub call : EveryStep rs (CallsOneByOne cfg)

@@ -8,12 +8,12 @@ use native.Mathlib.Decide.{ℕ-discrete}
 use native.Mathlib.Omega.{arith}
 use lib.ListN.{getD}
 use borrow.Author.Tests.{ne-eqb}
-use Rattle.numbers.specs.Codes.{readVariableCode, writeVariableCode, enterCode, exitCode, readCode, writeCode, updatedCode, invalidateCode, receiveCode, sendCode, callCode, resultCode, handBackCode, endCode, spawnCode, timeoutCode, tickCode, waitCode, failCode, holdCode, giveUpCode}
+use Rattle.numbers.specs.Codes.{readVariableCode, writeVariableCode, enterCode, exitCode, readCode, writeCode, updatedCode, invalidateCode, receiveCode, sendCode, callCode, resultCode, handBackCode, endCode, spawnCode, timeoutCode, tickCode, waitCode, failCode, holdCode, giveUpCode, readCopyCode, writeCopyCode}
 use Rattle.faces.specs.Types.{Value, Step, Taken, Refused, Config, Slots, State, Stepped}
 use Rattle.rules.specs.declared.Row.{Row}
 use Rattle.rules.specs.Rows.{nobody, noRow, rows, rowOf}
 use Rattle.rules.specs.Refusals.{refusalBy, refusalOf}
-use Rattle.effects.specs.Steps.{refused, readVariableOf, writeVariableOf, enterOf, exitOf, readOf, writeOf, updatedOf, invalidateOf, receiveOf, sendOf, callOf, resultOf, handBackOf, endOf, spawnOf, timeoutOf, tickOf, waitOf, failOf, holdOf, giveUpOf}
+use Rattle.effects.specs.Steps.{refused, readVariableOf, writeVariableOf, enterOf, exitOf, readOf, writeOf, updatedOf, invalidateOf, receiveOf, sendOf, callOf, resultOf, handBackOf, endOf, spawnOf, timeoutOf, tickOf, waitOf, failOf, holdOf, giveUpOf, readCopyOf, writeCopyOf}
 use Rattle.effects.specs.Step.{actOf, possibleOf}
 
 -- a refusal is no answer
@@ -45,6 +45,8 @@ pub data Code : ℕ → Type 0 where
   fail : Code failCode
   hold : Code holdCode
   giveUp : Code giveUpCode
+  readCopy : Code readCopyCode
+  writeCopy : Code writeCopyCode
 
 -- what holds of each code of a table that somebody takes, from its first row on
 infixr 5 _⨾_
@@ -66,7 +68,7 @@ unfolding rowOf rows
 by-code n h = each-taken table n h
   where
     table : EachTaken Code rows
-    table = skip refl (readVariable ⨾ writeVariable ⨾ enter ⨾ exit ⨾ read ⨾ write ⨾ updated ⨾ invalidate ⨾ receive ⨾ send ⨾ call ⨾ result ⨾ handBack ⨾ end ⨾ spawn ⨾ timeout ⨾ tick ⨾ wait ⨾ fail ⨾ hold ⨾ giveUp ⨾ done)
+    table = skip refl (readVariable ⨾ writeVariable ⨾ enter ⨾ exit ⨾ read ⨾ write ⨾ updated ⨾ invalidate ⨾ receive ⨾ send ⨾ call ⨾ result ⨾ handBack ⨾ end ⨾ spawn ⨾ timeout ⨾ tick ⨾ wait ⨾ fail ⨾ hold ⨾ giveUp ⨾ readCopy ⨾ writeCopy ⨾ done)
 
 -- a step that refusals 2 to 5 let through has one
 pub coded : (cfg : Config) (ss : Slots) (s : Step) → refusalOf cfg ss s ≡ 0 → Code (s .code)
@@ -90,7 +92,7 @@ actBy send cfg st i k v = sendOf cfg st k v
 actBy call cfg st i k v = callOf cfg st i k v
 actBy result cfg st i k v = resultOf cfg st i k
 actBy handBack cfg st i k v = handBackOf cfg st i v
-actBy end cfg st i k v = endOf st i
+actBy end cfg st i k v = endOf cfg st i
 actBy spawn cfg st i k v = spawnOf cfg st k
 actBy timeout cfg st i k v = timeoutOf cfg st k
 actBy tick cfg st i k v = tickOf cfg st k
@@ -98,6 +100,8 @@ actBy wait cfg st i k v = waitOf cfg st (v .number)
 actBy fail cfg st i k v = failOf st i
 actBy hold cfg st i k v = holdOf st i k (v .number)
 actBy giveUp cfg st i k v = giveUpOf st i
+actBy readCopy cfg st i k v = readCopyOf cfg st i k
+actBy writeCopy cfg st i k v = writeCopyOf cfg st i k v
 
 -- it is what the match over codes does
 act-by : {n : ℕ} (c : Code n) (cfg : Config) (st : State) (i k : ℕ) (v : Value) → actOf cfg st n i k v ≡ actBy c cfg st i k v
@@ -123,6 +127,8 @@ act-by wait cfg st i k v = refl
 act-by fail cfg st i k v = refl
 act-by hold cfg st i k v = refl
 act-by giveUp cfg st i k v = refl
+act-by readCopy cfg st i k v = refl
+act-by writeCopy cfg st i k v = refl
 
 module _ (cfg : Config) (st : State) (s : Step) where
   -- a step that they let through does what its code says

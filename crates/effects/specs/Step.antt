@@ -4,15 +4,15 @@ use Prim.Native.Nat.{ℕ}
 use mathlib.Core.Bool.{Bool}
 use lib.Dec.{eqb}
 use Rattle.numbers.specs.Refusals.{notSound, otherAnswer}
-use Rattle.numbers.specs.Codes.{readVariableCode, writeVariableCode, enterCode, exitCode, readCode, writeCode, updatedCode, invalidateCode, receiveCode, sendCode, callCode, resultCode, handBackCode, endCode, spawnCode, timeoutCode, tickCode, waitCode, failCode, holdCode}
+use Rattle.numbers.specs.Codes.{readVariableCode, writeVariableCode, enterCode, exitCode, readCode, writeCode, updatedCode, invalidateCode, receiveCode, sendCode, callCode, resultCode, handBackCode, endCode, spawnCode, timeoutCode, tickCode, waitCode, failCode, holdCode, giveUpCode, readCopyCode}
 use Rattle.laws.specs.Choice.{pick, both, either}
 use Rattle.values.specs.Values.{limitV, saysFull, sameValue}
 use Rattle.faces.specs.Types.{Value, Step, Answer, Taken, Refused, Config, State, Stepped}
 use Rattle.rules.specs.Sound.{soundOf}
 use Rattle.rules.specs.Refusals.{refusalOf}
-use Rattle.effects.specs.Steps.{refused, readVariableOf, writeVariableOf, enterOf, exitOf, readOf, writeOf, updatedOf, invalidateOf, receiveOf, sendOf, callOf, resultOf, handBackOf, endOf, spawnOf, timeoutOf, tickOf, waitOf, failOf, holdOf, giveUpOf}
+use Rattle.effects.specs.Steps.{refused, readVariableOf, writeVariableOf, enterOf, exitOf, readOf, writeOf, updatedOf, invalidateOf, receiveOf, sendOf, callOf, resultOf, handBackOf, endOf, spawnOf, timeoutOf, tickOf, waitOf, failOf, holdOf, giveUpOf, readCopyOf, writeCopyOf}
 
--- what a step does by its code: i is the slot, k the part, v the argument ("The eighteen steps", the table; W-205, W-210)
+-- what a step does by its code: i is the slot, k the part, v the argument ("The eighteen steps", the table; W-205, W-210, W-211)
 unfoldable pub actOf : Config → State → ℕ → ℕ → ℕ → Value → Stepped
 actOf cfg st code i k v =
     pick (eqb code readVariableCode) (readVariableOf st k)
@@ -28,14 +28,16 @@ actOf cfg st code i k v =
     (pick (eqb code callCode) (callOf cfg st i k v)
     (pick (eqb code resultCode) (resultOf cfg st i k)
     (pick (eqb code handBackCode) (handBackOf cfg st i v)
-    (pick (eqb code endCode) (endOf st i)
+    (pick (eqb code endCode) (endOf cfg st i)
     (pick (eqb code spawnCode) (spawnOf cfg st k)
     (pick (eqb code timeoutCode) (timeoutOf cfg st k)
     (pick (eqb code tickCode) (tickOf cfg st k)
     (pick (eqb code waitCode) (waitOf cfg st (v .number))
     (pick (eqb code failCode) (failOf st i)
     (pick (eqb code holdCode) (holdOf st i k (v .number))
-    (giveUpOf st i))))))))))))))))))))
+    (pick (eqb code giveUpCode) (giveUpOf st i)
+    (pick (eqb code readCopyCode) (readCopyOf cfg st i k)
+    (writeCopyOf cfg st i k v))))))))))))))))))))))
 
 -- the step before its claim is looked at: refusals 2 to 5 first, then what it does ("Numbers of refusal", 2 to 16)
 unfoldable pub possibleOf : Config → State → Step → Stepped

@@ -1,6 +1,6 @@
--- The eighteen steps, fail, hold and give up, once refusals 2 to 5 have let them through: each with its own refusals, its answer and the state after it ("The eighteen steps" and the paragraphs below its table; W-201; W-205; W-210).
+-- The eighteen steps, fail, hold, give up, read copy and write copy, once refusals 2 to 5 have let them through: each with its own refusals, its answer and the state after it ("The eighteen steps" and the paragraphs below its table; W-201; W-205; W-210; W-211).
 -- Assumes nothing.
-use Prim.Native.Nat.{ℕ, _+_, _-_, _%_}
+use Prim.Native.Nat.{ℕ, zero, suc, _+_, _-_, _%_}
 use mathlib.Core.Bool.{Bool, true, false, not}
 use lib.Dec.{ltb, leb, eqb}
 use Rattle.numbers.specs.Tags.{operationTag, requiredTag}
@@ -9,13 +9,14 @@ use Rattle.laws.specs.Choice.{pick, both, either, bit}
 use Rattle.laws.specs.Loop.{allBelow, anyBelow, firstBelow}
 use Rattle.laws.specs.Mask.{maskBelow}
 use Rattle.laws.specs.Row.{eachBelow}
-use Rattle.values.specs.Values.{voidV, numberV, okV, limitV, noDataV, timeoutV, invalidV, fullV, serverErrV, isNumber}
-use Rattle.faces.specs.Types.{Value, Taken, Refused, Config, RunnableConf, Link, Client, Runnable, Runnables, Element, Elements, Operation, Operations, Timer, Timers, Owed, Slot, Slots, State, Stepped, Awaited}
-use Rattle.config.specs.Tables.{runnableConfIn, requiredConfIn, linkIn, operationConfIn, timerConfIn, dataEventIn, returnEventIn, topOf}
+use Rattle.values.specs.Values.{voidV, numberV, okV, limitV, noDataV, timeoutV, invalidV, fullV, serverErrV, neverReceivedV, isNumber, isPayload}
+use Rattle.faces.specs.Types.{Value, Taken, Refused, Lists, Config, RunnableConf, Link, Client, Runnable, Runnables, Element, Elements, Operation, Operations, Timer, Timers, Owed, Slot, Slots, Copies, Copied, State, Stepped, Awaited}
+use Rattle.config.specs.Tables.{runnableConfIn, requiredConfIn, linkIn, operationConfIn, timerConfIn, dataEventIn, returnEventIn, topOf, maxListed}
+use Rattle.config.specs.Lists.{listsAt, elementAt, placeOf, isListed}
 use Rattle.entries.specs.Faults.{isQueued}
-use Rattle.state.specs.Parts.{lastNumber, noAwaited, noOwed, noStack, noSlot, noRunnable, noElement, noOperation, noTimer}
+use Rattle.state.specs.Parts.{lastNumber, noAwaited, noOwed, noStack, noSlot, noRunnable, noElement, noOperation, noTimer, noCopies}
 use Rattle.state.specs.Fields.{withInterval, withPending, withInstances, withRequests, withValue, withUpdated, withQueue, withCount, withLeft, lifeAwaiting, lifeFinished, lifeFailed, lifeOf, withLife, withOwed, withStack}
-use Rattle.state.specs.Tables.{maxSlots, runnableIn, variableIn, areaIn, elementIn, operationIn, timerIn, slotIn, withRunnable, withVariable, withArea, withElement, withOperation, withTimer, withSlot, withRunnables, withVariables, withAreas, withElements, withOperations, withTimers, withSlots}
+use Rattle.state.specs.Tables.{maxSlots, runnableIn, variableIn, areaIn, elementIn, operationIn, timerIn, slotIn, copyIn, copiesIn, withRunnable, withVariable, withArea, withElement, withOperation, withTimer, withSlot, withRunnables, withVariables, withAreas, withElements, withOperations, withTimers, withSlots, withCopy, withCopies, withIncoming, withOutgoing}
 use Rattle.state.specs.Queues.{upOne, pushRequest, firstRequest, restRequests, pushValue, firstValue, restValues, pushArea, topArea, popArea}
 use Rattle.rules.specs.Sound.{isWaiting, isHeld, clientsAs, isBound}
 use Rattle.effects.specs.declared.Found.{Found}
@@ -391,9 +392,64 @@ emptied st i =
     (withRunnables st (withRunnable (st .runnables) (slotIn (st .slots) i .life .runnable) (leaving (runnableIn (st .runnables) (slotIn (st .slots) i .life .runnable)))))
     (withSlot (st .slots) i noSlot)
 
--- 16 with a client, 15 with areas held; else the instance ends ("The eighteen steps", 14)
-unfoldable pub endOf : State → ℕ → Stepped
-endOf st i = pick (serves st i) (refused wrongClient st) (pick (holds st i) (refused areasHeld st) (took voidV (emptied st i)))
+-- the runnable of the instance i (W-211)
+abbrev pub runnableOf : State → ℕ → ℕ
+runnableOf st i = slotIn (st .slots) i .life .runnable
+
+-- the provided element at place j of r's list is written at the end of an instance with the copies c: it was set, which a copy is from its first payload on (W-211)
+unfoldable pub isGiven : Lists → ℕ → Copies → ℕ → Bool
+isGiven t r c j = both (listsAt t r j) (isPayload (copyIn c j))
+
+-- every required element after the first n of r's list that were set are written, one after the other (W-211)
+unfoldable pub givenElements : Config → ℕ → Copies → ℕ → Elements → Elements
+givenElements cfg r c zero t = t
+givenElements cfg r c (suc n) t =
+    pick (isGiven (cfg .outgoing) r c n) (fedElements cfg (elementAt (cfg .outgoing) r n) (copyIn c n) (givenElements cfg r c n t)) (givenElements cfg r c n t)
+
+-- some element of r's list that was set feeds a data event of the runnable k (W-211)
+unfoldable pub isGivenTo : Config → Elements → ℕ → Copies → ℕ → Bool
+isGivenTo cfg t r c k = anyBelow (λ (j : ℕ). both (isGiven (cfg .outgoing) r c j) (isFed cfg t (elementAt (cfg .outgoing) r j) k)) maxListed
+
+-- all runnables, each woken once that data events of the written elements wake (W-211, W-212)
+unfoldable pub givenRunnables : Config → Elements → ℕ → Copies → Runnables → Runnables
+givenRunnables cfg t r c rs =
+    record { at = eachBelow (λ (k : ℕ) (x : Runnable). pick (isGivenTo cfg t r c k) (woken (runnableConfIn (cfg .runnables) k) x) x) noRunnable (cfg .runnables .n) (rs .at) }
+
+-- the runnable r lists elements (W-211)
+abbrev pub listsSome : Lists → ℕ → Bool
+listsSome t r = listsAt t r 0
+
+-- what the instance i has set is written at its end: it lists elements, and has not failed (W-211)
+abbrev pub handsOn : Config → State → ℕ → Bool
+handsOn cfg st i = both (listsSome (cfg .outgoing) (runnableOf st i)) (not (hasFailed st i))
+
+-- every required element after what the instance i has set is written (W-211)
+unfoldable pub handedElements : Config → State → ℕ → Elements
+handedElements cfg st i = pick (handsOn cfg st i) (givenElements cfg (runnableOf st i) (copiesIn (st .outgoing) i) maxListed (st .elements)) (st .elements)
+
+-- all runnables after that, data events included (W-211)
+unfoldable pub handedRunnables : Config → State → ℕ → Runnables
+handedRunnables cfg st i = pick (handsOn cfg st i) (givenRunnables cfg (st .elements) (runnableOf st i) (copiesIn (st .outgoing) i) (st .runnables)) (st .runnables)
+
+-- the state after what the instance i has set is written (W-211)
+abbrev pub handedOn : Config → State → ℕ → State
+handedOn cfg st i = withRunnables (withElements st (handedElements cfg st i)) (handedRunnables cfg st i)
+
+-- no copies in the slot i, which had some only if its runnable r lists elements (W-211)
+unfoldable pub cleared : Lists → ℕ → Copied → ℕ → Copied
+cleared t r cs i = pick (listsSome t r) (withCopies cs i noCopies) cs
+
+-- the state with no copies in the slot i of the runnable r (W-211)
+abbrev pub uncopied : Config → State → ℕ → ℕ → State
+uncopied cfg st r i = withOutgoing (withIncoming st (cleared (cfg .incoming) r (st .incoming) i)) (cleared (cfg .outgoing) r (st .outgoing) i)
+
+-- the state after the instance i has ended: what it has set is written first, then its slot is empty ("The eighteen steps", 14; W-211)
+abbrev pub ended : Config → State → ℕ → State
+ended cfg st i = uncopied cfg (emptied (handedOn cfg st i) i) (runnableOf st i) i
+
+-- 16 with a client, 15 with areas held; else the instance ends ("The eighteen steps", 14; W-211)
+unfoldable pub endOf : Config → State → ℕ → Stepped
+endOf cfg st i = pick (serves st i) (refused wrongClient st) (pick (holds st i) (refused areasHeld st) (took voidV (ended cfg st i)))
 
 -- ---- 15: spawn
 
@@ -443,11 +499,40 @@ spawned cfg st r k =
     (withRunnables st (withRunnable (st .runnables) r (starting (runnableConfIn (cfg .runnables) r) (runnableIn (st .runnables) r))))
     (withSlot (st .slots) k (instanceOf (runnableConfIn (cfg .runnables) r) r (runnableIn (st .runnables) r)))
 
+-- the copy at place j of a new instance of r: what the element that r lists there holds, if it lists one (W-211)
+unfoldable pub copyOf : Lists → ℕ → Elements → ℕ → Value
+copyOf t r es j = pick (listsAt t r j) (elementIn es (elementAt t r j) .value) neverReceivedV
+
+-- the copies of a new instance of r (W-211)
+unfoldable pub copiesOf : Lists → ℕ → Elements → Copies
+copiesOf t r es = record { at = eachBelow (λ (j : ℕ) (v : Value). copyOf t r es j) neverReceivedV maxListed (noCopies .at) }
+
+-- every required element, those that r lists with their flag off (W-211)
+unfoldable pub seenElements : Config → ℕ → Elements → Elements
+seenElements cfg r es = record { at = eachBelow (λ (q : ℕ) (x : Element). pick (isListed (cfg .incoming) r q) (seen x) x) noElement (cfg .required .n) (es .at) }
+
+-- every required element after r is spawned (W-211)
+unfoldable pub copiedElements : Config → ℕ → Elements → Elements
+copiedElements cfg r es = pick (listsSome (cfg .incoming) r) (seenElements cfg r es) es
+
+-- all copies after that, with those of the new instance in the slot k, if it lists elements (W-211)
+unfoldable pub copiedInto : Config → ℕ → Elements → Copied → ℕ → Copied
+copiedInto cfg r es cs k = pick (listsSome (cfg .incoming) r) (withCopies cs k (copiesOf (cfg .incoming) r es)) cs
+
+-- the state after an instance of r in the slot k has copied the elements that r lists (W-211)
+abbrev pub copiedTo : Config → State → ℕ → ℕ → State
+copiedTo cfg st r k =
+    withIncoming (withElements st (copiedElements cfg r (st .elements))) (copiedInto cfg r (st .elements) (st .incoming) k)
+
+-- the state after r is spawned into the slot k, copies included ("The eighteen steps", Spawn; W-211)
+abbrev pub begunIn : Config → State → ℕ → ℕ → State
+begunIn cfg st r k = copiedTo cfg (spawned cfg st r k) r k
+
 -- 11 if a need is not met, 12 if all slots are in use; else the answer is the Number of the new slot ("The eighteen steps", Spawn)
 unfoldable pub spawnOf : Config → State → ℕ → Stepped
 spawnOf cfg st r =
     pick (maySpawn (runnableConfIn (cfg .runnables) r) (runnableIn (st .runnables) r))
-    (pick (ltb (lowestEmpty (st .slots)) maxSlots) (took (numberV (lowestEmpty (st .slots))) (spawned cfg st r (lowestEmpty (st .slots)))) (refused noSlotFree st))
+    (pick (ltb (lowestEmpty (st .slots)) maxSlots) (took (numberV (lowestEmpty (st .slots))) (begunIn cfg st r (lowestEmpty (st .slots)))) (refused noSlotFree st))
     (refused notDue st)
 
 -- ---- 17: tick
@@ -574,3 +659,17 @@ isSpent st i = eqb (slotIn (st .slots) i .life .awaited .left) 0
 -- a held instance whose time is up goes on, with Timeout; any other is 14 (W-210)
 unfoldable pub giveUpOf : State → ℕ → Stepped
 giveUpOf st i = pick (isSpent st i) (took timeoutV (goneOn st i)) (refused notOver st)
+
+-- ---- 22, 23: copies
+
+-- the answer is what the instance's copy of the required element q holds (W-211)
+unfoldable pub readCopyOf : Config → State → ℕ → ℕ → Stepped
+readCopyOf cfg st i q = took (copyIn (copiesIn (st .incoming) i) (placeOf (cfg .incoming) (runnableOf st i) q)) st
+
+-- the copies of the instance i with v for the provided element p (W-211)
+abbrev pub setting : Config → State → ℕ → ℕ → Value → Copies
+setting cfg st i p v = withCopy (copiesIn (st .outgoing) i) (placeOf (cfg .outgoing) (runnableOf st i) p) v
+
+-- the instance's copy of the provided element p holds the payload (W-211)
+unfoldable pub writeCopyOf : Config → State → ℕ → ℕ → Value → Stepped
+writeCopyOf cfg st i p v = took voidV (withOutgoing st (withCopies (st .outgoing) i (setting cfg st i p v)))

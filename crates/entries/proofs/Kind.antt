@@ -1,29 +1,30 @@
--- What the tests of soundness tell: of an entry without fault, of a blank one, of a kind place by place, and of a configuration kind by kind; what the test of a kind comes to, from what its loop finds; and that a configuration whose ten tables are full length has as many places of each kind as there may be.
+-- What the tests of soundness tell: of an entry without fault, of a blank one, of a kind place by place, and of a configuration kind by kind; what the test of a kind comes to, from what its loop finds; and that a configuration whose tables are full length has as many places of each kind as there may be.
 -- Assumes nothing.
 use Prim.Native.Nat.{ℕ, _+_, _-_, _≤_, _<_}
 use mathlib.Core.Bool.{true, false}
 use mathlib.Core.Path.{_≡_}
 use native.Mathlib.Decide.{decLt}
 use native.Mathlib.Omega.{arith}
-use lib.Dec.{ltb, leb, eqb}
+use lib.Dec.{leb, eqb}
 use lib.ListN.{length}
-use borrow.Author.Tests.{lt-ltb, le-ltb, le-leb, lt-leb, eq-eqb, ltb-true, leb-true, eqb-true}
+use borrow.Author.Tests.{lt-ltb, le-ltb, le-leb, lt-leb, eq-eqb, leb-true, eqb-true}
 use Rattle.numbers.specs.Tags.{lastTag, partKinds}
 use Rattle.laws.specs.Choice.{both}
 use Rattle.laws.specs.Loop.{allBelow}
 use Rattle.laws.proofs.Choosing.{both-left, both-right, both-no, pick-on}
 use Rattle.laws.proofs.Looping.{all-at, all-of, all-fails}
 use Rattle.config.specs.declared.Config.{Config}
-use Rattle.config.specs.Editions.{isEdition}
+use Rattle.config.specs.Editions.{isEdition, hasField}
 use Rattle.entries.specs.declared.Entry.{Entry}
 use Rattle.entries.specs.Entries.{maxOf, countOf, placesOf, entryOf}
-use Rattle.entries.specs.Faults.{inRange, namesThere, pairsWell, entryFault, isNoEntry, placeSound, kindSound, partsSound, configSound}
+use Rattle.entries.specs.Faults.{hasRoom, inRange, namesThere, pairsWell, entryFault, isNoEntry, placeSound, kindSound, partsSound, configSound}
 
 -- ---- an entry
 
 -- an entry without fault
 pub record Well (cfg : Config) (tag i : ℕ) (e : Entry) : Type 0 where
-  pub room : i < maxOf tag
+  pub field : hasField (cfg .edition) tag ≡ true
+  pub room : hasRoom cfg tag i e ≡ true
   pub range : inRange tag e ≡ true
   pub names : namesThere cfg tag e ≡ true
   pub pairs : pairsWell cfg tag i e ≡ true
@@ -31,11 +32,12 @@ pub record Well (cfg : Config) (tag i : ℕ) (e : Entry) : Type 0 where
 pub fault-told : (cfg : Config) (tag i : ℕ) (e : Entry) → entryFault cfg tag i e ≡ 0 → Well cfg tag i e
 unfolding entryFault
 fault-told cfg tag i e h =
-    let a = pick-on (ltb i (maxOf tag)) _ 23 0 h (λ q. omega (arith, q)) in
+    let f = pick-on (hasField (cfg .edition) tag) _ 21 0 h (λ q. omega (arith, q)) in
+    let a = pick-on (hasRoom cfg tag i e) _ 23 0 (f .1) (λ q. omega (arith, q)) in
     let b = pick-on (inRange tag e) _ 24 0 (a .1) (λ q. omega (arith, q)) in
     let c = pick-on (namesThere cfg tag e) _ 25 0 (b .1) (λ q. omega (arith, q)) in
     let d = pick-on (pairsWell cfg tag i e) _ 26 0 (c .1) (λ q. omega (arith, q)) in
-    record { room = ltb-true i (maxOf tag) (a .0); range = b .0; names = c .0; pairs = d .0 }
+    record { field = f .0; room = a .0; range = b .0; names = c .0; pairs = d .0 }
 
 -- an entry of zeros
 pub record Blank (e : Entry) : Type 0 where
@@ -119,11 +121,13 @@ pub record Full (cfg : Config) : Type 0 where
   pub timers : length (cfg .timers .at) ≡ 8
   pub devents : length (cfg .devents .at) ≡ 32
   pub revents : length (cfg .revents .at) ≡ 16
+  pub incoming : length (cfg .incoming .at) ≡ 64
+  pub outgoing : length (cfg .outgoing .at) ≡ 64
 
 pub places-full : (cfg : Config) (tag : ℕ) → Full cfg → placesOf cfg tag ≡ maxOf tag
 unfolding placesOf maxOf
 places-full cfg tag f =
-    rw (f .runnables, f .variables, f .areas, f .required, f .provided, f .links, f .operations, f .timers, f .devents, f .revents)
+    rw (f .runnables, f .variables, f .areas, f .required, f .provided, f .links, f .operations, f .timers, f .devents, f .revents, f .incoming, f .outgoing)
 
 module _ (cfg : Config) (tag : ℕ) where
   pub kind-over : maxOf tag < countOf cfg tag → kindSound cfg tag ≡ false

@@ -4,7 +4,7 @@
 use Prim.Native.Nat.{ℕ, _+_, _*_, _%_}
 use lib.Dec.{ltb, eqb}
 use lib.ListN.{length}
-use Rattle.numbers.specs.Tags.{editionTag, runnableTag, variableTag, areaTag, requiredTag, providedTag, linkTag, operationTag, timerTag, dataEventTag, returnEventTag}
+use Rattle.numbers.specs.Tags.{editionTag, runnableTag, variableTag, areaTag, requiredTag, providedTag, linkTag, operationTag, timerTag, dataEventTag, returnEventTag, incomingTag, outgoingTag}
 use Rattle.laws.specs.Choice.{pick, bit}
 use Rattle.config.specs.declared.RunnableConf.{RunnableConf}
 use Rattle.config.specs.declared.RunnableConfs.{RunnableConfs}
@@ -26,8 +26,10 @@ use Rattle.config.specs.declared.DataEvent.{DataEvent}
 use Rattle.config.specs.declared.DataEvents.{DataEvents}
 use Rattle.config.specs.declared.ReturnEvent.{ReturnEvent}
 use Rattle.config.specs.declared.ReturnEvents.{ReturnEvents}
+use Rattle.config.specs.declared.Listed.{Listed}
+use Rattle.config.specs.declared.Lists.{Lists}
 use Rattle.config.specs.declared.Config.{Config}
-use Rattle.config.specs.Tables.{maxRunnableConfs, maxVariableConfs, maxAreaConfs, maxRequiredConfs, maxProvidedConfs, maxLinks, maxOperationConfs, maxTimerConfs, maxDataEvents, maxReturnEvents, runnableConfIn, variableConfIn, areaConfIn, requiredConfIn, providedConfIn, linkIn, operationConfIn, timerConfIn, dataEventIn, returnEventIn, addRunnableConf, addVariableConf, addAreaConf, addRequiredConf, addProvidedConf, addLink, addOperationConf, addTimerConf, addDataEvent, addReturnEvent}
+use Rattle.config.specs.Tables.{maxRunnableConfs, maxVariableConfs, maxAreaConfs, maxRequiredConfs, maxProvidedConfs, maxLinks, maxOperationConfs, maxTimerConfs, maxDataEvents, maxReturnEvents, maxLists, runnableConfIn, variableConfIn, areaConfIn, requiredConfIn, providedConfIn, linkIn, operationConfIn, timerConfIn, dataEventIn, returnEventIn, listedIn, addRunnableConf, addVariableConf, addAreaConf, addRequiredConf, addProvidedConf, addLink, addOperationConf, addTimerConf, addDataEvent, addReturnEvent, addListed}
 use Rattle.entries.specs.declared.Entry.{Entry}
 
 -- the entry of an unused place, and of a tag that names no kind ("A sound state", unused places)
@@ -47,7 +49,9 @@ maxOf tag =
     (pick (eqb tag timerTag) (maxTimerConfs)
     (pick (eqb tag dataEventTag) (maxDataEvents)
     (pick (eqb tag returnEventTag) (maxReturnEvents)
-    0)))))))))
+    (pick (eqb tag incomingTag) (maxLists)
+    (pick (eqb tag outgoingTag) (maxLists)
+    0)))))))))))
 
 -- how many parts of a kind there are, by its tag ("The parts, and how many")
 unfoldable pub countOf : Config → ℕ → ℕ
@@ -62,7 +66,9 @@ countOf cfg tag =
     (pick (eqb tag timerTag) (cfg .timers .n)
     (pick (eqb tag dataEventTag) (cfg .devents .n)
     (pick (eqb tag returnEventTag) (cfg .revents .n)
-    0)))))))))
+    (pick (eqb tag incomingTag) (cfg .incoming .n)
+    (pick (eqb tag outgoingTag) (cfg .outgoing .n)
+    0)))))))))))
 
 -- how many places the table of a kind has: in a configuration that code holds, always as many as there may be ("The parts, and how many")
 unfoldable pub placesOf : Config → ℕ → ℕ
@@ -77,7 +83,9 @@ placesOf cfg tag =
     (pick (eqb tag timerTag) (length (cfg .timers .at))
     (pick (eqb tag dataEventTag) (length (cfg .devents .at))
     (pick (eqb tag returnEventTag) (length (cfg .revents .at))
-    0)))))))))
+    (pick (eqb tag incomingTag) (length (cfg .incoming .at))
+    (pick (eqb tag outgoingTag) (length (cfg .outgoing .at))
+    0)))))))))))
 
 -- the flags of a runnable as one number: 1 for concurrent, 2 for init, 4 for counting ("The files", tag 10; W-212)
 abbrev pub flagsOf : RunnableConf → ℕ
@@ -163,6 +171,14 @@ returnEventEntry x = record { first = x .runnable; second = x .operation; third 
 abbrev pub returnEventPart : Entry → ReturnEvent
 returnEventPart e = record { runnable = e .first; operation = e .second }
 
+-- the entry of a listed element: runnable, element (W-211)
+abbrev pub listedEntry : Listed → Entry
+listedEntry x = record { first = x .runnable; second = x .element; third = 0; number = 0 }
+
+-- the listed element that an entry says (W-211)
+abbrev pub listedPart : Entry → Listed
+listedPart e = record { runnable = e .first; element = e .second }
+
 -- the entry of the part of a kind at place i ("The files", the table)
 unfoldable pub entryOf : Config → ℕ → ℕ → Entry
 entryOf cfg tag i =
@@ -176,51 +192,61 @@ entryOf cfg tag i =
     (pick (eqb tag timerTag) (timerEntry (timerConfIn (cfg .timers) i))
     (pick (eqb tag dataEventTag) (dataEventEntry (dataEventIn (cfg .devents) i))
     (pick (eqb tag returnEventTag) (returnEventEntry (returnEventIn (cfg .revents) i))
-    noEntry)))))))))
+    (pick (eqb tag incomingTag) (listedEntry (listedIn (cfg .incoming) i))
+    (pick (eqb tag outgoingTag) (listedEntry (listedIn (cfg .outgoing) i))
+    noEntry)))))))))))
 
 -- the configuration with another edition (W-208)
 abbrev pub withEdition : Config → ℕ → Config
-withEdition cfg e = record { edition = e; runnables = cfg .runnables; variables = cfg .variables; areas = cfg .areas; required = cfg .required; provided = cfg .provided; links = cfg .links; operations = cfg .operations; timers = cfg .timers; devents = cfg .devents; revents = cfg .revents }
+withEdition cfg e = record { edition = e; runnables = cfg .runnables; variables = cfg .variables; areas = cfg .areas; required = cfg .required; provided = cfg .provided; links = cfg .links; operations = cfg .operations; timers = cfg .timers; devents = cfg .devents; revents = cfg .revents; incoming = cfg .incoming; outgoing = cfg .outgoing }
 
 -- the configuration with another table of runnables ("The parts, and how many")
 abbrev pub withRunnableConfs : Config → RunnableConfs → Config
-withRunnableConfs cfg t = record { edition = cfg .edition; runnables = t; variables = cfg .variables; areas = cfg .areas; required = cfg .required; provided = cfg .provided; links = cfg .links; operations = cfg .operations; timers = cfg .timers; devents = cfg .devents; revents = cfg .revents }
+withRunnableConfs cfg t = record { edition = cfg .edition; runnables = t; variables = cfg .variables; areas = cfg .areas; required = cfg .required; provided = cfg .provided; links = cfg .links; operations = cfg .operations; timers = cfg .timers; devents = cfg .devents; revents = cfg .revents; incoming = cfg .incoming; outgoing = cfg .outgoing }
 
 -- the configuration with another table of variables ("The parts, and how many")
 abbrev pub withVariableConfs : Config → VariableConfs → Config
-withVariableConfs cfg t = record { edition = cfg .edition; runnables = cfg .runnables; variables = t; areas = cfg .areas; required = cfg .required; provided = cfg .provided; links = cfg .links; operations = cfg .operations; timers = cfg .timers; devents = cfg .devents; revents = cfg .revents }
+withVariableConfs cfg t = record { edition = cfg .edition; runnables = cfg .runnables; variables = t; areas = cfg .areas; required = cfg .required; provided = cfg .provided; links = cfg .links; operations = cfg .operations; timers = cfg .timers; devents = cfg .devents; revents = cfg .revents; incoming = cfg .incoming; outgoing = cfg .outgoing }
 
 -- the configuration with another table of areas ("The parts, and how many")
 abbrev pub withAreaConfs : Config → AreaConfs → Config
-withAreaConfs cfg t = record { edition = cfg .edition; runnables = cfg .runnables; variables = cfg .variables; areas = t; required = cfg .required; provided = cfg .provided; links = cfg .links; operations = cfg .operations; timers = cfg .timers; devents = cfg .devents; revents = cfg .revents }
+withAreaConfs cfg t = record { edition = cfg .edition; runnables = cfg .runnables; variables = cfg .variables; areas = t; required = cfg .required; provided = cfg .provided; links = cfg .links; operations = cfg .operations; timers = cfg .timers; devents = cfg .devents; revents = cfg .revents; incoming = cfg .incoming; outgoing = cfg .outgoing }
 
 -- the configuration with another table of required elements ("The parts, and how many")
 abbrev pub withRequiredConfs : Config → RequiredConfs → Config
-withRequiredConfs cfg t = record { edition = cfg .edition; runnables = cfg .runnables; variables = cfg .variables; areas = cfg .areas; required = t; provided = cfg .provided; links = cfg .links; operations = cfg .operations; timers = cfg .timers; devents = cfg .devents; revents = cfg .revents }
+withRequiredConfs cfg t = record { edition = cfg .edition; runnables = cfg .runnables; variables = cfg .variables; areas = cfg .areas; required = t; provided = cfg .provided; links = cfg .links; operations = cfg .operations; timers = cfg .timers; devents = cfg .devents; revents = cfg .revents; incoming = cfg .incoming; outgoing = cfg .outgoing }
 
 -- the configuration with another table of provided elements ("The parts, and how many")
 abbrev pub withProvidedConfs : Config → ProvidedConfs → Config
-withProvidedConfs cfg t = record { edition = cfg .edition; runnables = cfg .runnables; variables = cfg .variables; areas = cfg .areas; required = cfg .required; provided = t; links = cfg .links; operations = cfg .operations; timers = cfg .timers; devents = cfg .devents; revents = cfg .revents }
+withProvidedConfs cfg t = record { edition = cfg .edition; runnables = cfg .runnables; variables = cfg .variables; areas = cfg .areas; required = cfg .required; provided = t; links = cfg .links; operations = cfg .operations; timers = cfg .timers; devents = cfg .devents; revents = cfg .revents; incoming = cfg .incoming; outgoing = cfg .outgoing }
 
 -- the configuration with another table of links ("The parts, and how many")
 abbrev pub withLinks : Config → Links → Config
-withLinks cfg t = record { edition = cfg .edition; runnables = cfg .runnables; variables = cfg .variables; areas = cfg .areas; required = cfg .required; provided = cfg .provided; links = t; operations = cfg .operations; timers = cfg .timers; devents = cfg .devents; revents = cfg .revents }
+withLinks cfg t = record { edition = cfg .edition; runnables = cfg .runnables; variables = cfg .variables; areas = cfg .areas; required = cfg .required; provided = cfg .provided; links = t; operations = cfg .operations; timers = cfg .timers; devents = cfg .devents; revents = cfg .revents; incoming = cfg .incoming; outgoing = cfg .outgoing }
 
 -- the configuration with another table of operations ("The parts, and how many")
 abbrev pub withOperationConfs : Config → OperationConfs → Config
-withOperationConfs cfg t = record { edition = cfg .edition; runnables = cfg .runnables; variables = cfg .variables; areas = cfg .areas; required = cfg .required; provided = cfg .provided; links = cfg .links; operations = t; timers = cfg .timers; devents = cfg .devents; revents = cfg .revents }
+withOperationConfs cfg t = record { edition = cfg .edition; runnables = cfg .runnables; variables = cfg .variables; areas = cfg .areas; required = cfg .required; provided = cfg .provided; links = cfg .links; operations = t; timers = cfg .timers; devents = cfg .devents; revents = cfg .revents; incoming = cfg .incoming; outgoing = cfg .outgoing }
 
 -- the configuration with another table of timers ("The parts, and how many")
 abbrev pub withTimerConfs : Config → TimerConfs → Config
-withTimerConfs cfg t = record { edition = cfg .edition; runnables = cfg .runnables; variables = cfg .variables; areas = cfg .areas; required = cfg .required; provided = cfg .provided; links = cfg .links; operations = cfg .operations; timers = t; devents = cfg .devents; revents = cfg .revents }
+withTimerConfs cfg t = record { edition = cfg .edition; runnables = cfg .runnables; variables = cfg .variables; areas = cfg .areas; required = cfg .required; provided = cfg .provided; links = cfg .links; operations = cfg .operations; timers = t; devents = cfg .devents; revents = cfg .revents; incoming = cfg .incoming; outgoing = cfg .outgoing }
 
 -- the configuration with another table of data events ("The parts, and how many")
 abbrev pub withDataEvents : Config → DataEvents → Config
-withDataEvents cfg t = record { edition = cfg .edition; runnables = cfg .runnables; variables = cfg .variables; areas = cfg .areas; required = cfg .required; provided = cfg .provided; links = cfg .links; operations = cfg .operations; timers = cfg .timers; devents = t; revents = cfg .revents }
+withDataEvents cfg t = record { edition = cfg .edition; runnables = cfg .runnables; variables = cfg .variables; areas = cfg .areas; required = cfg .required; provided = cfg .provided; links = cfg .links; operations = cfg .operations; timers = cfg .timers; devents = t; revents = cfg .revents; incoming = cfg .incoming; outgoing = cfg .outgoing }
 
 -- the configuration with another table of return events ("The parts, and how many")
 abbrev pub withReturnEvents : Config → ReturnEvents → Config
-withReturnEvents cfg t = record { edition = cfg .edition; runnables = cfg .runnables; variables = cfg .variables; areas = cfg .areas; required = cfg .required; provided = cfg .provided; links = cfg .links; operations = cfg .operations; timers = cfg .timers; devents = cfg .devents; revents = t }
+withReturnEvents cfg t = record { edition = cfg .edition; runnables = cfg .runnables; variables = cfg .variables; areas = cfg .areas; required = cfg .required; provided = cfg .provided; links = cfg .links; operations = cfg .operations; timers = cfg .timers; devents = cfg .devents; revents = t; incoming = cfg .incoming; outgoing = cfg .outgoing }
+
+-- the configuration with another list of elements that are copied at spawn (W-211)
+abbrev pub withIncomingList : Config → Lists → Config
+withIncomingList cfg t = record { edition = cfg .edition; runnables = cfg .runnables; variables = cfg .variables; areas = cfg .areas; required = cfg .required; provided = cfg .provided; links = cfg .links; operations = cfg .operations; timers = cfg .timers; devents = cfg .devents; revents = cfg .revents; incoming = t; outgoing = cfg .outgoing }
+
+-- the configuration with another list of elements that are written at end (W-211)
+abbrev pub withOutgoingList : Config → Lists → Config
+withOutgoingList cfg t = record { edition = cfg .edition; runnables = cfg .runnables; variables = cfg .variables; areas = cfg .areas; required = cfg .required; provided = cfg .provided; links = cfg .links; operations = cfg .operations; timers = cfg .timers; devents = cfg .devents; revents = cfg .revents; incoming = cfg .incoming; outgoing = t }
 
 -- the configuration with one part more of a kind, or its edition, as the entry says ("The files", the table; W-208)
 unfoldable pub placed : Config → ℕ → Entry → Config
@@ -235,5 +261,7 @@ placed cfg tag e =
     (pick (eqb tag timerTag) (withTimerConfs cfg (addTimerConf (cfg .timers) (timerPart e)))
     (pick (eqb tag dataEventTag) (withDataEvents cfg (addDataEvent (cfg .devents) (dataEventPart e)))
     (pick (eqb tag returnEventTag) (withReturnEvents cfg (addReturnEvent (cfg .revents) (returnEventPart e)))
+    (pick (eqb tag incomingTag) (withIncomingList cfg (addListed (cfg .incoming) (listedPart e)))
+    (pick (eqb tag outgoingTag) (withOutgoingList cfg (addListed (cfg .outgoing) (listedPart e)))
     (pick (eqb tag editionTag) (withEdition cfg (e .first))
-    cfg))))))))))
+    cfg))))))))))))

@@ -1,16 +1,17 @@
--- When a configuration is sound: refusals 23 to 26, entry by entry, and blank places ("Numbers of refusal", reading a configuration; "A sound state", first sentence).
+-- When a configuration is sound: refusals 21 and 23 to 26, entry by entry, and blank places ("Numbers of refusal", reading a configuration; "A sound state", first sentence).
 -- A part names only parts of kinds that come before its own in the file, so the faults of an entry are the same while reading and afterwards.
 -- Assumes nothing.
 use Prim.Native.Nat.{ℕ, _+_, _-_}
 use mathlib.Core.Bool.{Bool, true, not}
 use lib.Dec.{ltb, leb, eqb}
-use Rattle.numbers.specs.Refusals.{badPair, namesNothing, outOfRange, tooMany}
-use Rattle.numbers.specs.Tags.{partKinds, runnableTag, variableTag, areaTag, requiredTag, providedTag, operationTag, timerTag, linkTag, dataEventTag, returnEventTag}
+use Rattle.numbers.specs.Refusals.{badFrame, badPair, namesNothing, outOfRange, tooMany}
+use Rattle.numbers.specs.Tags.{partKinds, runnableTag, variableTag, areaTag, requiredTag, providedTag, operationTag, timerTag, linkTag, dataEventTag, returnEventTag, incomingTag, outgoingTag}
 use Rattle.laws.specs.Choice.{pick, both, either, alike}
 use Rattle.laws.specs.Loop.{allBelow}
 use Rattle.config.specs.declared.Config.{Config}
-use Rattle.config.specs.Tables.{maxCapacity, runnableConfIn, requiredConfIn, providedConfIn}
-use Rattle.config.specs.Editions.{isEdition}
+use Rattle.config.specs.Tables.{maxCapacity, maxListed, runnableConfIn, requiredConfIn, providedConfIn}
+use Rattle.config.specs.Lists.{listedBelow}
+use Rattle.config.specs.Editions.{isEdition, hasField}
 use Rattle.entries.specs.declared.Entry.{Entry}
 use Rattle.entries.specs.Entries.{maxOf, countOf, placesOf, entryOf}
 
@@ -29,6 +30,13 @@ maxFlags = 7
 -- a time of at least 1 and at most maxTime, an hour ("The files", below the table)
 abbrev pub isTime : ℕ → Bool
 isTime n = both (ltb 0 n) (leb n maxTime)
+
+-- an entry at place i of its kind is not one too many: there may be that many of the kind, and of listed elements that many of one runnable ("Numbers of refusal", 23; W-211)
+unfoldable pub hasRoom : Config → ℕ → ℕ → Entry → Bool
+hasRoom cfg tag i e =
+    pick (eqb tag incomingTag) (ltb (listedBelow (cfg .incoming) (e .first) i) maxListed)
+    (pick (eqb tag outgoingTag) (ltb (listedBelow (cfg .outgoing) (e .first) i) maxListed)
+    (ltb i (maxOf tag)))
 
 -- the numbers of an entry are in range; numbers of parts are not looked at here ("Numbers of refusal", 24)
 unfoldable pub inRange : ℕ → Entry → Bool
@@ -50,7 +58,9 @@ namesThere cfg tag e =
     (pick (eqb tag timerTag) (ltb (e .first) (cfg .runnables .n))
     (pick (eqb tag dataEventTag) (both (ltb (e .first) (cfg .runnables .n)) (ltb (e .second) (cfg .required .n)))
     (pick (eqb tag returnEventTag) (both (ltb (e .first) (cfg .runnables .n)) (ltb (e .second) (cfg .operations .n)))
-    true))))
+    (pick (eqb tag incomingTag) (both (ltb (e .first) (cfg .runnables .n)) (ltb (e .second) (cfg .required .n)))
+    (pick (eqb tag outgoingTag) (both (ltb (e .first) (cfg .runnables .n)) (ltb (e .second) (cfg .provided .n)))
+    true))))))
 
 -- a runnable with a request capacity is a server, any other plain ("The files", below the table)
 unfoldable pub isServer : Config → ℕ → Bool
@@ -68,7 +78,11 @@ rises d e = either (ltb (d .first) (e .first)) (both (eqb (d .first) (e .first))
 unfoldable pub risesAt : Config → ℕ → ℕ → Entry → Bool
 risesAt cfg tag i e = either (eqb i 0) (rises (entryOf cfg tag (i - 1)) e)
 
--- no bad pairing: no init flag and no counting on a server, no initial without its mark, links join like kinds, operations stand on servers, timers and events on plain runnables, and link and event pairs rise ("Numbers of refusal", 26; W-212)
+-- a runnable may list an element: it is plain, and the element, of which the entry is given, is of its component and unqueued (W-211)
+unfoldable pub listsWell : Config → ℕ → Entry → Bool
+listsWell cfg r x = both (not (isServer cfg r)) (both (eqb (x .first) (runnableConfIn (cfg .runnables) r .component)) (eqb (x .second) 0))
+
+-- no bad pairing: no init flag and no counting on a server, no initial without its mark, links join like kinds, operations stand on servers, timers and events on plain runnables, elements are listed well, and the pairs of links, events and lists rise ("Numbers of refusal", 26; W-212; W-211)
 unfoldable pub pairsWell : Config → ℕ → ℕ → Entry → Bool
 pairsWell cfg tag i e =
     pick (eqb tag runnableTag) (either (leb (e .second) 1) (eqb (e .third) 0))
@@ -78,12 +92,15 @@ pairsWell cfg tag i e =
     (pick (eqb tag timerTag) (not (isServer cfg (e .first)))
     (pick (eqb tag dataEventTag) (both (not (isServer cfg (e .first))) (risesAt cfg tag i e))
     (pick (eqb tag returnEventTag) (both (not (isServer cfg (e .first))) (risesAt cfg tag i e))
-    true))))))
+    (pick (eqb tag incomingTag) (both (listsWell cfg (e .first) (entryOf cfg requiredTag (e .second))) (risesAt cfg tag i e))
+    (pick (eqb tag outgoingTag) (both (listsWell cfg (e .first) (entryOf cfg providedTag (e .second))) (risesAt cfg tag i e))
+    true))))))))
 
--- the first fault of an entry at place i of its kind: too many, a number out of range, a part that isn't there, a bad pairing; 0 for none ("Numbers of refusal", 23 to 26)
+-- the first fault of an entry at place i of its kind: a field that the edition has not, one too many, a number out of range, a part that isn't there, a bad pairing; 0 for none ("Numbers of refusal", 21 and 23 to 26; W-211)
 unfoldable pub entryFault : Config → ℕ → ℕ → Entry → ℕ
 entryFault cfg tag i e =
-    pick (ltb i (maxOf tag))
+    pick (hasField (cfg .edition) tag)
+    (pick (hasRoom cfg tag i e)
     (pick (inRange tag e)
     (pick (namesThere cfg tag e)
     (pick (pairsWell cfg tag i e)
@@ -91,7 +108,8 @@ entryFault cfg tag i e =
     badPair)
     namesNothing)
     outOfRange)
-    tooMany
+    tooMany)
+    badFrame
 
 -- an entry of zeros ("A sound state", unused places)
 unfoldable pub isNoEntry : Entry → Bool
@@ -107,7 +125,7 @@ unfoldable pub kindSound : Config → ℕ → Bool
 kindSound cfg tag =
     both (eqb (placesOf cfg tag) (maxOf tag)) (both (leb (countOf cfg tag) (maxOf tag)) (allBelow (placeSound cfg tag) (maxOf tag)))
 
--- all ten kinds are sound, with the tags from 10 to 19 ("A sound state", first sentence)
+-- all kinds are sound, with the tags from 10 on ("A sound state", first sentence)
 unfoldable pub partsSound : Config → Bool
 partsSound cfg = allBelow (λ (j : ℕ). kindSound cfg (runnableTag + j)) partKinds
 

@@ -3,9 +3,9 @@ ghost use mathlib.Core.Path.{_≡_};
 ghost use mathlib.Core.Bool.{not};
 ghost use lib.Dec.{leb, ltb, eqb};
 ghost use Rattle.laws.specs.Choice.{both, either, alike, bit};
-ghost use Rattle.config.specs.Tables.{addRunnableConf, addVariableConf, addAreaConf, addRequiredConf, addProvidedConf, addLink, addOperationConf, addTimerConf, addDataEvent, addReturnEvent, maxCapacity, providedConfIn};
-ghost use Rattle.entries.specs.Entries.{maxOf, countOf, entryOf, placed, runnableEntry, variableEntry, areaEntry, requiredEntry, providedEntry, linkEntry, operationEntry, timerEntry, dataEventEntry, returnEventEntry, runnablePart, variablePart, areaPart, requiredPart, providedPart, linkPart, operationPart, timerPart, dataEventPart, returnEventPart, withRunnableConfs, withVariableConfs, withAreaConfs, withRequiredConfs, withProvidedConfs, withLinks, withOperationConfs, withTimerConfs, withDataEvents, withReturnEvents, withEdition, flagsOf};
-ghost use Rattle.entries.specs.Faults.{maxComponent, maxTime, isTime, inRange, namesThere, isServer, isQueued, rises, risesAt, pairsWell, entryFault, isNoEntry, placeSound, kindSound, partsSound, configSound, maxFlags};
+ghost use Rattle.config.specs.Tables.{addRunnableConf, addVariableConf, addAreaConf, addRequiredConf, addProvidedConf, addLink, addOperationConf, addTimerConf, addDataEvent, addReturnEvent, addListed, maxCapacity, providedConfIn};
+ghost use Rattle.entries.specs.Entries.{maxOf, countOf, entryOf, placed, runnableEntry, variableEntry, areaEntry, requiredEntry, providedEntry, linkEntry, operationEntry, timerEntry, dataEventEntry, returnEventEntry, runnablePart, variablePart, areaPart, requiredPart, providedPart, linkPart, operationPart, timerPart, dataEventPart, returnEventPart, listedEntry, listedPart, withRunnableConfs, withVariableConfs, withAreaConfs, withRequiredConfs, withProvidedConfs, withLinks, withOperationConfs, withTimerConfs, withDataEvents, withReturnEvents, withIncomingList, withOutgoingList, withEdition, flagsOf};
+ghost use Rattle.entries.specs.Faults.{maxComponent, maxTime, isTime, inRange, namesThere, isServer, isQueued, rises, risesAt, pairsWell, entryFault, isNoEntry, placeSound, kindSound, partsSound, configSound, maxFlags, hasRoom, listsWell};
 use config::AreaConf;
 use config::AreaConfs;
 use config::Config;
@@ -13,6 +13,8 @@ use config::DataEvent;
 use config::DataEvents;
 use config::Link;
 use config::Links;
+use config::Listed;
+use config::Lists;
 use config::OperationConf;
 use config::OperationConfs;
 use config::ProvidedConf;
@@ -67,6 +69,8 @@ pub fn max_of(tag: u8) -> u8
         numbers::TAG_TIMER => TimerConfs::MAX as u8,
         numbers::TAG_DATA_EVENT => DataEvents::MAX as u8,
         numbers::TAG_RETURN_EVENT => ReturnEvents::MAX as u8,
+        numbers::TAG_INCOMING => Lists::MAX as u8,
+        numbers::TAG_OUTGOING => Lists::MAX as u8,
         _ => 0,
     }
 }
@@ -86,6 +90,8 @@ pub fn count_of(cfg: Config, tag: u8) -> u8
         numbers::TAG_TIMER => cfg.timers.n,
         numbers::TAG_DATA_EVENT => cfg.devents.n,
         numbers::TAG_RETURN_EVENT => cfg.revents.n,
+        numbers::TAG_INCOMING => cfg.incoming.n,
+        numbers::TAG_OUTGOING => cfg.outgoing.n,
         _ => 0,
     }
 }
@@ -302,6 +308,26 @@ fn return_event_part(e: Entry) -> ReturnEvent
     }
 }
 
+fn listed_entry(x: Listed) -> Entry
+    ensures { λ r. ⌜ r ≡ listedEntry x ⌝ }
+{
+    Entry {
+        first: x.runnable,
+        second: x.element,
+        third: 0,
+        number: 0,
+    }
+}
+
+fn listed_part(e: Entry) -> Listed
+    ensures { λ r. ⌜ r ≡ listedPart e ⌝ }
+{
+    Listed {
+        runnable: e.first,
+        element: e.second,
+    }
+}
+
 // The entry of the part of a kind at place i.
 pub fn entry_of(cfg: Config, tag: u8, i: u8) -> Entry
     ensures { λ r. ⌜ r ≡ entryOf cfg tag i ⌝ }
@@ -346,6 +372,14 @@ pub fn entry_of(cfg: Config, tag: u8, i: u8) -> Entry
         numbers::TAG_RETURN_EVENT => {
             let t = cfg.revents;
             return_event_entry(t.get(i))
+        }
+        numbers::TAG_INCOMING => {
+            let t = cfg.incoming;
+            listed_entry(t.get(i as usize))
+        }
+        numbers::TAG_OUTGOING => {
+            let t = cfg.outgoing;
+            listed_entry(t.get(i as usize))
         }
         _ => Entry::BLANK,
     }
@@ -452,6 +486,26 @@ fn place_return_event(cfg: Config, e: Entry) -> Config
     next
 }
 
+fn place_incoming(cfg: Config, e: Entry) -> Config
+    ensures { λ r. ⌜ r ≡ withIncomingList cfg (addListed (cfg .incoming) (listedPart e)) ⌝ }
+{
+    let t = cfg.incoming;
+    let grown = t.add(listed_part(e));
+    let mut next = cfg;
+    next.incoming = grown;
+    next
+}
+
+fn place_outgoing(cfg: Config, e: Entry) -> Config
+    ensures { λ r. ⌜ r ≡ withOutgoingList cfg (addListed (cfg .outgoing) (listedPart e)) ⌝ }
+{
+    let t = cfg.outgoing;
+    let grown = t.add(listed_part(e));
+    let mut next = cfg;
+    next.outgoing = grown;
+    next
+}
+
 fn place_edition(cfg: Config, e: Entry) -> Config
     ensures { λ r. ⌜ r ≡ withEdition cfg (e .first) ⌝ }
 {
@@ -474,6 +528,8 @@ pub fn placed(cfg: Config, tag: u8, e: Entry) -> Config
         numbers::TAG_TIMER => place_timer(cfg, e),
         numbers::TAG_DATA_EVENT => place_data_event(cfg, e),
         numbers::TAG_RETURN_EVENT => place_return_event(cfg, e),
+        numbers::TAG_INCOMING => place_incoming(cfg, e),
+        numbers::TAG_OUTGOING => place_outgoing(cfg, e),
         numbers::TAG_EDITION => place_edition(cfg, e),
         _ => cfg,
     }
@@ -539,6 +595,23 @@ pub fn in_range(tag: u8, e: Entry) -> bool
     }
 }
 
+// 23: not one too many of its kind, and of listed elements not one too many of its runnable.
+pub fn has_room(cfg: Config, tag: u8, i: u8, e: Entry) -> bool
+    ensures { λ r. ⌜ r ≡ hasRoom cfg tag i e ⌝ }
+{
+    match tag {
+        numbers::TAG_INCOMING => {
+            let t = cfg.incoming;
+            t.below(e.first, i) < Lists::MAX_LISTED
+        }
+        numbers::TAG_OUTGOING => {
+            let t = cfg.outgoing;
+            t.below(e.first, i) < Lists::MAX_LISTED
+        }
+        _ => i < max_of(tag),
+    }
+}
+
 // The first number below one count, the second below another.
 fn pair_there(e: Entry, m: u8, n: u8) -> bool
     ensures { λ r. ⌜ r ≡ both (ltb (e .first) m) (ltb (e .second) n) ⌝ }
@@ -559,6 +632,8 @@ pub fn names_there(cfg: Config, tag: u8, e: Entry) -> bool
         numbers::TAG_TIMER => e.first < cfg.runnables.n,
         numbers::TAG_DATA_EVENT => pair_there(e, cfg.runnables.n, cfg.required.n),
         numbers::TAG_RETURN_EVENT => pair_there(e, cfg.runnables.n, cfg.operations.n),
+        numbers::TAG_INCOMING => pair_there(e, cfg.runnables.n, cfg.required.n),
+        numbers::TAG_OUTGOING => pair_there(e, cfg.runnables.n, cfg.provided.n),
         _ => true,
     }
 }
@@ -662,6 +737,29 @@ fn event_pairs(cfg: Config, tag: u8, i: u8, e: Entry) -> bool
     false
 }
 
+// A plain runnable may list an unqueued element of its own component; x is the element's entry.
+fn lists_well(cfg: Config, r: u8, x: Entry) -> bool
+    ensures { λ b. ⌜ b ≡ listsWell cfg r x ⌝ }
+{
+    let t = cfg.runnables;
+    let own = t.get(r);
+    if is_plain(cfg, r) {
+        if x.first == own.component {
+            return x.second == 0;
+        }
+    }
+    false
+}
+
+fn listed_pairs(cfg: Config, tag: u8, i: u8, e: Entry, x: Entry) -> bool
+    ensures { λ r. ⌜ r ≡ both (listsWell cfg (e .first) x) (risesAt cfg tag i e) ⌝ }
+{
+    if lists_well(cfg, e.first, x) {
+        return rises_at(cfg, tag, i, e);
+    }
+    false
+}
+
 // 26: no bad pairing.
 pub fn pairs_well(cfg: Config, tag: u8, i: u8, e: Entry) -> bool
     ensures { λ r. ⌜ r ≡ pairsWell cfg tag i e ⌝ }
@@ -674,6 +772,20 @@ pub fn pairs_well(cfg: Config, tag: u8, i: u8, e: Entry) -> bool
         numbers::TAG_TIMER => is_plain(cfg, e.first),
         numbers::TAG_DATA_EVENT => event_pairs(cfg, tag, i, e),
         numbers::TAG_RETURN_EVENT => event_pairs(cfg, tag, i, e),
+        numbers::TAG_INCOMING => listed_pairs(
+            cfg,
+            tag,
+            i,
+            e,
+            entry_of(cfg, numbers::TAG_REQUIRED, e.second),
+        ),
+        numbers::TAG_OUTGOING => listed_pairs(
+            cfg,
+            tag,
+            i,
+            e,
+            entry_of(cfg, numbers::TAG_PROVIDED, e.second),
+        ),
         _ => true,
     }
 }
@@ -682,19 +794,22 @@ pub fn pairs_well(cfg: Config, tag: u8, i: u8, e: Entry) -> bool
 pub fn entry_fault(cfg: Config, tag: u8, i: u8, e: Entry) -> u8
     ensures { λ r. ⌜ r ≡ entryFault cfg tag i e ⌝ }
 {
-    if i < max_of(tag) {
-        if in_range(tag, e) {
-            if names_there(cfg, tag, e) {
-                if pairs_well(cfg, tag, i, e) {
-                    return 0;
+    if config::has_field(cfg.edition, tag) {
+        if has_room(cfg, tag, i, e) {
+            if in_range(tag, e) {
+                if names_there(cfg, tag, e) {
+                    if pairs_well(cfg, tag, i, e) {
+                        return 0;
+                    }
+                    return numbers::BAD_PAIR;
                 }
-                return numbers::BAD_PAIR;
+                return numbers::NAMES_NOTHING;
             }
-            return numbers::NAMES_NOTHING;
+            return numbers::OUT_OF_RANGE;
         }
-        return numbers::OUT_OF_RANGE;
+        return numbers::TOO_MANY;
     }
-    numbers::TOO_MANY
+    numbers::BAD_FRAME
 }
 
 pub fn is_no_entry(e: Entry) -> bool
@@ -739,12 +854,12 @@ pub fn kind_sound(cfg: Config, tag: u8) -> bool
     true
 }
 
-// Every place of all ten kinds.
+// Every place of all kinds.
 fn parts_sound(cfg: Config) -> bool
     ensures { λ r. ⌜ r ≡ partsSound cfg ⌝ }
 {
     let mut j: u8 = 0;
-    while j < 10 {
+    while j < numbers::PART_KINDS {
         if kind_sound(cfg, numbers::TAG_RUNNABLE + j) {
             j = j + 1;
         } else {
@@ -754,7 +869,7 @@ fn parts_sound(cfg: Config) -> bool
     true
 }
 
-// 1, of a configuration: its edition, and every place of all ten kinds.
+// 1, of a configuration: its edition, and every place of all kinds.
 pub fn config_sound(cfg: Config) -> bool
     ensures { λ r. ⌜ r ≡ configSound cfg ⌝ }
 {

@@ -5,22 +5,23 @@ use mathlib.Core.Bool.{Bool, true, false}
 use mathlib.Core.List.{List, [], _∷_, map}
 use mathlib.Core.Path.{_≡_, refl}
 use lib.ListN.{replicate, set}
+use Rattle.config.specs.Lists.{firstListed, listedBelow, listsAt}
 use Rattle.laws.specs.Choice.{allOf}
 use Rattle.laws.specs.Loop.{allBelow, anyBelow, sumBelow, firstBelow}
 use Rattle.laws.specs.Row.{eachBelow, shifted, placeFilled, filled}
 use Rattle.values.specs.Values.{isVoid, isPayload, isKind, isMask, isGood, sameValue, voidV, numberV, okV, timeoutV, neverReceivedV, invalidV, serverErrV}
-use Rattle.config.specs.Editions.{firstEdition, isEdition, marksInvalid}
-use Rattle.config.specs.Tables.{runnableConfIn, addRunnableConf, variableConfIn, addVariableConf, areaConfIn, addAreaConf, requiredConfIn, addRequiredConf, providedConfIn, addProvidedConf, linkIn, addLink, operationConfIn, addOperationConf, timerConfIn, addTimerConf, dataEventIn, addDataEvent, returnEventIn, addReturnEvent, noConfig, noRunnableConf, noAreaConf, noRequiredConf, noOperationConf, noVariableConfs, noProvidedConfs, noLinks, noTimerConfs, noDataEvents, noReturnEvents, topOf}
-use Rattle.state.specs.Parts.{noRequests, noRunnable, noValues, noElement, noStack, noSlot, noClient, noOwed, noVariable, noArea, noOperation, noTimer, noAwaited}
-use Rattle.state.specs.Tables.{withRunnables, withVariables, withAreas, withElements, withOperations, withTimers, withSlots, noRunnables, runnableIn, withRunnable, noVariables, variableIn, withVariable, noAreas, areaIn, withArea, noElements, elementIn, withElement, noOperations, operationIn, withOperation, noTimers, timerIn, withTimer, noSlots, slotIn, withSlot}
+use Rattle.config.specs.Editions.{firstEdition, isEdition, marksInvalid, hasField, listsElements}
+use Rattle.config.specs.Tables.{runnableConfIn, addRunnableConf, variableConfIn, addVariableConf, areaConfIn, addAreaConf, requiredConfIn, addRequiredConf, providedConfIn, addProvidedConf, linkIn, addLink, operationConfIn, addOperationConf, timerConfIn, addTimerConf, dataEventIn, addDataEvent, returnEventIn, addReturnEvent, noConfig, noRunnableConf, noAreaConf, noRequiredConf, noOperationConf, noVariableConfs, noProvidedConfs, noLinks, noTimerConfs, noDataEvents, noReturnEvents, noLists, topOf, addListed, listedIn, noListed}
+use Rattle.state.specs.Parts.{noRequests, noRunnable, noValues, noElement, noStack, noSlot, noClient, noOwed, noVariable, noArea, noOperation, noTimer, noAwaited, noCopies}
+use Rattle.state.specs.Tables.{withRunnables, withVariables, withAreas, withElements, withOperations, withTimers, withSlots, noRunnables, runnableIn, withRunnable, noVariables, variableIn, withVariable, noAreas, areaIn, withArea, noElements, elementIn, withElement, noOperations, operationIn, withOperation, noTimers, timerIn, withTimer, noSlots, slotIn, withSlot, copiesIn, copyIn, noCopied, withCopies, withCopy, withIncoming, withOutgoing}
 use Rattle.state.specs.Fields.{withPending}
 use Rattle.state.specs.Queues.{pushRequest, firstRequest, restRequests, pushValue, firstValue, restValues, pushArea, topArea, popArea}
 use Rattle.state.specs.Start.{startVariable, startElement, startRunnables, startVariables, startElements, startOf}
-use Rattle.entries.specs.Entries.{maxOf, countOf, placesOf, entryOf, placed, withEdition, withRequiredConfs}
-use Rattle.entries.specs.Faults.{inRange, namesThere, isServer, isQueued, rises, risesAt, pairsWell, entryFault, isNoEntry, placeSound, kindSound, configSound, partsSound}
-use Rattle.rules.specs.Sound.{isNoClient, clientFits, requestsSound, valuesSound, runnableSound, variableSound, isStored, elementSound, isOutcome, callingSound, doneSound, operationSound, timerSound, waitsWell, lifeSound, owedSound, areaFits, stackSound, isNoSlot, slotSound, ofRunnable, slotsOf, countSound, timesIn, holders, areaSound, isClient, queuedAs, servedAs, clientsAs, clientSound, queuedSound, servedSound, calledSound, waitsOn, waitersOf, waiterSound, runnablesSound, variablesSound, elementsSound, operationsSound, timersSound, slotsSound, countsSound, areasSound, clientsSound, waitersSound, shaped, soundOf, mostPending, isNoAwaited, awaitsWell, isNoLife, isNoOwed, isNoStack, heldWell}
+use Rattle.entries.specs.Entries.{maxOf, countOf, placesOf, entryOf, placed, withEdition, withRequiredConfs, withIncomingList}
+use Rattle.entries.specs.Faults.{inRange, namesThere, isServer, isQueued, rises, risesAt, pairsWell, entryFault, isNoEntry, placeSound, kindSound, configSound, partsSound, hasRoom, listsWell}
+use Rattle.rules.specs.Sound.{isNoClient, clientFits, requestsSound, valuesSound, runnableSound, variableSound, isStored, elementSound, isOutcome, callingSound, doneSound, operationSound, timerSound, waitsWell, lifeSound, owedSound, areaFits, stackSound, isNoSlot, slotSound, ofRunnable, slotsOf, countSound, timesIn, holders, areaSound, isClient, queuedAs, servedAs, clientsAs, clientSound, queuedSound, servedSound, calledSound, waitsOn, waitersOf, waiterSound, runnablesSound, variablesSound, elementsSound, operationsSound, timersSound, slotsSound, countsSound, areasSound, clientsSound, waitersSound, shaped, soundOf, mostPending, isNoAwaited, awaitsWell, isNoLife, isNoOwed, isNoStack, heldWell, copiedSound, copiesSound, copySound, hasCopy, isNoCopy}
 use Rattle.effects.specs.Steps.{failing, onOperation, awaiting, onElement}
-use Rattle.faces.specs.Types.{Value, Config, Client, Requests, Runnables, Elements, Operations, Life, Stack, Slot, Slots, State, Awaited}
+use Rattle.faces.specs.Types.{Value, Config, Client, Requests, Runnables, Elements, Operations, Life, Stack, Slot, Slots, State, Awaited, Copied}
 use Rattle.state.specs.Fields.{withLeft}
 
 -- ---- the configuration: a client and a server component with two runnables each, of which one counts its activations, a synchronous and two asynchronous operations of the one on the other, two areas, a queued element
@@ -53,6 +54,8 @@ configWith timeout = record {
   timers = noTimerConfs;
   devents = noDataEvents;
   revents = noReturnEvents;
+  incoming = noLists;
+  outgoing = noLists;
   edition = firstEdition;
 }
 
@@ -159,6 +162,8 @@ state = record {
   operations = operationsWith 50 3 0;
   timers = noTimers;
   slots = slotsWith first second noSlot;
+  incoming = noCopied;
+  outgoing = noCopied;
 }
 
 -- the clauses of soundness, one beside the other
@@ -176,6 +181,8 @@ clauses cfg st =
     ∷ areasSound cfg (st .areas) (st .slots)
     ∷ clientsSound (st .operations) (st .runnables) (st .slots)
     ∷ waitersSound cfg (st .operations) (st .slots)
+    ∷ copiedSound (cfg .edition) (cfg .incoming) (st .slots) (st .incoming)
+    ∷ copiedSound (cfg .edition) (cfg .outgoing) (st .slots) (st .outgoing)
     ∷ []
 
 -- they are all there are
@@ -184,7 +191,7 @@ unfolding soundOf clauses
 clauses-are cfg st = refl
 
 pub state-sound : soundOf config state ≡ true
-unfolding allOf allBelow anyBelow sumBelow firstBelow eachBelow shifted placeFilled filled isVoid isPayload isKind isMask isGood sameValue runnableConfIn addRunnableConf variableConfIn addVariableConf areaConfIn addAreaConf requiredConfIn addRequiredConf providedConfIn addProvidedConf linkIn addLink operationConfIn addOperationConf timerConfIn addTimerConf dataEventIn addDataEvent returnEventIn addReturnEvent noConfig noRequests noRunnable noValues noElement noStack noSlot noRunnables runnableIn withRunnable noVariables variableIn withVariable noAreas areaIn withArea noElements elementIn withElement noOperations operationIn withOperation noTimers timerIn withTimer noSlots slotIn withSlot pushRequest firstRequest restRequests pushValue firstValue restValues pushArea topArea popArea startVariable startElement startRunnables startVariables startElements startOf maxOf countOf placesOf entryOf placed inRange namesThere isServer isQueued rises risesAt pairsWell entryFault isNoEntry placeSound kindSound configSound isNoClient clientFits requestsSound valuesSound runnableSound variableSound isStored elementSound isOutcome callingSound doneSound operationSound timerSound waitsWell lifeSound owedSound areaFits stackSound isNoSlot slotSound ofRunnable slotsOf countSound timesIn holders areaSound isClient queuedAs servedAs clientsAs clientSound queuedSound servedSound calledSound waitsOn waitersOf waiterSound runnablesSound variablesSound elementsSound operationsSound timersSound slotsSound countsSound areasSound clientsSound waitersSound shaped soundOf configWith config caller nested one served life idle waiter first second slotsWith runnablesWith asked queueOne queueTwo operationsWith doneWith shutWith freeWith elementsWith state isEdition partsSound marksInvalid topOf mostPending isNoAwaited awaitsWell isNoLife isNoOwed isNoStack heldWell awaiter
+unfolding allOf allBelow anyBelow sumBelow firstBelow eachBelow shifted placeFilled filled isVoid isPayload isKind isMask isGood sameValue runnableConfIn addRunnableConf variableConfIn addVariableConf areaConfIn addAreaConf requiredConfIn addRequiredConf providedConfIn addProvidedConf linkIn addLink operationConfIn addOperationConf timerConfIn addTimerConf dataEventIn addDataEvent returnEventIn addReturnEvent noConfig noRequests noRunnable noValues noElement noStack noSlot noRunnables runnableIn withRunnable noVariables variableIn withVariable noAreas areaIn withArea noElements elementIn withElement noOperations operationIn withOperation noTimers timerIn withTimer noSlots slotIn withSlot pushRequest firstRequest restRequests pushValue firstValue restValues pushArea topArea popArea startVariable startElement startRunnables startVariables startElements startOf maxOf countOf placesOf entryOf placed inRange namesThere isServer isQueued rises risesAt pairsWell entryFault isNoEntry placeSound kindSound configSound isNoClient clientFits requestsSound valuesSound runnableSound variableSound isStored elementSound isOutcome callingSound doneSound operationSound timerSound waitsWell lifeSound owedSound areaFits stackSound isNoSlot slotSound ofRunnable slotsOf countSound timesIn holders areaSound isClient queuedAs servedAs clientsAs clientSound queuedSound servedSound calledSound waitsOn waitersOf waiterSound runnablesSound variablesSound elementsSound operationsSound timersSound slotsSound countsSound areasSound clientsSound waitersSound shaped soundOf configWith config caller nested one served life idle waiter first second slotsWith runnablesWith asked queueOne queueTwo operationsWith doneWith shutWith freeWith elementsWith state isEdition partsSound marksInvalid topOf mostPending isNoAwaited awaitsWell isNoLife isNoOwed isNoStack heldWell awaiter hasRoom listsWell hasField listsElements listedBelow listedIn addListed copiedSound copiesSound copySound hasCopy isNoCopy copiesIn copyIn listsAt firstListed noCopied noCopies withCopies withCopy
 state-sound = refl
 
 -- ---- near it, and unsound for one clause alone
@@ -195,9 +202,9 @@ pub record Near : Type 0 where
   pub state : State
   pub fails : ℕ
 
--- all twelve hold but one
+-- all fourteen hold but one
 pub allBut : ℕ → List Bool
-allBut k = set (replicate 12 true) k false
+allBut k = set (replicate 14 true) k false
 
 -- an operation has no time: the configuration is at fault
 unconfigured : Near
@@ -217,6 +224,27 @@ editionThree = record { config = editioned 3; state = holding neverReceivedV; fa
 -- an element is marked invalid under edition 2
 markedSecond : Near
 markedSecond = record { config = editioned 2; state = holding invalidV; fails = 4 }
+
+-- the same configuration with a list: the runnable 0 copies the unqueued element; and the state with a copy in a slot
+pub listing : ℕ → Config
+listing e = withIncomingList (editioned e) (record { n = 1; at = set (replicate 64 noListed) 0 (record { runnable = 0; element = 1 }) })
+
+pub copied : ℕ → Value → Copied
+copied i v = withCopies noCopied i (withCopy noCopies 0 v)
+
+-- a list under edition 1
+listedFirst : Near
+listedFirst = record { config = listing 1; state = holding neverReceivedV; fails = 0 }
+
+-- a copy in an empty slot, one to be written where nothing is listed, and one that holds what no element may
+copyEmpty : Near
+copyEmpty = record { config = listing 2; state = withIncoming (holding neverReceivedV) (copied 5 (numberV 1)); fails = 12 }
+
+copyUnlisted : Near
+copyUnlisted = record { config = listing 2; state = withOutgoing (holding neverReceivedV) (copied 0 voidV); fails = 13 }
+
+copyOk : Near
+copyOk = record { config = listing 2; state = withIncoming (holding neverReceivedV) (copied 0 okV); fails = 12 }
 
 -- there is a slot too many
 slotsMore : Near
@@ -401,11 +429,15 @@ near =
     ∷ waitersTwo
     ∷ pastTwice
     ∷ apartTwice
+    ∷ listedFirst
+    ∷ copyEmpty
+    ∷ copyUnlisted
+    ∷ copyOk
     ∷ []
 
 -- of each, the clauses hold as it says: all but one
 pub near-unsound : map (λ (x : Near). clauses (x .config) (x .state)) near ≡ map (λ (x : Near). allBut (x .fails)) near
-unfolding allOf allBelow anyBelow sumBelow firstBelow eachBelow shifted placeFilled filled isVoid isPayload isKind isMask isGood sameValue runnableConfIn addRunnableConf variableConfIn addVariableConf areaConfIn addAreaConf requiredConfIn addRequiredConf providedConfIn addProvidedConf linkIn addLink operationConfIn addOperationConf timerConfIn addTimerConf dataEventIn addDataEvent returnEventIn addReturnEvent noConfig noRequests noRunnable noValues noElement noStack noSlot noRunnables runnableIn withRunnable noVariables variableIn withVariable noAreas areaIn withArea noElements elementIn withElement noOperations operationIn withOperation noTimers timerIn withTimer noSlots slotIn withSlot pushRequest firstRequest restRequests pushValue firstValue restValues pushArea topArea popArea startVariable startElement startRunnables startVariables startElements startOf maxOf countOf placesOf entryOf placed inRange namesThere isServer isQueued rises risesAt pairsWell entryFault isNoEntry placeSound kindSound configSound isNoClient clientFits requestsSound valuesSound runnableSound variableSound isStored elementSound isOutcome callingSound doneSound operationSound timerSound waitsWell lifeSound owedSound areaFits stackSound isNoSlot slotSound ofRunnable slotsOf countSound timesIn holders areaSound isClient queuedAs servedAs clientsAs clientSound queuedSound servedSound calledSound waitsOn waitersOf waiterSound runnablesSound variablesSound elementsSound operationsSound timersSound slotsSound countsSound areasSound clientsSound waitersSound shaped soundOf configWith config caller nested one served life idle waiter first second slotsWith runnablesWith asked queueOne queueTwo operationsWith doneWith shutWith freeWith elementsWith state clauses near allBut unconfigured slotsMore serverPending twiceWithout otherServer variableUnused queueLong queueOk behindQueue countAbove errNumbered timerUnused waitsAsync waitsForeign owesFinished finishedPlain foreignArea emptyUsed emptyFailed noInstance heldFree heldTwice callAlone callAhead clientTwice pastTwice apartTwice callUnbound waitersTwo isEdition partsSound marksInvalid editioned holding editionThree markedSecond topOf mostPending pendingWith twicePending pastTop isNoAwaited awaitsWell isNoLife isNoOwed isNoStack heldWell awaiter besides heldNowhere heldForeign heldLong idleCounts callerCounts
+unfolding allOf allBelow anyBelow sumBelow firstBelow eachBelow shifted placeFilled filled isVoid isPayload isKind isMask isGood sameValue runnableConfIn addRunnableConf variableConfIn addVariableConf areaConfIn addAreaConf requiredConfIn addRequiredConf providedConfIn addProvidedConf linkIn addLink operationConfIn addOperationConf timerConfIn addTimerConf dataEventIn addDataEvent returnEventIn addReturnEvent noConfig noRequests noRunnable noValues noElement noStack noSlot noRunnables runnableIn withRunnable noVariables variableIn withVariable noAreas areaIn withArea noElements elementIn withElement noOperations operationIn withOperation noTimers timerIn withTimer noSlots slotIn withSlot pushRequest firstRequest restRequests pushValue firstValue restValues pushArea topArea popArea startVariable startElement startRunnables startVariables startElements startOf maxOf countOf placesOf entryOf placed inRange namesThere isServer isQueued rises risesAt pairsWell entryFault isNoEntry placeSound kindSound configSound isNoClient clientFits requestsSound valuesSound runnableSound variableSound isStored elementSound isOutcome callingSound doneSound operationSound timerSound waitsWell lifeSound owedSound areaFits stackSound isNoSlot slotSound ofRunnable slotsOf countSound timesIn holders areaSound isClient queuedAs servedAs clientsAs clientSound queuedSound servedSound calledSound waitsOn waitersOf waiterSound runnablesSound variablesSound elementsSound operationsSound timersSound slotsSound countsSound areasSound clientsSound waitersSound shaped soundOf configWith config caller nested one served life idle waiter first second slotsWith runnablesWith asked queueOne queueTwo operationsWith doneWith shutWith freeWith elementsWith state clauses near allBut unconfigured slotsMore serverPending twiceWithout otherServer variableUnused queueLong queueOk behindQueue countAbove errNumbered timerUnused waitsAsync waitsForeign owesFinished finishedPlain foreignArea emptyUsed emptyFailed noInstance heldFree heldTwice callAlone callAhead clientTwice pastTwice apartTwice callUnbound waitersTwo isEdition partsSound marksInvalid editioned holding editionThree markedSecond topOf mostPending pendingWith twicePending pastTop isNoAwaited awaitsWell isNoLife isNoOwed isNoStack heldWell awaiter besides heldNowhere heldForeign heldLong idleCounts callerCounts hasRoom listsWell hasField listsElements listedBelow listedIn addListed copiedSound copiesSound copySound hasCopy isNoCopy copiesIn copyIn listsAt firstListed noCopied noCopies withCopies withCopy listing copied listedFirst copyEmpty copyUnlisted copyOk
 near-unsound = refl
 
 -- ---- near it, and sound
@@ -429,10 +461,15 @@ soundToo =
     ∷ []
 
 pub near-sound : map (λ (x : State). soundOf config x) soundToo ≡ true ∷ true ∷ true ∷ true ∷ true ∷ true ∷ true ∷ true ∷ true ∷ true ∷ true ∷ []
-unfolding allOf allBelow anyBelow sumBelow firstBelow eachBelow shifted placeFilled filled isVoid isPayload isKind isMask isGood sameValue runnableConfIn addRunnableConf variableConfIn addVariableConf areaConfIn addAreaConf requiredConfIn addRequiredConf providedConfIn addProvidedConf linkIn addLink operationConfIn addOperationConf timerConfIn addTimerConf dataEventIn addDataEvent returnEventIn addReturnEvent noConfig noRequests noRunnable noValues noElement noStack noSlot noRunnables runnableIn withRunnable noVariables variableIn withVariable noAreas areaIn withArea noElements elementIn withElement noOperations operationIn withOperation noTimers timerIn withTimer noSlots slotIn withSlot pushRequest firstRequest restRequests pushValue firstValue restValues pushArea topArea popArea startVariable startElement startRunnables startVariables startElements startOf maxOf countOf placesOf entryOf placed inRange namesThere isServer isQueued rises risesAt pairsWell entryFault isNoEntry placeSound kindSound configSound isNoClient clientFits requestsSound valuesSound runnableSound variableSound isStored elementSound isOutcome callingSound doneSound operationSound timerSound waitsWell lifeSound owedSound areaFits stackSound isNoSlot slotSound ofRunnable slotsOf countSound timesIn holders areaSound isClient queuedAs servedAs clientsAs clientSound queuedSound servedSound calledSound waitsOn waitersOf waiterSound runnablesSound variablesSound elementsSound operationsSound timersSound slotsSound countsSound areasSound clientsSound waitersSound shaped soundOf configWith config caller nested one served life idle waiter first second slotsWith runnablesWith asked queueOne queueTwo operationsWith doneWith shutWith freeWith elementsWith state soundToo isEdition partsSound marksInvalid topOf mostPending pendingWith isNoAwaited awaitsWell isNoLife isNoOwed isNoStack heldWell awaiter besides
+unfolding allOf allBelow anyBelow sumBelow firstBelow eachBelow shifted placeFilled filled isVoid isPayload isKind isMask isGood sameValue runnableConfIn addRunnableConf variableConfIn addVariableConf areaConfIn addAreaConf requiredConfIn addRequiredConf providedConfIn addProvidedConf linkIn addLink operationConfIn addOperationConf timerConfIn addTimerConf dataEventIn addDataEvent returnEventIn addReturnEvent noConfig noRequests noRunnable noValues noElement noStack noSlot noRunnables runnableIn withRunnable noVariables variableIn withVariable noAreas areaIn withArea noElements elementIn withElement noOperations operationIn withOperation noTimers timerIn withTimer noSlots slotIn withSlot pushRequest firstRequest restRequests pushValue firstValue restValues pushArea topArea popArea startVariable startElement startRunnables startVariables startElements startOf maxOf countOf placesOf entryOf placed inRange namesThere isServer isQueued rises risesAt pairsWell entryFault isNoEntry placeSound kindSound configSound isNoClient clientFits requestsSound valuesSound runnableSound variableSound isStored elementSound isOutcome callingSound doneSound operationSound timerSound waitsWell lifeSound owedSound areaFits stackSound isNoSlot slotSound ofRunnable slotsOf countSound timesIn holders areaSound isClient queuedAs servedAs clientsAs clientSound queuedSound servedSound calledSound waitsOn waitersOf waiterSound runnablesSound variablesSound elementsSound operationsSound timersSound slotsSound countsSound areasSound clientsSound waitersSound shaped soundOf configWith config caller nested one served life idle waiter first second slotsWith runnablesWith asked queueOne queueTwo operationsWith doneWith shutWith freeWith elementsWith state soundToo isEdition partsSound marksInvalid topOf mostPending pendingWith isNoAwaited awaitsWell isNoLife isNoOwed isNoStack heldWell awaiter besides hasRoom listsWell hasField listsElements listedBelow listedIn addListed copiedSound copiesSound copySound hasCopy isNoCopy copiesIn copyIn listsAt firstListed noCopied noCopies withCopies withCopy
 near-sound = refl
 
 -- Invalid is kept soundly under edition 1, NeverReceived under both
 pub editions-sound : soundOf (editioned 1) (holding invalidV) ∷ soundOf (editioned 1) (holding neverReceivedV) ∷ soundOf (editioned 2) (holding neverReceivedV) ∷ [] ≡ true ∷ true ∷ true ∷ []
-unfolding allOf allBelow anyBelow sumBelow firstBelow eachBelow shifted placeFilled filled isVoid isPayload isKind isMask isGood sameValue runnableConfIn addRunnableConf variableConfIn addVariableConf areaConfIn addAreaConf requiredConfIn addRequiredConf providedConfIn addProvidedConf linkIn addLink operationConfIn addOperationConf timerConfIn addTimerConf dataEventIn addDataEvent returnEventIn addReturnEvent noConfig noRequests noRunnable noValues noElement noStack noSlot noRunnables runnableIn withRunnable noVariables variableIn withVariable noAreas areaIn withArea noElements elementIn withElement noOperations operationIn withOperation noTimers timerIn withTimer noSlots slotIn withSlot pushRequest firstRequest restRequests pushValue firstValue restValues pushArea topArea popArea startVariable startElement startRunnables startVariables startElements startOf maxOf countOf placesOf entryOf placed inRange namesThere isServer isQueued rises risesAt pairsWell entryFault isNoEntry placeSound kindSound configSound isNoClient clientFits requestsSound valuesSound runnableSound variableSound isStored elementSound isOutcome callingSound doneSound operationSound timerSound waitsWell lifeSound owedSound areaFits stackSound isNoSlot slotSound ofRunnable slotsOf countSound timesIn holders areaSound isClient queuedAs servedAs clientsAs clientSound queuedSound servedSound calledSound waitsOn waitersOf waiterSound runnablesSound variablesSound elementsSound operationsSound timersSound slotsSound countsSound areasSound clientsSound waitersSound shaped soundOf configWith config caller nested one served life idle waiter first second slotsWith runnablesWith asked queueOne queueTwo operationsWith doneWith shutWith freeWith elementsWith state soundToo isEdition partsSound marksInvalid editioned holding topOf mostPending isNoAwaited awaitsWell isNoLife isNoOwed isNoStack heldWell
+unfolding allOf allBelow anyBelow sumBelow firstBelow eachBelow shifted placeFilled filled isVoid isPayload isKind isMask isGood sameValue runnableConfIn addRunnableConf variableConfIn addVariableConf areaConfIn addAreaConf requiredConfIn addRequiredConf providedConfIn addProvidedConf linkIn addLink operationConfIn addOperationConf timerConfIn addTimerConf dataEventIn addDataEvent returnEventIn addReturnEvent noConfig noRequests noRunnable noValues noElement noStack noSlot noRunnables runnableIn withRunnable noVariables variableIn withVariable noAreas areaIn withArea noElements elementIn withElement noOperations operationIn withOperation noTimers timerIn withTimer noSlots slotIn withSlot pushRequest firstRequest restRequests pushValue firstValue restValues pushArea topArea popArea startVariable startElement startRunnables startVariables startElements startOf maxOf countOf placesOf entryOf placed inRange namesThere isServer isQueued rises risesAt pairsWell entryFault isNoEntry placeSound kindSound configSound isNoClient clientFits requestsSound valuesSound runnableSound variableSound isStored elementSound isOutcome callingSound doneSound operationSound timerSound waitsWell lifeSound owedSound areaFits stackSound isNoSlot slotSound ofRunnable slotsOf countSound timesIn holders areaSound isClient queuedAs servedAs clientsAs clientSound queuedSound servedSound calledSound waitsOn waitersOf waiterSound runnablesSound variablesSound elementsSound operationsSound timersSound slotsSound countsSound areasSound clientsSound waitersSound shaped soundOf configWith config caller nested one served life idle waiter first second slotsWith runnablesWith asked queueOne queueTwo operationsWith doneWith shutWith freeWith elementsWith state soundToo isEdition partsSound marksInvalid editioned holding topOf mostPending isNoAwaited awaitsWell isNoLife isNoOwed isNoStack heldWell hasRoom listsWell hasField listsElements listedBelow listedIn addListed copiedSound copiesSound copySound hasCopy isNoCopy copiesIn copyIn listsAt firstListed noCopied noCopies withCopies withCopy listing copied
 editions-sound = refl
+
+-- an instance has copied a Number, or nothing yet
+pub copies-sound : soundOf (listing 2) (withIncoming (holding neverReceivedV) (copied 0 (numberV 5))) ∷ soundOf (listing 2) (holding neverReceivedV) ∷ [] ≡ true ∷ true ∷ []
+unfolding allOf allBelow anyBelow sumBelow firstBelow eachBelow shifted placeFilled filled isVoid isPayload isKind isMask isGood sameValue runnableConfIn addRunnableConf variableConfIn addVariableConf areaConfIn addAreaConf requiredConfIn addRequiredConf providedConfIn addProvidedConf linkIn addLink operationConfIn addOperationConf timerConfIn addTimerConf dataEventIn addDataEvent returnEventIn addReturnEvent noConfig noRequests noRunnable noValues noElement noStack noSlot noRunnables runnableIn withRunnable noVariables variableIn withVariable noAreas areaIn withArea noElements elementIn withElement noOperations operationIn withOperation noTimers timerIn withTimer noSlots slotIn withSlot pushRequest firstRequest restRequests pushValue firstValue restValues pushArea topArea popArea startVariable startElement startRunnables startVariables startElements startOf maxOf countOf placesOf entryOf placed inRange namesThere isServer isQueued rises risesAt pairsWell entryFault isNoEntry placeSound kindSound configSound isNoClient clientFits requestsSound valuesSound runnableSound variableSound isStored elementSound isOutcome callingSound doneSound operationSound timerSound waitsWell lifeSound owedSound areaFits stackSound isNoSlot slotSound ofRunnable slotsOf countSound timesIn holders areaSound isClient queuedAs servedAs clientsAs clientSound queuedSound servedSound calledSound waitsOn waitersOf waiterSound runnablesSound variablesSound elementsSound operationsSound timersSound slotsSound countsSound areasSound clientsSound waitersSound shaped soundOf configWith config caller nested one served life idle waiter first second slotsWith runnablesWith asked queueOne queueTwo operationsWith doneWith shutWith freeWith elementsWith state soundToo isEdition partsSound marksInvalid editioned holding topOf mostPending isNoAwaited awaitsWell isNoLife isNoOwed isNoStack heldWell hasRoom listsWell hasField listsElements listedBelow listedIn addListed copiedSound copiesSound copySound hasCopy isNoCopy copiesIn copyIn listsAt firstListed noCopied noCopies withCopies withCopy listing copied
+copies-sound = refl

@@ -6,27 +6,28 @@ use mathlib.Core.Bool.{false}
 use mathlib.Core.List.{List, [], _∷_, _++_, map}
 use mathlib.Core.Path.{_≡_, refl}
 use lib.ListN.{take, set, replicate}
+use Rattle.config.specs.Lists.{firstListed, listedBelow, listsAt}
 use Rattle.laws.specs.Choice.{allOf}
 use Rattle.laws.specs.Loop.{allBelow, anyBelow, sumBelow, firstBelow}
 use Rattle.laws.specs.Mask.{maskBelow}
 use Rattle.laws.specs.Row.{eachBelow, shifted, placeFilled, filled}
 use Rattle.values.specs.Values.{isVoid, isPayload, isKind, isMask, isGood, sameValue, numberV}
-use Rattle.config.specs.Editions.{isEdition, marksInvalid, hasStep}
-use Rattle.config.specs.Tables.{runnableConfIn, addRunnableConf, variableConfIn, addVariableConf, areaConfIn, addAreaConf, requiredConfIn, addRequiredConf, providedConfIn, addProvidedConf, linkIn, addLink, operationConfIn, addOperationConf, timerConfIn, addTimerConf, dataEventIn, addDataEvent, returnEventIn, addReturnEvent, noConfig, topOf}
-use Rattle.state.specs.Parts.{noRequests, noRunnable, noValues, noElement, noStack, noSlot}
-use Rattle.state.specs.Tables.{noRunnables, runnableIn, withRunnable, noVariables, variableIn, withVariable, noAreas, areaIn, withArea, noElements, elementIn, withElement, noOperations, operationIn, withOperation, noTimers, timerIn, withTimer, noSlots, slotIn, withSlot}
+use Rattle.config.specs.Editions.{isEdition, marksInvalid, hasStep, hasField, listsElements}
+use Rattle.config.specs.Tables.{runnableConfIn, addRunnableConf, variableConfIn, addVariableConf, areaConfIn, addAreaConf, requiredConfIn, addRequiredConf, providedConfIn, addProvidedConf, linkIn, addLink, operationConfIn, addOperationConf, timerConfIn, addTimerConf, dataEventIn, addDataEvent, returnEventIn, addReturnEvent, noConfig, topOf, addListed, listedIn}
+use Rattle.state.specs.Parts.{noRequests, noRunnable, noValues, noElement, noStack, noSlot, noCopies}
+use Rattle.state.specs.Tables.{noRunnables, runnableIn, withRunnable, noVariables, variableIn, withVariable, noAreas, areaIn, withArea, noElements, elementIn, withElement, noOperations, operationIn, withOperation, noTimers, timerIn, withTimer, noSlots, slotIn, withSlot, copiesIn, copyIn, noCopied}
 use Rattle.state.specs.Queues.{pushRequest, firstRequest, restRequests, pushValue, firstValue, restValues, pushArea, topArea, popArea}
 use Rattle.state.specs.Start.{startVariable, startElement, startRunnables, startVariables, startElements, startOf}
 use Rattle.entries.specs.Entries.{maxOf, countOf, placesOf, entryOf, placed}
-use Rattle.entries.specs.Faults.{inRange, namesThere, isServer, isQueued, rises, risesAt, pairsWell, entryFault, isNoEntry, placeSound, kindSound, configSound, partsSound}
-use Rattle.rules.specs.Sound.{isNoClient, clientFits, requestsSound, valuesSound, runnableSound, variableSound, isStored, elementSound, isOutcome, callingSound, doneSound, operationSound, timerSound, waitsWell, lifeSound, owedSound, areaFits, stackSound, isNoSlot, slotSound, ofRunnable, slotsOf, countSound, timesIn, holders, areaSound, isClient, queuedAs, servedAs, clientsAs, clientSound, queuedSound, servedSound, calledSound, waitsOn, waitersOf, waiterSound, runnablesSound, variablesSound, elementsSound, operationsSound, timersSound, slotsSound, countsSound, areasSound, clientsSound, waitersSound, shaped, soundOf, mostPending, isNoAwaited, awaitsWell, isNoLife, isNoOwed, isNoStack, heldWell}
+use Rattle.entries.specs.Faults.{inRange, namesThere, isServer, isQueued, rises, risesAt, pairsWell, entryFault, isNoEntry, placeSound, kindSound, configSound, partsSound, hasRoom, listsWell}
+use Rattle.rules.specs.Sound.{isNoClient, clientFits, requestsSound, valuesSound, runnableSound, variableSound, isStored, elementSound, isOutcome, callingSound, doneSound, operationSound, timerSound, waitsWell, lifeSound, owedSound, areaFits, stackSound, isNoSlot, slotSound, ofRunnable, slotsOf, countSound, timesIn, holders, areaSound, isClient, queuedAs, servedAs, clientsAs, clientSound, queuedSound, servedSound, calledSound, waitsOn, waitersOf, waiterSound, runnablesSound, variablesSound, elementsSound, operationsSound, timersSound, slotsSound, countsSound, areasSound, clientsSound, waitersSound, shaped, soundOf, mostPending, isNoAwaited, awaitsWell, isNoLife, isNoOwed, isNoStack, heldWell, copiedSound, copiesSound, copySound, hasCopy, isNoCopy}
 use Rattle.rules.specs.Rows.{rows, rowOf}
-use Rattle.rules.specs.Refusals.{argues, formed, partThere, queuesAs, partOwn, asksSynchronous, finishedLets, failedLets, lifeLets, ownedRefusal, instanceRefusal, schedulerRefusal, refusalBy, refusalOf, endsWaiting, waitingLets, asksWaiting}
-use Rattle.effects.specs.Steps.{oneMore, readVariableOf, writeVariableOf, enterOf, onTop, exitOf, readOf, updatedOf, linked, accepts, fedElement, fedElements, feeds, isFed, fedRunnables, fed, writeOf, invalidateOf, isFull, fullMask, sentOf, sendOf, receiveOf, requestsFull, callerAfter, called, callOf, pollOf, collectOf, resultOf, closing, returns, isReturned, returnedRunnables, closed, answers, handBackOf, timeoutOf, endOf, isDue, maySpawn, starting, instanceOf, isEmptyAt, lowestEmpty, foundEmpty, spawned, spawnOf, tickOf, operationLets, timerLets, operationsLet, timersLet, operationAfter, operationsAfter, timersAfter, runnablesAfter, allLet, waited, waitOf, failOf, slotLets, slotsLet, slotsAfter, holdOf, giveUpOf}
+use Rattle.rules.specs.Refusals.{argues, formed, partThere, queuesAs, partOwn, asksSynchronous, finishedLets, failedLets, lifeLets, ownedRefusal, instanceRefusal, schedulerRefusal, refusalBy, refusalOf, endsWaiting, waitingLets, asksWaiting, listedThere, listsOf, namedThere}
+use Rattle.effects.specs.Steps.{oneMore, readVariableOf, writeVariableOf, enterOf, onTop, exitOf, readOf, updatedOf, linked, accepts, fedElement, fedElements, feeds, isFed, fedRunnables, fed, writeOf, invalidateOf, isFull, fullMask, sentOf, sendOf, receiveOf, requestsFull, callerAfter, called, callOf, pollOf, collectOf, resultOf, closing, returns, isReturned, returnedRunnables, closed, answers, handBackOf, timeoutOf, endOf, isDue, maySpawn, starting, instanceOf, isEmptyAt, lowestEmpty, foundEmpty, spawned, spawnOf, tickOf, operationLets, timerLets, operationsLet, timersLet, operationAfter, operationsAfter, timersAfter, runnablesAfter, allLet, waited, waitOf, failOf, slotLets, slotsLet, slotsAfter, holdOf, giveUpOf, cleared, copiedElements, copiedInto, handedElements, handedRunnables}
 use Rattle.effects.specs.Step.{actOf, possibleOf, agrees, claimedOf, innerOf, stepOf}
 use Rattle.recording.specs.Whole.{wholeFrom, wholeOf, stepsIn}
 use Rattle.recording.specs.Recording.{valuesGood, tested, stepIn, endIn, fieldOf}
-use Rattle.reading.specs.Reading.{sizeOf, entryRead, inOrder, headOf, bodyFault, refusedAt, readFrom, configOf}
+use Rattle.reading.specs.Reading.{sizeOf, entryRead, inOrder, headOf, bodyFault, refusedAt, readFrom, configOf, sizeIn}
 use Rattle.judging.specs.Judging.{judgeFrom, judgeOf, restOf}
 use Rattle.judging.specs.Line.{judgedLine, readLine, lineOf}
 use Rattle.judging.specs.declared.Line.{Line}
@@ -320,7 +321,7 @@ pub table : List Row
 table = late ∷ falseClaim ∷ waitTooLong ∷ inTime ∷ noCall ∷ callTwice ∷ exitBelow ∷ sendThird ∷ []
 
 pub late-plans : map (λ (x : Row). lineOf (x .config) (x .recording)) table ≡ map (λ (x : Row). x .line) table
-unfolding allOf allBelow anyBelow sumBelow maskBelow firstBelow eachBelow shifted placeFilled filled isVoid isPayload isKind isMask isGood sameValue runnableConfIn addRunnableConf variableConfIn addVariableConf areaConfIn addAreaConf requiredConfIn addRequiredConf providedConfIn addProvidedConf linkIn addLink operationConfIn addOperationConf timerConfIn addTimerConf dataEventIn addDataEvent returnEventIn addReturnEvent noConfig noRequests noRunnable noValues noElement noStack noSlot noRunnables runnableIn withRunnable noVariables variableIn withVariable noAreas areaIn withArea noElements elementIn withElement noOperations operationIn withOperation noTimers timerIn withTimer noSlots slotIn withSlot pushRequest firstRequest restRequests pushValue firstValue restValues pushArea topArea popArea startVariable startElement startRunnables startVariables startElements startOf maxOf countOf placesOf entryOf placed inRange namesThere isServer isQueued rises risesAt pairsWell entryFault isNoEntry placeSound kindSound configSound isNoClient clientFits requestsSound valuesSound runnableSound variableSound isStored elementSound isOutcome callingSound doneSound operationSound timerSound waitsWell lifeSound owedSound areaFits stackSound isNoSlot slotSound ofRunnable slotsOf countSound timesIn holders areaSound isClient queuedAs servedAs clientsAs clientSound queuedSound servedSound calledSound waitsOn waitersOf waiterSound runnablesSound variablesSound elementsSound operationsSound timersSound slotsSound countsSound areasSound clientsSound waitersSound shaped soundOf rows rowOf argues formed partThere queuesAs partOwn asksSynchronous finishedLets failedLets lifeLets ownedRefusal instanceRefusal schedulerRefusal refusalBy refusalOf readVariableOf writeVariableOf enterOf onTop exitOf readOf updatedOf linked accepts fedElement fedElements feeds isFed fedRunnables fed writeOf invalidateOf isFull fullMask sentOf sendOf receiveOf requestsFull callerAfter called callOf pollOf collectOf resultOf closing returns isReturned returnedRunnables closed answers handBackOf timeoutOf endOf isDue maySpawn starting instanceOf isEmptyAt lowestEmpty foundEmpty spawned spawnOf tickOf operationLets timerLets operationsLet timersLet operationAfter operationsAfter timersAfter runnablesAfter allLet waited waitOf failOf actOf possibleOf agrees claimedOf innerOf stepOf valuesGood tested stepIn endIn fieldOf sizeOf entryRead inOrder headOf bodyFault refusedAt readFrom configOf judgeFrom judgeOf restOf judgedLine readLine lineOf firstField lastField client server operation area queue sender link spawnClient spawnServer callSeven callAgain waitFifty waitLonger timesOut backLate backInTime askTimeout askNine askVoid enterFirst enterSecond exitFirst sendOne sendTwo sendThree receiveOne receiveTwo receiveNone joined file lateConfig areasConfig queueConfig late falseClaim waitTooLong inTime noCall callTwice exitBelow sendThird table isEdition partsSound hasStep marksInvalid topOf mostPending oneMore isNoAwaited awaitsWell isNoLife isNoOwed isNoStack endsWaiting waitingLets heldWell asksWaiting slotLets slotsLet slotsAfter holdOf giveUpOf wholeFrom wholeOf nothing observe historyFrom historyOf timeOf timeIn
+unfolding allOf allBelow anyBelow sumBelow maskBelow firstBelow eachBelow shifted placeFilled filled isVoid isPayload isKind isMask isGood sameValue runnableConfIn addRunnableConf variableConfIn addVariableConf areaConfIn addAreaConf requiredConfIn addRequiredConf providedConfIn addProvidedConf linkIn addLink operationConfIn addOperationConf timerConfIn addTimerConf dataEventIn addDataEvent returnEventIn addReturnEvent noConfig noRequests noRunnable noValues noElement noStack noSlot noRunnables runnableIn withRunnable noVariables variableIn withVariable noAreas areaIn withArea noElements elementIn withElement noOperations operationIn withOperation noTimers timerIn withTimer noSlots slotIn withSlot pushRequest firstRequest restRequests pushValue firstValue restValues pushArea topArea popArea startVariable startElement startRunnables startVariables startElements startOf maxOf countOf placesOf entryOf placed inRange namesThere isServer isQueued rises risesAt pairsWell entryFault isNoEntry placeSound kindSound configSound isNoClient clientFits requestsSound valuesSound runnableSound variableSound isStored elementSound isOutcome callingSound doneSound operationSound timerSound waitsWell lifeSound owedSound areaFits stackSound isNoSlot slotSound ofRunnable slotsOf countSound timesIn holders areaSound isClient queuedAs servedAs clientsAs clientSound queuedSound servedSound calledSound waitsOn waitersOf waiterSound runnablesSound variablesSound elementsSound operationsSound timersSound slotsSound countsSound areasSound clientsSound waitersSound shaped soundOf rows rowOf argues formed partThere queuesAs partOwn asksSynchronous finishedLets failedLets lifeLets ownedRefusal instanceRefusal schedulerRefusal refusalBy refusalOf readVariableOf writeVariableOf enterOf onTop exitOf readOf updatedOf linked accepts fedElement fedElements feeds isFed fedRunnables fed writeOf invalidateOf isFull fullMask sentOf sendOf receiveOf requestsFull callerAfter called callOf pollOf collectOf resultOf closing returns isReturned returnedRunnables closed answers handBackOf timeoutOf endOf isDue maySpawn starting instanceOf isEmptyAt lowestEmpty foundEmpty spawned spawnOf tickOf operationLets timerLets operationsLet timersLet operationAfter operationsAfter timersAfter runnablesAfter allLet waited waitOf failOf actOf possibleOf agrees claimedOf innerOf stepOf valuesGood tested stepIn endIn fieldOf sizeOf entryRead inOrder headOf bodyFault refusedAt readFrom configOf judgeFrom judgeOf restOf judgedLine readLine lineOf firstField lastField client server operation area queue sender link spawnClient spawnServer callSeven callAgain waitFifty waitLonger timesOut backLate backInTime askTimeout askNine askVoid enterFirst enterSecond exitFirst sendOne sendTwo sendThree receiveOne receiveTwo receiveNone joined file lateConfig areasConfig queueConfig late falseClaim waitTooLong inTime noCall callTwice exitBelow sendThird table isEdition partsSound hasStep marksInvalid topOf mostPending oneMore isNoAwaited awaitsWell isNoLife isNoOwed isNoStack endsWaiting waitingLets heldWell asksWaiting slotLets slotsLet slotsAfter holdOf giveUpOf wholeFrom wholeOf nothing observe historyFrom historyOf timeOf timeIn namedThere listedThere listsOf hasRoom listsWell hasField listsElements listedBelow sizeIn listedIn addListed copiedSound copiesSound copySound hasCopy isNoCopy copiesIn copyIn listsAt firstListed handedElements handedRunnables cleared copiedElements copiedInto noCopied noCopies
 late-plans = refl
 
 -- ---- the calls of two rows, followed
@@ -348,12 +349,12 @@ pub histories : map followed (late ∷ inTime ∷ []) ≡
       endings = record { on = 0; call = 2; at = 4; how = byInstance 2 (numberV 9) } ∷ [];
     }
     ∷ []
-unfolding allOf allBelow anyBelow sumBelow maskBelow firstBelow eachBelow shifted placeFilled filled isVoid isPayload isKind isMask isGood sameValue runnableConfIn addRunnableConf variableConfIn addVariableConf areaConfIn addAreaConf requiredConfIn addRequiredConf providedConfIn addProvidedConf linkIn addLink operationConfIn addOperationConf timerConfIn addTimerConf dataEventIn addDataEvent returnEventIn addReturnEvent noConfig noRequests noRunnable noValues noElement noStack noSlot noRunnables runnableIn withRunnable noVariables variableIn withVariable noAreas areaIn withArea noElements elementIn withElement noOperations operationIn withOperation noTimers timerIn withTimer noSlots slotIn withSlot pushRequest firstRequest restRequests pushValue firstValue restValues pushArea topArea popArea startVariable startElement startRunnables startVariables startElements startOf maxOf countOf placesOf entryOf placed inRange namesThere isServer isQueued rises risesAt pairsWell entryFault isNoEntry placeSound kindSound configSound isNoClient clientFits requestsSound valuesSound runnableSound variableSound isStored elementSound isOutcome callingSound doneSound operationSound timerSound waitsWell lifeSound owedSound areaFits stackSound isNoSlot slotSound ofRunnable slotsOf countSound timesIn holders areaSound isClient queuedAs servedAs clientsAs clientSound queuedSound servedSound calledSound waitsOn waitersOf waiterSound runnablesSound variablesSound elementsSound operationsSound timersSound slotsSound countsSound areasSound clientsSound waitersSound shaped soundOf rows rowOf argues formed partThere queuesAs partOwn asksSynchronous finishedLets failedLets lifeLets ownedRefusal instanceRefusal schedulerRefusal refusalBy refusalOf readVariableOf writeVariableOf enterOf onTop exitOf readOf updatedOf linked accepts fedElement fedElements feeds isFed fedRunnables fed writeOf invalidateOf isFull fullMask sentOf sendOf receiveOf requestsFull callerAfter called callOf pollOf collectOf resultOf closing returns isReturned returnedRunnables closed answers handBackOf timeoutOf endOf isDue maySpawn starting instanceOf isEmptyAt lowestEmpty foundEmpty spawned spawnOf tickOf operationLets timerLets operationsLet timersLet operationAfter operationsAfter timersAfter runnablesAfter allLet waited waitOf failOf actOf possibleOf agrees claimedOf innerOf stepOf valuesGood tested stepIn endIn fieldOf sizeOf entryRead inOrder headOf bodyFault refusedAt readFrom configOf judgeFrom judgeOf restOf judgedLine readLine lineOf firstField lastField client server operation area queue sender link spawnClient spawnServer callSeven callAgain waitFifty waitLonger timesOut backLate backInTime askTimeout askNine askVoid enterFirst enterSecond exitFirst sendOne sendTwo sendThree receiveOne receiveTwo receiveNone joined file lateConfig areasConfig queueConfig late falseClaim waitTooLong inTime noCall callTwice exitBelow sendThird table wholeFrom wholeOf nothing observe historyFrom historyOf followed isEdition partsSound hasStep marksInvalid topOf mostPending oneMore isNoAwaited awaitsWell isNoLife isNoOwed isNoStack endsWaiting waitingLets heldWell asksWaiting slotLets slotsLet slotsAfter holdOf giveUpOf timeOf timeIn
+unfolding allOf allBelow anyBelow sumBelow maskBelow firstBelow eachBelow shifted placeFilled filled isVoid isPayload isKind isMask isGood sameValue runnableConfIn addRunnableConf variableConfIn addVariableConf areaConfIn addAreaConf requiredConfIn addRequiredConf providedConfIn addProvidedConf linkIn addLink operationConfIn addOperationConf timerConfIn addTimerConf dataEventIn addDataEvent returnEventIn addReturnEvent noConfig noRequests noRunnable noValues noElement noStack noSlot noRunnables runnableIn withRunnable noVariables variableIn withVariable noAreas areaIn withArea noElements elementIn withElement noOperations operationIn withOperation noTimers timerIn withTimer noSlots slotIn withSlot pushRequest firstRequest restRequests pushValue firstValue restValues pushArea topArea popArea startVariable startElement startRunnables startVariables startElements startOf maxOf countOf placesOf entryOf placed inRange namesThere isServer isQueued rises risesAt pairsWell entryFault isNoEntry placeSound kindSound configSound isNoClient clientFits requestsSound valuesSound runnableSound variableSound isStored elementSound isOutcome callingSound doneSound operationSound timerSound waitsWell lifeSound owedSound areaFits stackSound isNoSlot slotSound ofRunnable slotsOf countSound timesIn holders areaSound isClient queuedAs servedAs clientsAs clientSound queuedSound servedSound calledSound waitsOn waitersOf waiterSound runnablesSound variablesSound elementsSound operationsSound timersSound slotsSound countsSound areasSound clientsSound waitersSound shaped soundOf rows rowOf argues formed partThere queuesAs partOwn asksSynchronous finishedLets failedLets lifeLets ownedRefusal instanceRefusal schedulerRefusal refusalBy refusalOf readVariableOf writeVariableOf enterOf onTop exitOf readOf updatedOf linked accepts fedElement fedElements feeds isFed fedRunnables fed writeOf invalidateOf isFull fullMask sentOf sendOf receiveOf requestsFull callerAfter called callOf pollOf collectOf resultOf closing returns isReturned returnedRunnables closed answers handBackOf timeoutOf endOf isDue maySpawn starting instanceOf isEmptyAt lowestEmpty foundEmpty spawned spawnOf tickOf operationLets timerLets operationsLet timersLet operationAfter operationsAfter timersAfter runnablesAfter allLet waited waitOf failOf actOf possibleOf agrees claimedOf innerOf stepOf valuesGood tested stepIn endIn fieldOf sizeOf entryRead inOrder headOf bodyFault refusedAt readFrom configOf judgeFrom judgeOf restOf judgedLine readLine lineOf firstField lastField client server operation area queue sender link spawnClient spawnServer callSeven callAgain waitFifty waitLonger timesOut backLate backInTime askTimeout askNine askVoid enterFirst enterSecond exitFirst sendOne sendTwo sendThree receiveOne receiveTwo receiveNone joined file lateConfig areasConfig queueConfig late falseClaim waitTooLong inTime noCall callTwice exitBelow sendThird table wholeFrom wholeOf nothing observe historyFrom historyOf followed isEdition partsSound hasStep marksInvalid topOf mostPending oneMore isNoAwaited awaitsWell isNoLife isNoOwed isNoStack endsWaiting waitingLets heldWell asksWaiting slotLets slotsLet slotsAfter holdOf giveUpOf timeOf timeIn namedThere listedThere listsOf hasRoom listsWell hasField listsElements listedBelow sizeIn listedIn addListed copiedSound copiesSound copySound hasCopy isNoCopy copiesIn copyIn listsAt firstListed handedElements handedRunnables cleared copiedElements copiedInto noCopied noCopies
 histories = refl
 
 -- (a) the waits from the call at place 2 to the timeout add up to 50
 pub fifty-waited : timeSince 2 (take 4 (stepsIn (late .recording))) ≡ 50
-unfolding allOf allBelow anyBelow sumBelow maskBelow firstBelow eachBelow shifted placeFilled filled isVoid isPayload isKind isMask isGood sameValue runnableConfIn addRunnableConf variableConfIn addVariableConf areaConfIn addAreaConf requiredConfIn addRequiredConf providedConfIn addProvidedConf linkIn addLink operationConfIn addOperationConf timerConfIn addTimerConf dataEventIn addDataEvent returnEventIn addReturnEvent noConfig noRequests noRunnable noValues noElement noStack noSlot noRunnables runnableIn withRunnable noVariables variableIn withVariable noAreas areaIn withArea noElements elementIn withElement noOperations operationIn withOperation noTimers timerIn withTimer noSlots slotIn withSlot pushRequest firstRequest restRequests pushValue firstValue restValues pushArea topArea popArea startVariable startElement startRunnables startVariables startElements startOf maxOf countOf placesOf entryOf placed inRange namesThere isServer isQueued rises risesAt pairsWell entryFault isNoEntry placeSound kindSound configSound isNoClient clientFits requestsSound valuesSound runnableSound variableSound isStored elementSound isOutcome callingSound doneSound operationSound timerSound waitsWell lifeSound owedSound areaFits stackSound isNoSlot slotSound ofRunnable slotsOf countSound timesIn holders areaSound isClient queuedAs servedAs clientsAs clientSound queuedSound servedSound calledSound waitsOn waitersOf waiterSound runnablesSound variablesSound elementsSound operationsSound timersSound slotsSound countsSound areasSound clientsSound waitersSound shaped soundOf rows rowOf argues formed partThere queuesAs partOwn asksSynchronous finishedLets failedLets lifeLets ownedRefusal instanceRefusal schedulerRefusal refusalBy refusalOf readVariableOf writeVariableOf enterOf onTop exitOf readOf updatedOf linked accepts fedElement fedElements feeds isFed fedRunnables fed writeOf invalidateOf isFull fullMask sentOf sendOf receiveOf requestsFull callerAfter called callOf pollOf collectOf resultOf closing returns isReturned returnedRunnables closed answers handBackOf timeoutOf endOf isDue maySpawn starting instanceOf isEmptyAt lowestEmpty foundEmpty spawned spawnOf tickOf operationLets timerLets operationsLet timersLet operationAfter operationsAfter timersAfter runnablesAfter allLet waited waitOf failOf actOf possibleOf agrees claimedOf innerOf stepOf valuesGood tested stepIn endIn fieldOf sizeOf entryRead inOrder headOf bodyFault refusedAt readFrom configOf judgeFrom judgeOf restOf judgedLine readLine lineOf firstField lastField client server operation area queue sender link spawnClient spawnServer callSeven callAgain waitFifty waitLonger timesOut backLate backInTime askTimeout askNine askVoid enterFirst enterSecond exitFirst sendOne sendTwo sendThree receiveOne receiveTwo receiveNone joined file lateConfig areasConfig queueConfig late falseClaim waitTooLong inTime noCall callTwice exitBelow sendThird table wholeFrom wholeOf timeOf timeIn isEdition partsSound hasStep marksInvalid topOf mostPending oneMore isNoAwaited awaitsWell isNoLife isNoOwed isNoStack endsWaiting waitingLets heldWell asksWaiting slotLets slotsLet slotsAfter holdOf giveUpOf nothing observe historyFrom historyOf
+unfolding allOf allBelow anyBelow sumBelow maskBelow firstBelow eachBelow shifted placeFilled filled isVoid isPayload isKind isMask isGood sameValue runnableConfIn addRunnableConf variableConfIn addVariableConf areaConfIn addAreaConf requiredConfIn addRequiredConf providedConfIn addProvidedConf linkIn addLink operationConfIn addOperationConf timerConfIn addTimerConf dataEventIn addDataEvent returnEventIn addReturnEvent noConfig noRequests noRunnable noValues noElement noStack noSlot noRunnables runnableIn withRunnable noVariables variableIn withVariable noAreas areaIn withArea noElements elementIn withElement noOperations operationIn withOperation noTimers timerIn withTimer noSlots slotIn withSlot pushRequest firstRequest restRequests pushValue firstValue restValues pushArea topArea popArea startVariable startElement startRunnables startVariables startElements startOf maxOf countOf placesOf entryOf placed inRange namesThere isServer isQueued rises risesAt pairsWell entryFault isNoEntry placeSound kindSound configSound isNoClient clientFits requestsSound valuesSound runnableSound variableSound isStored elementSound isOutcome callingSound doneSound operationSound timerSound waitsWell lifeSound owedSound areaFits stackSound isNoSlot slotSound ofRunnable slotsOf countSound timesIn holders areaSound isClient queuedAs servedAs clientsAs clientSound queuedSound servedSound calledSound waitsOn waitersOf waiterSound runnablesSound variablesSound elementsSound operationsSound timersSound slotsSound countsSound areasSound clientsSound waitersSound shaped soundOf rows rowOf argues formed partThere queuesAs partOwn asksSynchronous finishedLets failedLets lifeLets ownedRefusal instanceRefusal schedulerRefusal refusalBy refusalOf readVariableOf writeVariableOf enterOf onTop exitOf readOf updatedOf linked accepts fedElement fedElements feeds isFed fedRunnables fed writeOf invalidateOf isFull fullMask sentOf sendOf receiveOf requestsFull callerAfter called callOf pollOf collectOf resultOf closing returns isReturned returnedRunnables closed answers handBackOf timeoutOf endOf isDue maySpawn starting instanceOf isEmptyAt lowestEmpty foundEmpty spawned spawnOf tickOf operationLets timerLets operationsLet timersLet operationAfter operationsAfter timersAfter runnablesAfter allLet waited waitOf failOf actOf possibleOf agrees claimedOf innerOf stepOf valuesGood tested stepIn endIn fieldOf sizeOf entryRead inOrder headOf bodyFault refusedAt readFrom configOf judgeFrom judgeOf restOf judgedLine readLine lineOf firstField lastField client server operation area queue sender link spawnClient spawnServer callSeven callAgain waitFifty waitLonger timesOut backLate backInTime askTimeout askNine askVoid enterFirst enterSecond exitFirst sendOne sendTwo sendThree receiveOne receiveTwo receiveNone joined file lateConfig areasConfig queueConfig late falseClaim waitTooLong inTime noCall callTwice exitBelow sendThird table wholeFrom wholeOf timeOf timeIn isEdition partsSound hasStep marksInvalid topOf mostPending oneMore isNoAwaited awaitsWell isNoLife isNoOwed isNoStack endsWaiting waitingLets heldWell asksWaiting slotLets slotsLet slotsAfter holdOf giveUpOf nothing observe historyFrom historyOf namedThere listedThere listsOf hasRoom listsWell hasField listsElements listedBelow sizeIn listedIn addListed copiedSound copiesSound copySound hasCopy isNoCopy copiesIn copyIn listsAt firstListed handedElements handedRunnables cleared copiedElements copiedInto noCopied noCopies
 fifty-waited = refl
 
 -- ---- full queues (W-201)
@@ -393,7 +394,7 @@ pub fullTable : List Row
 fullTable = sendThird ∷ sendOlder ∷ sendWrong ∷ sendBare ∷ sendHigh ∷ sendSoon ∷ callWrong ∷ sendFour ∷ []
 
 pub full-queues : map (λ (x : Row). lineOf (x .config) (x .recording)) fullTable ≡ map (λ (x : Row). x .line) fullTable
-unfolding allOf allBelow anyBelow sumBelow maskBelow firstBelow eachBelow shifted placeFilled filled isVoid isPayload isKind isMask isGood sameValue runnableConfIn addRunnableConf variableConfIn addVariableConf areaConfIn addAreaConf requiredConfIn addRequiredConf providedConfIn addProvidedConf linkIn addLink operationConfIn addOperationConf timerConfIn addTimerConf dataEventIn addDataEvent returnEventIn addReturnEvent noConfig noRequests noRunnable noValues noElement noStack noSlot noRunnables runnableIn withRunnable noVariables variableIn withVariable noAreas areaIn withArea noElements elementIn withElement noOperations operationIn withOperation noTimers timerIn withTimer noSlots slotIn withSlot pushRequest firstRequest restRequests pushValue firstValue restValues pushArea topArea popArea startVariable startElement startRunnables startVariables startElements startOf maxOf countOf placesOf entryOf placed inRange namesThere isServer isQueued rises risesAt pairsWell entryFault isNoEntry placeSound kindSound configSound isNoClient clientFits requestsSound valuesSound runnableSound variableSound isStored elementSound isOutcome callingSound doneSound operationSound timerSound waitsWell lifeSound owedSound areaFits stackSound isNoSlot slotSound ofRunnable slotsOf countSound timesIn holders areaSound isClient queuedAs servedAs clientsAs clientSound queuedSound servedSound calledSound waitsOn waitersOf waiterSound runnablesSound variablesSound elementsSound operationsSound timersSound slotsSound countsSound areasSound clientsSound waitersSound shaped soundOf rows rowOf argues formed partThere queuesAs partOwn asksSynchronous finishedLets failedLets lifeLets ownedRefusal instanceRefusal schedulerRefusal refusalBy refusalOf readVariableOf writeVariableOf enterOf onTop exitOf readOf updatedOf linked accepts fedElement fedElements feeds isFed fedRunnables fed writeOf invalidateOf isFull fullMask sentOf sendOf receiveOf requestsFull callerAfter called callOf pollOf collectOf resultOf closing returns isReturned returnedRunnables closed answers handBackOf timeoutOf endOf isDue maySpawn starting instanceOf isEmptyAt lowestEmpty foundEmpty spawned spawnOf tickOf operationLets timerLets operationsLet timersLet operationAfter operationsAfter timersAfter runnablesAfter allLet waited waitOf failOf actOf possibleOf agrees claimedOf innerOf stepOf valuesGood tested stepIn endIn fieldOf sizeOf entryRead inOrder headOf bodyFault refusedAt readFrom configOf judgeFrom judgeOf restOf judgedLine readLine lineOf firstField lastField client server operation queue sender link scale linkSecond linkFourth linkThird spawnClient callSeven callFull sendOne sendTwo sendThree sendLimit sendOther sendNothing sendBeyond sendEarly sendAside sendAll takeSecond sendAgain takeAgain receiveOne receiveTwo receiveNone joined file lateConfig queueConfig scalesConfig sendThird sendOlder sendWrong sendBare sendHigh sendSoon callWrong sendFour fullTable isEdition partsSound hasStep marksInvalid topOf mostPending oneMore isNoAwaited awaitsWell isNoLife isNoOwed isNoStack endsWaiting waitingLets heldWell asksWaiting slotLets slotsLet slotsAfter holdOf giveUpOf wholeFrom wholeOf nothing observe historyFrom historyOf timeOf timeIn
+unfolding allOf allBelow anyBelow sumBelow maskBelow firstBelow eachBelow shifted placeFilled filled isVoid isPayload isKind isMask isGood sameValue runnableConfIn addRunnableConf variableConfIn addVariableConf areaConfIn addAreaConf requiredConfIn addRequiredConf providedConfIn addProvidedConf linkIn addLink operationConfIn addOperationConf timerConfIn addTimerConf dataEventIn addDataEvent returnEventIn addReturnEvent noConfig noRequests noRunnable noValues noElement noStack noSlot noRunnables runnableIn withRunnable noVariables variableIn withVariable noAreas areaIn withArea noElements elementIn withElement noOperations operationIn withOperation noTimers timerIn withTimer noSlots slotIn withSlot pushRequest firstRequest restRequests pushValue firstValue restValues pushArea topArea popArea startVariable startElement startRunnables startVariables startElements startOf maxOf countOf placesOf entryOf placed inRange namesThere isServer isQueued rises risesAt pairsWell entryFault isNoEntry placeSound kindSound configSound isNoClient clientFits requestsSound valuesSound runnableSound variableSound isStored elementSound isOutcome callingSound doneSound operationSound timerSound waitsWell lifeSound owedSound areaFits stackSound isNoSlot slotSound ofRunnable slotsOf countSound timesIn holders areaSound isClient queuedAs servedAs clientsAs clientSound queuedSound servedSound calledSound waitsOn waitersOf waiterSound runnablesSound variablesSound elementsSound operationsSound timersSound slotsSound countsSound areasSound clientsSound waitersSound shaped soundOf rows rowOf argues formed partThere queuesAs partOwn asksSynchronous finishedLets failedLets lifeLets ownedRefusal instanceRefusal schedulerRefusal refusalBy refusalOf readVariableOf writeVariableOf enterOf onTop exitOf readOf updatedOf linked accepts fedElement fedElements feeds isFed fedRunnables fed writeOf invalidateOf isFull fullMask sentOf sendOf receiveOf requestsFull callerAfter called callOf pollOf collectOf resultOf closing returns isReturned returnedRunnables closed answers handBackOf timeoutOf endOf isDue maySpawn starting instanceOf isEmptyAt lowestEmpty foundEmpty spawned spawnOf tickOf operationLets timerLets operationsLet timersLet operationAfter operationsAfter timersAfter runnablesAfter allLet waited waitOf failOf actOf possibleOf agrees claimedOf innerOf stepOf valuesGood tested stepIn endIn fieldOf sizeOf entryRead inOrder headOf bodyFault refusedAt readFrom configOf judgeFrom judgeOf restOf judgedLine readLine lineOf firstField lastField client server operation queue sender link scale linkSecond linkFourth linkThird spawnClient callSeven callFull sendOne sendTwo sendThree sendLimit sendOther sendNothing sendBeyond sendEarly sendAside sendAll takeSecond sendAgain takeAgain receiveOne receiveTwo receiveNone joined file lateConfig queueConfig scalesConfig sendThird sendOlder sendWrong sendBare sendHigh sendSoon callWrong sendFour fullTable isEdition partsSound hasStep marksInvalid topOf mostPending oneMore isNoAwaited awaitsWell isNoLife isNoOwed isNoStack endsWaiting waitingLets heldWell asksWaiting slotLets slotsLet slotsAfter holdOf giveUpOf wholeFrom wholeOf nothing observe historyFrom historyOf timeOf timeIn namedThere listedThere listsOf hasRoom listsWell hasField listsElements listedBelow sizeIn listedIn addListed copiedSound copiesSound copySound hasCopy isNoCopy copiesIn copyIn listsAt firstListed handedElements handedRunnables cleared copiedElements copiedInto noCopied noCopies
 full-queues = refl
 
 -- ---- the two editions
@@ -436,7 +437,7 @@ editionTable =
     ∷ []
 
 pub both-editions : map (λ (x : Row). lineOf (x .config) (x .recording)) editionTable ≡ map (λ (x : Row). x .line) editionTable
-unfolding allOf allBelow anyBelow sumBelow maskBelow firstBelow eachBelow shifted placeFilled filled isVoid isPayload isKind isMask isGood sameValue runnableConfIn addRunnableConf variableConfIn addVariableConf areaConfIn addAreaConf requiredConfIn addRequiredConf providedConfIn addProvidedConf linkIn addLink operationConfIn addOperationConf timerConfIn addTimerConf dataEventIn addDataEvent returnEventIn addReturnEvent noConfig noRequests noRunnable noValues noElement noStack noSlot noRunnables runnableIn withRunnable noVariables variableIn withVariable noAreas areaIn withArea noElements elementIn withElement noOperations operationIn withOperation noTimers timerIn withTimer noSlots slotIn withSlot pushRequest firstRequest restRequests pushValue firstValue restValues pushArea topArea popArea startVariable startElement startRunnables startVariables startElements startOf maxOf countOf placesOf entryOf placed inRange namesThere isServer isQueued rises risesAt pairsWell entryFault isNoEntry placeSound kindSound configSound isNoClient clientFits requestsSound valuesSound runnableSound variableSound isStored elementSound isOutcome callingSound doneSound operationSound timerSound waitsWell lifeSound owedSound areaFits stackSound isNoSlot slotSound ofRunnable slotsOf countSound timesIn holders areaSound isClient queuedAs servedAs clientsAs clientSound queuedSound servedSound calledSound waitsOn waitersOf waiterSound runnablesSound variablesSound elementsSound operationsSound timersSound slotsSound countsSound areasSound clientsSound waitersSound shaped soundOf rows rowOf argues formed partThere queuesAs partOwn asksSynchronous finishedLets failedLets lifeLets ownedRefusal instanceRefusal schedulerRefusal refusalBy refusalOf readVariableOf writeVariableOf enterOf onTop exitOf readOf updatedOf linked accepts fedElement fedElements feeds isFed fedRunnables fed writeOf invalidateOf isFull fullMask sentOf sendOf receiveOf requestsFull callerAfter called callOf pollOf collectOf resultOf closing returns isReturned returnedRunnables closed answers handBackOf timeoutOf endOf isDue maySpawn starting instanceOf isEmptyAt lowestEmpty foundEmpty spawned spawnOf tickOf operationLets timerLets operationsLet timersLet operationAfter operationsAfter timersAfter runnablesAfter allLet waited waitOf failOf actOf possibleOf agrees claimedOf innerOf stepOf valuesGood tested stepIn endIn fieldOf sizeOf entryRead inOrder headOf bodyFault refusedAt readFrom configOf judgeFrom judgeOf restOf judgedLine readLine lineOf firstField lastField client server operation queue sender link scale linkSecond linkFourth linkThird spawnClient callSeven callFull sendOne sendTwo sendThree sendLimit sendOther sendNothing sendBeyond sendEarly sendAside sendAll takeSecond sendAgain takeAgain receiveOne receiveTwo receiveNone joined file lateConfig queueConfig scalesConfig sendThird sendOlder sendWrong sendBare sendHigh sendSoon callWrong sendFour fullTable isEdition partsSound hasStep marksInvalid board painter editionConfig marks readsInvalid marksNothing marksWith editionTable topOf mostPending oneMore isNoAwaited awaitsWell isNoLife isNoOwed isNoStack endsWaiting waitingLets heldWell asksWaiting slotLets slotsLet slotsAfter holdOf giveUpOf wholeFrom wholeOf nothing observe historyFrom historyOf timeOf timeIn
+unfolding allOf allBelow anyBelow sumBelow maskBelow firstBelow eachBelow shifted placeFilled filled isVoid isPayload isKind isMask isGood sameValue runnableConfIn addRunnableConf variableConfIn addVariableConf areaConfIn addAreaConf requiredConfIn addRequiredConf providedConfIn addProvidedConf linkIn addLink operationConfIn addOperationConf timerConfIn addTimerConf dataEventIn addDataEvent returnEventIn addReturnEvent noConfig noRequests noRunnable noValues noElement noStack noSlot noRunnables runnableIn withRunnable noVariables variableIn withVariable noAreas areaIn withArea noElements elementIn withElement noOperations operationIn withOperation noTimers timerIn withTimer noSlots slotIn withSlot pushRequest firstRequest restRequests pushValue firstValue restValues pushArea topArea popArea startVariable startElement startRunnables startVariables startElements startOf maxOf countOf placesOf entryOf placed inRange namesThere isServer isQueued rises risesAt pairsWell entryFault isNoEntry placeSound kindSound configSound isNoClient clientFits requestsSound valuesSound runnableSound variableSound isStored elementSound isOutcome callingSound doneSound operationSound timerSound waitsWell lifeSound owedSound areaFits stackSound isNoSlot slotSound ofRunnable slotsOf countSound timesIn holders areaSound isClient queuedAs servedAs clientsAs clientSound queuedSound servedSound calledSound waitsOn waitersOf waiterSound runnablesSound variablesSound elementsSound operationsSound timersSound slotsSound countsSound areasSound clientsSound waitersSound shaped soundOf rows rowOf argues formed partThere queuesAs partOwn asksSynchronous finishedLets failedLets lifeLets ownedRefusal instanceRefusal schedulerRefusal refusalBy refusalOf readVariableOf writeVariableOf enterOf onTop exitOf readOf updatedOf linked accepts fedElement fedElements feeds isFed fedRunnables fed writeOf invalidateOf isFull fullMask sentOf sendOf receiveOf requestsFull callerAfter called callOf pollOf collectOf resultOf closing returns isReturned returnedRunnables closed answers handBackOf timeoutOf endOf isDue maySpawn starting instanceOf isEmptyAt lowestEmpty foundEmpty spawned spawnOf tickOf operationLets timerLets operationsLet timersLet operationAfter operationsAfter timersAfter runnablesAfter allLet waited waitOf failOf actOf possibleOf agrees claimedOf innerOf stepOf valuesGood tested stepIn endIn fieldOf sizeOf entryRead inOrder headOf bodyFault refusedAt readFrom configOf judgeFrom judgeOf restOf judgedLine readLine lineOf firstField lastField client server operation queue sender link scale linkSecond linkFourth linkThird spawnClient callSeven callFull sendOne sendTwo sendThree sendLimit sendOther sendNothing sendBeyond sendEarly sendAside sendAll takeSecond sendAgain takeAgain receiveOne receiveTwo receiveNone joined file lateConfig queueConfig scalesConfig sendThird sendOlder sendWrong sendBare sendHigh sendSoon callWrong sendFour fullTable isEdition partsSound hasStep marksInvalid board painter editionConfig marks readsInvalid marksNothing marksWith editionTable topOf mostPending oneMore isNoAwaited awaitsWell isNoLife isNoOwed isNoStack endsWaiting waitingLets heldWell asksWaiting slotLets slotsLet slotsAfter holdOf giveUpOf wholeFrom wholeOf nothing observe historyFrom historyOf timeOf timeIn namedThere listedThere listsOf hasRoom listsWell hasField listsElements listedBelow sizeIn listedIn addListed copiedSound copiesSound copySound hasCopy isNoCopy copiesIn copyIn listsAt firstListed handedElements handedRunnables cleared copiedElements copiedInto noCopied noCopies
 both-editions = refl
 
 -- ---- pending activations (W-212): the two traces of the source's section V, without the counting flag and with it
@@ -495,7 +496,7 @@ pub triggeredTable : List Row
 triggeredTable = inTurn receiver ∷ inTurn counter ∷ together receiver ∷ together counter ∷ lostOne ∷ countsBoth ∷ countsNoMore ∷ counterServes ∷ flagBeyond ∷ []
 
 pub counted-activations : map (λ (x : Row). lineOf (x .config) (x .recording)) triggeredTable ≡ map (λ (x : Row). x .line) triggeredTable
-unfolding allOf allBelow anyBelow sumBelow maskBelow firstBelow eachBelow shifted placeFilled filled isVoid isPayload isKind isMask isGood sameValue runnableConfIn addRunnableConf variableConfIn addVariableConf areaConfIn addAreaConf requiredConfIn addRequiredConf providedConfIn addProvidedConf linkIn addLink operationConfIn addOperationConf timerConfIn addTimerConf dataEventIn addDataEvent returnEventIn addReturnEvent noConfig noRequests noRunnable noValues noElement noStack noSlot noRunnables runnableIn withRunnable noVariables variableIn withVariable noAreas areaIn withArea noElements elementIn withElement noOperations operationIn withOperation noTimers timerIn withTimer noSlots slotIn withSlot pushRequest firstRequest restRequests pushValue firstValue restValues pushArea topArea popArea startVariable startElement startRunnables startVariables startElements startOf maxOf countOf placesOf entryOf placed inRange namesThere isServer isQueued rises risesAt pairsWell entryFault isNoEntry placeSound kindSound configSound isNoClient clientFits requestsSound valuesSound topOf mostPending runnableSound variableSound isStored elementSound isOutcome callingSound doneSound operationSound timerSound waitsWell lifeSound owedSound areaFits stackSound isNoSlot slotSound ofRunnable slotsOf countSound timesIn holders areaSound isClient queuedAs servedAs clientsAs clientSound queuedSound servedSound calledSound waitsOn waitersOf waiterSound runnablesSound variablesSound elementsSound operationsSound timersSound slotsSound countsSound areasSound clientsSound waitersSound shaped soundOf rows rowOf argues formed partThere queuesAs partOwn asksSynchronous finishedLets failedLets lifeLets ownedRefusal instanceRefusal schedulerRefusal refusalBy refusalOf readVariableOf writeVariableOf enterOf onTop exitOf readOf updatedOf linked accepts fedElement fedElements oneMore feeds isFed fedRunnables fed writeOf invalidateOf isFull fullMask sentOf sendOf receiveOf requestsFull callerAfter called callOf pollOf collectOf resultOf closing returns isReturned returnedRunnables closed answers handBackOf timeoutOf endOf isDue maySpawn starting instanceOf isEmptyAt lowestEmpty foundEmpty spawned spawnOf tickOf operationLets timerLets operationsLet timersLet operationAfter operationsAfter timersAfter runnablesAfter allLet waited waitOf failOf actOf possibleOf agrees claimedOf innerOf stepOf valuesGood tested stepIn endIn fieldOf sizeOf entryRead inOrder headOf bodyFault refusedAt readFrom configOf judgeFrom judgeOf restOf judgedLine readLine lineOf firstField lastField client queue sender link spawnClient spawnServer sendOne sendTwo receiver counter event spawnNext spawnThird joined file triggeredConfig inTurn together lostOne countsBoth countsNoMore counterServes flagBeyond triggeredTable isEdition partsSound hasStep marksInvalid isNoAwaited awaitsWell isNoLife isNoOwed isNoStack endsWaiting waitingLets heldWell asksWaiting slotLets slotsLet slotsAfter holdOf giveUpOf wholeFrom wholeOf nothing observe historyFrom historyOf timeOf timeIn
+unfolding allOf allBelow anyBelow sumBelow maskBelow firstBelow eachBelow shifted placeFilled filled isVoid isPayload isKind isMask isGood sameValue runnableConfIn addRunnableConf variableConfIn addVariableConf areaConfIn addAreaConf requiredConfIn addRequiredConf providedConfIn addProvidedConf linkIn addLink operationConfIn addOperationConf timerConfIn addTimerConf dataEventIn addDataEvent returnEventIn addReturnEvent noConfig noRequests noRunnable noValues noElement noStack noSlot noRunnables runnableIn withRunnable noVariables variableIn withVariable noAreas areaIn withArea noElements elementIn withElement noOperations operationIn withOperation noTimers timerIn withTimer noSlots slotIn withSlot pushRequest firstRequest restRequests pushValue firstValue restValues pushArea topArea popArea startVariable startElement startRunnables startVariables startElements startOf maxOf countOf placesOf entryOf placed inRange namesThere isServer isQueued rises risesAt pairsWell entryFault isNoEntry placeSound kindSound configSound isNoClient clientFits requestsSound valuesSound topOf mostPending runnableSound variableSound isStored elementSound isOutcome callingSound doneSound operationSound timerSound waitsWell lifeSound owedSound areaFits stackSound isNoSlot slotSound ofRunnable slotsOf countSound timesIn holders areaSound isClient queuedAs servedAs clientsAs clientSound queuedSound servedSound calledSound waitsOn waitersOf waiterSound runnablesSound variablesSound elementsSound operationsSound timersSound slotsSound countsSound areasSound clientsSound waitersSound shaped soundOf rows rowOf argues formed partThere queuesAs partOwn asksSynchronous finishedLets failedLets lifeLets ownedRefusal instanceRefusal schedulerRefusal refusalBy refusalOf readVariableOf writeVariableOf enterOf onTop exitOf readOf updatedOf linked accepts fedElement fedElements oneMore feeds isFed fedRunnables fed writeOf invalidateOf isFull fullMask sentOf sendOf receiveOf requestsFull callerAfter called callOf pollOf collectOf resultOf closing returns isReturned returnedRunnables closed answers handBackOf timeoutOf endOf isDue maySpawn starting instanceOf isEmptyAt lowestEmpty foundEmpty spawned spawnOf tickOf operationLets timerLets operationsLet timersLet operationAfter operationsAfter timersAfter runnablesAfter allLet waited waitOf failOf actOf possibleOf agrees claimedOf innerOf stepOf valuesGood tested stepIn endIn fieldOf sizeOf entryRead inOrder headOf bodyFault refusedAt readFrom configOf judgeFrom judgeOf restOf judgedLine readLine lineOf firstField lastField client queue sender link spawnClient spawnServer sendOne sendTwo receiver counter event spawnNext spawnThird joined file triggeredConfig inTurn together lostOne countsBoth countsNoMore counterServes flagBeyond triggeredTable isEdition partsSound hasStep marksInvalid isNoAwaited awaitsWell isNoLife isNoOwed isNoStack endsWaiting waitingLets heldWell asksWaiting slotLets slotsLet slotsAfter holdOf giveUpOf wholeFrom wholeOf nothing observe historyFrom historyOf timeOf timeIn namedThere listedThere listsOf hasRoom listsWell hasField listsElements listedBelow sizeIn listedIn addListed copiedSound copiesSound copySound hasCopy isNoCopy copiesIn copyIn listsAt firstListed handedElements handedRunnables cleared copiedElements copiedInto noCopied noCopies
 counted-activations = refl
 
 -- ---- a crane that fails
@@ -528,7 +529,7 @@ pub craneTable : List Row
 craneTable = craneInTime ∷ craneTooLate ∷ craneNumber ∷ craneEntersFailed ∷ []
 
 pub failing-cranes : map (λ (x : Row). lineOf (x .config) (x .recording)) craneTable ≡ map (λ (x : Row). x .line) craneTable
-unfolding allOf allBelow anyBelow sumBelow maskBelow firstBelow eachBelow shifted placeFilled filled isVoid isPayload isKind isMask isGood sameValue runnableConfIn addRunnableConf variableConfIn addVariableConf areaConfIn addAreaConf requiredConfIn addRequiredConf providedConfIn addProvidedConf linkIn addLink operationConfIn addOperationConf timerConfIn addTimerConf dataEventIn addDataEvent returnEventIn addReturnEvent noConfig noRequests noRunnable noValues noElement noStack noSlot noRunnables runnableIn withRunnable noVariables variableIn withVariable noAreas areaIn withArea noElements elementIn withElement noOperations operationIn withOperation noTimers timerIn withTimer noSlots slotIn withSlot pushRequest firstRequest restRequests pushValue firstValue restValues pushArea topArea popArea startVariable startElement startRunnables startVariables startElements startOf maxOf countOf placesOf entryOf placed inRange namesThere isServer isQueued rises risesAt pairsWell entryFault isNoEntry placeSound kindSound configSound isNoClient clientFits requestsSound valuesSound runnableSound variableSound isStored elementSound isOutcome callingSound doneSound operationSound timerSound waitsWell lifeSound owedSound areaFits stackSound isNoSlot slotSound ofRunnable slotsOf countSound timesIn holders areaSound isClient queuedAs servedAs clientsAs clientSound queuedSound servedSound calledSound waitsOn waitersOf waiterSound runnablesSound variablesSound elementsSound operationsSound timersSound slotsSound countsSound areasSound clientsSound waitersSound shaped soundOf rows rowOf argues formed partThere queuesAs partOwn asksSynchronous finishedLets failedLets lifeLets ownedRefusal instanceRefusal schedulerRefusal refusalBy refusalOf readVariableOf writeVariableOf enterOf onTop exitOf readOf updatedOf linked accepts fedElement fedElements feeds isFed fedRunnables fed writeOf invalidateOf isFull fullMask sentOf sendOf receiveOf requestsFull callerAfter called callOf pollOf collectOf resultOf closing returns isReturned returnedRunnables closed answers handBackOf timeoutOf endOf isDue maySpawn starting instanceOf isEmptyAt lowestEmpty foundEmpty spawned spawnOf tickOf operationLets timerLets operationsLet timersLet operationAfter operationsAfter timersAfter runnablesAfter allLet waited waitOf failOf actOf possibleOf agrees claimedOf innerOf stepOf valuesGood tested stepIn endIn fieldOf sizeOf entryRead inOrder headOf bodyFault refusedAt readFrom configOf judgeFrom judgeOf restOf judgedLine readLine lineOf firstField lastField client server operation area queue sender link spawnClient spawnServer callSeven callAgain waitFifty waitLonger timesOut backLate backInTime askTimeout askNine askVoid enterFirst enterSecond exitFirst sendOne sendTwo sendThree receiveOne receiveTwo receiveNone craneArea craneEntersFirst craneEntersSecond craneFails craneBack craneBackLate craneExitsSecond craneExitsFirst craneEnds askServerErr joined file lateConfig areasConfig queueConfig craneConfig craneInTime craneTooLate craneNumber craneEntersFailed craneTable isEdition partsSound hasStep marksInvalid topOf mostPending oneMore isNoAwaited awaitsWell isNoLife isNoOwed isNoStack endsWaiting waitingLets heldWell asksWaiting slotLets slotsLet slotsAfter holdOf giveUpOf wholeFrom wholeOf nothing observe historyFrom historyOf timeOf timeIn
+unfolding allOf allBelow anyBelow sumBelow maskBelow firstBelow eachBelow shifted placeFilled filled isVoid isPayload isKind isMask isGood sameValue runnableConfIn addRunnableConf variableConfIn addVariableConf areaConfIn addAreaConf requiredConfIn addRequiredConf providedConfIn addProvidedConf linkIn addLink operationConfIn addOperationConf timerConfIn addTimerConf dataEventIn addDataEvent returnEventIn addReturnEvent noConfig noRequests noRunnable noValues noElement noStack noSlot noRunnables runnableIn withRunnable noVariables variableIn withVariable noAreas areaIn withArea noElements elementIn withElement noOperations operationIn withOperation noTimers timerIn withTimer noSlots slotIn withSlot pushRequest firstRequest restRequests pushValue firstValue restValues pushArea topArea popArea startVariable startElement startRunnables startVariables startElements startOf maxOf countOf placesOf entryOf placed inRange namesThere isServer isQueued rises risesAt pairsWell entryFault isNoEntry placeSound kindSound configSound isNoClient clientFits requestsSound valuesSound runnableSound variableSound isStored elementSound isOutcome callingSound doneSound operationSound timerSound waitsWell lifeSound owedSound areaFits stackSound isNoSlot slotSound ofRunnable slotsOf countSound timesIn holders areaSound isClient queuedAs servedAs clientsAs clientSound queuedSound servedSound calledSound waitsOn waitersOf waiterSound runnablesSound variablesSound elementsSound operationsSound timersSound slotsSound countsSound areasSound clientsSound waitersSound shaped soundOf rows rowOf argues formed partThere queuesAs partOwn asksSynchronous finishedLets failedLets lifeLets ownedRefusal instanceRefusal schedulerRefusal refusalBy refusalOf readVariableOf writeVariableOf enterOf onTop exitOf readOf updatedOf linked accepts fedElement fedElements feeds isFed fedRunnables fed writeOf invalidateOf isFull fullMask sentOf sendOf receiveOf requestsFull callerAfter called callOf pollOf collectOf resultOf closing returns isReturned returnedRunnables closed answers handBackOf timeoutOf endOf isDue maySpawn starting instanceOf isEmptyAt lowestEmpty foundEmpty spawned spawnOf tickOf operationLets timerLets operationsLet timersLet operationAfter operationsAfter timersAfter runnablesAfter allLet waited waitOf failOf actOf possibleOf agrees claimedOf innerOf stepOf valuesGood tested stepIn endIn fieldOf sizeOf entryRead inOrder headOf bodyFault refusedAt readFrom configOf judgeFrom judgeOf restOf judgedLine readLine lineOf firstField lastField client server operation area queue sender link spawnClient spawnServer callSeven callAgain waitFifty waitLonger timesOut backLate backInTime askTimeout askNine askVoid enterFirst enterSecond exitFirst sendOne sendTwo sendThree receiveOne receiveTwo receiveNone craneArea craneEntersFirst craneEntersSecond craneFails craneBack craneBackLate craneExitsSecond craneExitsFirst craneEnds askServerErr joined file lateConfig areasConfig queueConfig craneConfig craneInTime craneTooLate craneNumber craneEntersFailed craneTable isEdition partsSound hasStep marksInvalid topOf mostPending oneMore isNoAwaited awaitsWell isNoLife isNoOwed isNoStack endsWaiting waitingLets heldWell asksWaiting slotLets slotsLet slotsAfter holdOf giveUpOf wholeFrom wholeOf nothing observe historyFrom historyOf timeOf timeIn namedThere listedThere listsOf hasRoom listsWell hasField listsElements listedBelow sizeIn listedIn addListed copiedSound copiesSound copySound hasCopy isNoCopy copiesIn copyIn listsAt firstListed handedElements handedRunnables cleared copiedElements copiedInto noCopied noCopies
 failing-cranes = refl
 
 -- (i) the call at place 2 was ended at place 7 by the failure of the instance spawned for it. (j) it was ended by the timeout at place 8, and by nothing else
@@ -550,5 +551,5 @@ pub failing-histories : map followed (craneInTime ∷ craneTooLate ∷ []) ≡
       endings = record { on = 0; call = 2; at = 8; how = byTimeout } ∷ [];
     }
     ∷ []
-unfolding allOf allBelow anyBelow sumBelow maskBelow firstBelow eachBelow shifted placeFilled filled isVoid isPayload isKind isMask isGood sameValue runnableConfIn addRunnableConf variableConfIn addVariableConf areaConfIn addAreaConf requiredConfIn addRequiredConf providedConfIn addProvidedConf linkIn addLink operationConfIn addOperationConf timerConfIn addTimerConf dataEventIn addDataEvent returnEventIn addReturnEvent noConfig noRequests noRunnable noValues noElement noStack noSlot noRunnables runnableIn withRunnable noVariables variableIn withVariable noAreas areaIn withArea noElements elementIn withElement noOperations operationIn withOperation noTimers timerIn withTimer noSlots slotIn withSlot pushRequest firstRequest restRequests pushValue firstValue restValues pushArea topArea popArea startVariable startElement startRunnables startVariables startElements startOf maxOf countOf placesOf entryOf placed inRange namesThere isServer isQueued rises risesAt pairsWell entryFault isNoEntry placeSound kindSound configSound isNoClient clientFits requestsSound valuesSound runnableSound variableSound isStored elementSound isOutcome callingSound doneSound operationSound timerSound waitsWell lifeSound owedSound areaFits stackSound isNoSlot slotSound ofRunnable slotsOf countSound timesIn holders areaSound isClient queuedAs servedAs clientsAs clientSound queuedSound servedSound calledSound waitsOn waitersOf waiterSound runnablesSound variablesSound elementsSound operationsSound timersSound slotsSound countsSound areasSound clientsSound waitersSound shaped soundOf rows rowOf argues formed partThere queuesAs partOwn asksSynchronous finishedLets failedLets lifeLets ownedRefusal instanceRefusal schedulerRefusal refusalBy refusalOf readVariableOf writeVariableOf enterOf onTop exitOf readOf updatedOf linked accepts fedElement fedElements feeds isFed fedRunnables fed writeOf invalidateOf isFull fullMask sentOf sendOf receiveOf requestsFull callerAfter called callOf pollOf collectOf resultOf closing returns isReturned returnedRunnables closed answers handBackOf timeoutOf endOf isDue maySpawn starting instanceOf isEmptyAt lowestEmpty foundEmpty spawned spawnOf tickOf operationLets timerLets operationsLet timersLet operationAfter operationsAfter timersAfter runnablesAfter allLet waited waitOf failOf actOf possibleOf agrees claimedOf innerOf stepOf valuesGood tested stepIn endIn fieldOf sizeOf entryRead inOrder headOf bodyFault refusedAt readFrom configOf judgeFrom judgeOf restOf judgedLine readLine lineOf firstField lastField client server operation area queue sender link spawnClient spawnServer callSeven callAgain waitFifty waitLonger timesOut backLate backInTime askTimeout askNine askVoid enterFirst enterSecond exitFirst sendOne sendTwo sendThree receiveOne receiveTwo receiveNone craneArea craneEntersFirst craneEntersSecond craneFails craneBack craneBackLate craneExitsSecond craneExitsFirst craneEnds askServerErr joined file lateConfig areasConfig queueConfig craneConfig craneInTime craneTooLate craneNumber craneEntersFailed craneTable wholeFrom wholeOf nothing observe historyFrom historyOf followed isEdition partsSound hasStep marksInvalid topOf mostPending oneMore isNoAwaited awaitsWell isNoLife isNoOwed isNoStack endsWaiting waitingLets heldWell asksWaiting slotLets slotsLet slotsAfter holdOf giveUpOf timeOf timeIn
+unfolding allOf allBelow anyBelow sumBelow maskBelow firstBelow eachBelow shifted placeFilled filled isVoid isPayload isKind isMask isGood sameValue runnableConfIn addRunnableConf variableConfIn addVariableConf areaConfIn addAreaConf requiredConfIn addRequiredConf providedConfIn addProvidedConf linkIn addLink operationConfIn addOperationConf timerConfIn addTimerConf dataEventIn addDataEvent returnEventIn addReturnEvent noConfig noRequests noRunnable noValues noElement noStack noSlot noRunnables runnableIn withRunnable noVariables variableIn withVariable noAreas areaIn withArea noElements elementIn withElement noOperations operationIn withOperation noTimers timerIn withTimer noSlots slotIn withSlot pushRequest firstRequest restRequests pushValue firstValue restValues pushArea topArea popArea startVariable startElement startRunnables startVariables startElements startOf maxOf countOf placesOf entryOf placed inRange namesThere isServer isQueued rises risesAt pairsWell entryFault isNoEntry placeSound kindSound configSound isNoClient clientFits requestsSound valuesSound runnableSound variableSound isStored elementSound isOutcome callingSound doneSound operationSound timerSound waitsWell lifeSound owedSound areaFits stackSound isNoSlot slotSound ofRunnable slotsOf countSound timesIn holders areaSound isClient queuedAs servedAs clientsAs clientSound queuedSound servedSound calledSound waitsOn waitersOf waiterSound runnablesSound variablesSound elementsSound operationsSound timersSound slotsSound countsSound areasSound clientsSound waitersSound shaped soundOf rows rowOf argues formed partThere queuesAs partOwn asksSynchronous finishedLets failedLets lifeLets ownedRefusal instanceRefusal schedulerRefusal refusalBy refusalOf readVariableOf writeVariableOf enterOf onTop exitOf readOf updatedOf linked accepts fedElement fedElements feeds isFed fedRunnables fed writeOf invalidateOf isFull fullMask sentOf sendOf receiveOf requestsFull callerAfter called callOf pollOf collectOf resultOf closing returns isReturned returnedRunnables closed answers handBackOf timeoutOf endOf isDue maySpawn starting instanceOf isEmptyAt lowestEmpty foundEmpty spawned spawnOf tickOf operationLets timerLets operationsLet timersLet operationAfter operationsAfter timersAfter runnablesAfter allLet waited waitOf failOf actOf possibleOf agrees claimedOf innerOf stepOf valuesGood tested stepIn endIn fieldOf sizeOf entryRead inOrder headOf bodyFault refusedAt readFrom configOf judgeFrom judgeOf restOf judgedLine readLine lineOf firstField lastField client server operation area queue sender link spawnClient spawnServer callSeven callAgain waitFifty waitLonger timesOut backLate backInTime askTimeout askNine askVoid enterFirst enterSecond exitFirst sendOne sendTwo sendThree receiveOne receiveTwo receiveNone craneArea craneEntersFirst craneEntersSecond craneFails craneBack craneBackLate craneExitsSecond craneExitsFirst craneEnds askServerErr joined file lateConfig areasConfig queueConfig craneConfig craneInTime craneTooLate craneNumber craneEntersFailed craneTable wholeFrom wholeOf nothing observe historyFrom historyOf followed isEdition partsSound hasStep marksInvalid topOf mostPending oneMore isNoAwaited awaitsWell isNoLife isNoOwed isNoStack endsWaiting waitingLets heldWell asksWaiting slotLets slotsLet slotsAfter holdOf giveUpOf timeOf timeIn namedThere listedThere listsOf hasRoom listsWell hasField listsElements listedBelow sizeIn listedIn addListed copiedSound copiesSound copySound hasCopy isNoCopy copiesIn copyIn listsAt firstListed handedElements handedRunnables cleared copiedElements copiedInto noCopied noCopies
 failing-histories = refl

@@ -229,8 +229,18 @@ fn put_form(out: &mut [u8], at: usize, tag: u8) -> usize {
             b"18 data event: 2 bytes: runnable, required element",
         ),
         0x19 => put(out, at, b"19 return event: 2 bytes: runnable, operation"),
+        0x1a => put(
+            out,
+            at,
+            b"1a incoming: 2 bytes: runnable, required element that it copies at its start; in edition 2 alone",
+        ),
+        0x1b => put(
+            out,
+            at,
+            b"1b outgoing: 2 bytes: runnable, provided element that it writes at its end; in edition 2 alone",
+        ),
         0x7f => put(out, at, b"7f end: no bytes, and nothing behind it"),
-        _ => put(out, at, b"a tag of 01, 10 to 19, or 7f"),
+        _ => put(out, at, b"a tag of 01, 10 to 1b, or 7f"),
     }
 }
 
@@ -240,14 +250,18 @@ fn put_fault(out: &mut [u8], at: usize, k: u8) -> usize {
         21 => put(
             out,
             at,
-            b"the field is cut off, has an unknown tag or a wrong length, bytes follow the end, or the end is missing",
+            b"the field is cut off, has an unknown tag, a tag of another edition or a wrong length, bytes follow the end, or the end is missing",
         ),
         22 => put(
             out,
             at,
             b"fields stand in the order of their tags, and the edition (01) stands first and once",
         ),
-        23 => put(out, at, b"there are too many parts of this kind"),
+        23 => put(
+            out,
+            at,
+            b"there are too many parts of this kind, or a runnable lists more than four elements",
+        ),
         24 => put(out, at, b"a number in it is out of its range"),
         25 => put(
             out,
@@ -257,7 +271,7 @@ fn put_fault(out: &mut [u8], at: usize, k: u8) -> usize {
         26 => put(
             out,
             at,
-            b"parts that do not go together: a server with the init flag, with counting, a timer or an event; an initial that is not marked; a link of unlike kinds; an operation on a runnable that is no server; pairs of links or events that do not rise",
+            b"parts that do not go together: a server with the init flag, with counting, a timer or an event; an initial that is not marked; a link of unlike kinds; an operation on a runnable that is no server; pairs of links, events or lists that do not rise; a server that lists elements; a listed element that is queued or of another component",
         ),
         _ => put(out, at, b"it can't be read"),
     }
@@ -269,11 +283,38 @@ fn size_of(tag: u8) -> usize {
         0x01 | 0x12 => 1,
         0x10 | 0x16 => 7,
         0x11 => 6,
-        0x13 | 0x14 | 0x15 | 0x18 | 0x19 => 2,
+        0x13 | 0x14 | 0x15 | 0x18 | 0x19 | 0x1a | 0x1b => 2,
         0x17 => 5,
         0x7f => 0,
         _ => 65536,
     }
+}
+
+// A field that edition 2 alone has, in a file that does not start with that edition.
+fn is_early(s: &[u8], from: usize) -> bool {
+    let tag = byte_at(s, from);
+    if tag < 0x1a {
+        return false;
+    }
+    if 0x1b < tag {
+        return false;
+    }
+    if from == 0 {
+        return true;
+    }
+    byte_at(s, 3) != 2
+}
+
+// 21 of a field whose frame holds.
+fn put_whole(out: &mut [u8], at: usize, s: &[u8], from: usize) -> usize {
+    if is_early(s, from) {
+        return put(
+            out,
+            at,
+            b" Here no edition 2 stands in front, which alone has this field.",
+        );
+    }
+    put(out, at, b" Here bytes follow the end field.")
 }
 
 // 21: which of its cases it is.
@@ -305,7 +346,7 @@ fn put_frame(out: &mut [u8], at: usize, s: &[u8], from: usize) -> usize {
         if s.len() - from - 3 < want {
             return put(out, at, b" Here the file ends in the middle of the field.");
         }
-        return put(out, at, b" Here bytes follow the end field.");
+        return put_whole(out, at, s, from);
     }
     let a = put_with(out, at, b" Here the length says ", said as u64);
     put_with(out, a, b", and this field has ", want as u64)
@@ -356,7 +397,7 @@ fn put_range(out: &mut [u8], at: usize, s: &[u8], from: usize) -> usize {
     let next = put_high(out, at, b"component", first, 15);
     match tag {
         0x10 => {
-            let a = put_high(out, next, b"flags", second, 3);
+            let a = put_high(out, next, b"flags", second, 7);
             let b = put_high(out, a, b"start interval", byte_number(s, from + 5), 3600000);
             put_high(out, b, b"request capacity", byte_at(s, from + 9) as u32, 16)
         }

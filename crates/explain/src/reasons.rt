@@ -90,7 +90,7 @@ fn put_what_filled(out: &mut [u8], at: usize, s: Step) -> usize {
 
 fn put_no_code(out: &mut [u8], at: usize, s: Step) -> usize {
     let a = put_with(out, at, b"there is no step of code ", s.code as u64);
-    put(out, a, b": the codes are 1 to 21.")
+    put(out, a, b": the codes are 1 to 23.")
 }
 
 fn put_hands_number(out: &mut [u8], at: usize, s: Step) -> usize {
@@ -142,6 +142,24 @@ fn put_no_part(out: &mut [u8], at: usize, n: u8, s: Step) -> usize {
     }
     let d = put_with(out, c, b": it has ", n as u64);
     put(out, d, b" of that kind, and they are counted from 0.")
+}
+
+fn put_not_listed(out: &mut [u8], at: usize, names: &[u8], r: u8, tag: u8, k: u8) -> usize {
+    let a = put_part(out, at, names, 0x10, r);
+    let b = put(out, a, b" does not list ");
+    let c = put_part(out, b, names, tag, k);
+    if tag == 0x13 {
+        return put(
+            out,
+            c,
+            b" to be copied at its start, so its instances have no copy of it.",
+        );
+    }
+    put(
+        out,
+        c,
+        b" to be written at its end, so its instances have no copy of it.",
+    )
 }
 
 // 4: whose it is, and whether it is queued.
@@ -428,15 +446,28 @@ fn put_has_client(out: &mut [u8], at: usize, names: &[u8], o: u8, s: Step) -> us
     put(out, d, b", and has to hand back before it ends.")
 }
 
+// A copy answers what came before.
+fn put_kept(out: &mut [u8], at: usize, code: u8) -> usize {
+    if code == 22 {
+        return put(
+            out,
+            at,
+            b", which the element held when the instance started",
+        );
+    }
+    at
+}
+
 // 17: the right answer.
 fn put_differs(out: &mut [u8], at: usize, names: &[u8], v: Value, s: Step) -> usize {
     let a = put(out, at, b"the step is possible, and its answer is ");
     let b = put_answered(out, a, names, v);
-    let c = put(out, b, b"; ");
-    let d = put_who(out, c, s);
-    let e = put(out, d, b" claims ");
-    let f = put_answered(out, e, names, s.claim);
-    put(out, f, b".")
+    let c = put_kept(out, b, s.code);
+    let d = put(out, c, b"; ");
+    let e = put_who(out, d, s);
+    let f = put(out, e, b" claims ");
+    let g = put_answered(out, f, names, s.claim);
+    put(out, g, b".")
 }
 
 // 2 to 7 and 15.
@@ -451,6 +482,7 @@ fn put_first(out: &mut [u8], at: usize, names: &[u8], s: Step, c: Cause) -> usiz
         Cause::NoSlot => put_no_slot(out, at, s),
         Cause::EmptySlot => put_empty_slot(out, at, s),
         Cause::NoPart(n) => put_no_part(out, at, n, s),
+        Cause::NotListed(r, tag, k) => put_not_listed(out, at, names, r, tag, k),
         Cause::Foreign(a, b) => put_foreign(out, at, names, a, b, s),
         Cause::IsQueued => put_queued(out, at, names, s, true),
         Cause::NotQueued => put_queued(out, at, names, s, false),

@@ -13,12 +13,14 @@ use crate::putting::show_trimmed;
 use crate::words::is_slots;
 use crate::words::put_answer;
 use crate::words::put_answered;
+use crate::words::put_count;
 use crate::words::put_deed;
 use crate::words::put_part;
 use crate::words::put_slot;
 use crate::words::put_value;
 use config::Config;
 use recording::Field;
+use state::Copies;
 use state::State;
 use values::Answer;
 use values::Step;
@@ -211,6 +213,26 @@ pub(crate) fn put_meant(out: &mut [u8], at: usize, names: &[u8], code: u8, v: Va
     put_remark(out, a, code, v)
 }
 
+// How many values an end writes; none goes without saying.
+fn put_given(out: &mut [u8], at: usize, n: u8) -> usize {
+    if n == 0 {
+        return at;
+    }
+    let a = put(out, at, b", writes ");
+    put_count(out, a, n as u64, b"value")
+}
+
+// What an accepted step came to: a copy holds what its element held at the start, and what is set is written at the end.
+fn put_outcome(out: &mut [u8], at: usize, x: Step) -> usize {
+    let code = x.code;
+    match code {
+        14 => put_given(out, at, x.what),
+        22 => put(out, at, b", as at its start"),
+        23 => put(out, at, b", for its end"),
+        _ => put_remark(out, at, code, x.claim),
+    }
+}
+
 // An accepted step in its lane or in the scheduler's column.
 pub(crate) fn put_done(out: &mut [u8], at: usize, names: &[u8], x: Step) -> usize {
     if x.code == 19 {
@@ -218,7 +240,7 @@ pub(crate) fn put_done(out: &mut [u8], at: usize, names: &[u8], x: Step) -> usiz
     }
     let a = put_deed(out, at, names, x);
     let b = put_answer(out, a, names, x.claim);
-    put_remark(out, b, x.code, x.claim)
+    put_outcome(out, b, x)
 }
 
 // The refused step there: what was recorded and what is right, or that it is not possible.
@@ -691,6 +713,41 @@ fn answering(x: Step, a: Answer) -> Step {
     }
 }
 
+// A value was set at a place of what an instance writes at its end.
+fn is_set(c: Copies, j: u8) -> bool {
+    let v = c.get(j);
+    v.is_payload()
+}
+
+fn set_of(c: Copies) -> usize {
+    let a = counted(0, is_set(c, 0));
+    let b = counted(a, is_set(c, 1));
+    let d = counted(b, is_set(c, 2));
+    counted(d, is_set(c, 3))
+}
+
+// How many values the end of an instance writes: one that has failed writes none.
+fn given(st: State, i: u8) -> u8 {
+    let slots = st.slots;
+    let x = slots.get(i);
+    let l = x.life;
+    if l.failed {
+        return 0;
+    }
+    let outgoing = st.outgoing;
+    (set_of(outgoing.get(i)) % 8) as u8
+}
+
+// The step with the number of values that it writes in place of a part, where it is an end, which names none.
+fn giving(st: State, x: Step) -> Step {
+    let mut y = x;
+    if x.code == 14 {
+        y.what = given(st, x.who);
+        return y;
+    }
+    y
+}
+
 // One accepted step of a walk.
 fn pass(
     cfg: Config,
@@ -709,7 +766,7 @@ fn pass(
     let mut u = t;
     u.state = after;
     u.ms = later(t.ms, x);
-    weigh(names, s, p, u, o, answering(x, a), place)
+    weigh(names, s, p, u, o, giving(st, answering(x, a)), place)
 }
 
 // The accepted steps from the start on.

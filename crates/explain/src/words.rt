@@ -37,6 +37,8 @@ pub(crate) fn put_kind(out: &mut [u8], at: usize, tag: u8) -> usize {
         0x17 => put(out, at, b"timer"),
         0x18 => put(out, at, b"data event"),
         0x19 => put(out, at, b"return event"),
+        0x1a => put(out, at, b"incoming"),
+        0x1b => put(out, at, b"outgoing"),
         0x7f => put(out, at, b"end"),
         _ => put(out, at, b"part"),
     }
@@ -75,6 +77,8 @@ fn put_verb(out: &mut [u8], at: usize, code: u8) -> usize {
         19 => put(out, at, b"fail"),
         20 => put(out, at, b"hold"),
         21 => put(out, at, b"give up"),
+        22 => put(out, at, b"read copy"),
+        23 => put(out, at, b"write copy"),
         _ => put_with(out, at, b"step of code ", code as u64),
     }
 }

@@ -24,6 +24,8 @@ pub use Rattle.config.specs.declared.DataEvent.{DataEvent}
 pub use Rattle.config.specs.declared.DataEvents.{DataEvents}
 pub use Rattle.config.specs.declared.ReturnEvent.{ReturnEvent}
 pub use Rattle.config.specs.declared.ReturnEvents.{ReturnEvents}
+pub use Rattle.config.specs.declared.Listed.{Listed}
+pub use Rattle.config.specs.declared.Lists.{Lists}
 pub use Rattle.config.specs.declared.Config.{Config}
 pub use Rattle.state.specs.declared.Client.{Client}
 pub use Rattle.state.specs.declared.Requests.{Requests}
@@ -46,6 +48,8 @@ pub use Rattle.state.specs.declared.Elements.{Elements}
 pub use Rattle.state.specs.declared.Operations.{Operations}
 pub use Rattle.state.specs.declared.Timers.{Timers}
 pub use Rattle.state.specs.declared.Slots.{Slots}
+pub use Rattle.state.specs.declared.Copies.{Copies}
+pub use Rattle.state.specs.declared.Copied.{Copied}
 pub use Rattle.state.specs.declared.State.{State}
 pub use Rattle.state.specs.declared.Stepped.{Stepped}
 pub use Rattle.entries.specs.declared.Entry.{Entry}

@@ -50,7 +50,8 @@ module _ (cfg : Config) (t : Elements) (e : length (cfg .required .at) ≡ 16) w
   unfolding feedsBy feeds
   feeds-by p r k = rw (room-in (dataEventIn (cfg .devents) k .required))
 
-  fed-by : (p r : ℕ) → isFedBy cfg (roomsOf cfg t) p r ≡ isFed cfg t p r
+  -- some data event is one that p feeds
+  pub fed-by : (p r : ℕ) → isFedBy cfg (roomsOf cfg t) p r ≡ isFed cfg t p r
   unfolding isFedBy isFed
   fed-by p r = any-same (feedsBy cfg (roomsOf cfg t) p r) (feeds cfg t p r) (cfg .devents .n) (λ k l. feeds-by p r k)
 

@@ -6,22 +6,23 @@ use mathlib.Core.Bool.{true, false}
 use mathlib.Core.List.{List, [], _∷_, map}
 use mathlib.Core.Path.{_≡_, refl, _∙_, ap}
 use lib.ListN.{replicate, set}
+use Rattle.config.specs.Lists.{firstListed, listedBelow, listsAt}
 use Rattle.laws.specs.Choice.{allOf}
 use Rattle.laws.specs.Loop.{allBelow, anyBelow, sumBelow, firstBelow}
 use Rattle.laws.specs.Mask.{maskBelow}
 use Rattle.laws.specs.Row.{eachBelow, shifted, placeFilled, filled}
 use Rattle.values.specs.Values.{isVoid, isPayload, isKind, isMask, isGood, sameValue, voidV, numberV, okV, timeoutV}
-use Rattle.config.specs.Editions.{firstEdition, isEdition, marksInvalid, hasStep}
-use Rattle.config.specs.Tables.{runnableConfIn, variableConfIn, areaConfIn, requiredConfIn, providedConfIn, linkIn, operationConfIn, timerConfIn, dataEventIn, returnEventIn, noRunnableConf, noVariableConfs, noAreaConfs, noRequiredConfs, noProvidedConfs, noLinks, noOperationConf, noTimerConfs, noDataEvents, noReturnEvents, topOf}
-use Rattle.state.specs.Parts.{noRequests, noRunnable, noValues, noElement, noStack, noSlot, noClient, noOwed, noOperation, noAwaited}
-use Rattle.state.specs.Tables.{noRunnables, runnableIn, withRunnable, noVariables, variableIn, withVariable, noAreas, areaIn, withArea, noElements, elementIn, withElement, noOperations, operationIn, withOperation, noTimers, timerIn, withTimer, noSlots, slotIn, withSlot}
+use Rattle.config.specs.Editions.{firstEdition, isEdition, marksInvalid, hasStep, hasField, listsElements}
+use Rattle.config.specs.Tables.{runnableConfIn, variableConfIn, areaConfIn, requiredConfIn, providedConfIn, linkIn, operationConfIn, timerConfIn, dataEventIn, returnEventIn, noRunnableConf, noVariableConfs, noAreaConfs, noRequiredConfs, noProvidedConfs, noLinks, noOperationConf, noTimerConfs, noDataEvents, noReturnEvents, noLists, topOf, listedIn}
+use Rattle.state.specs.Parts.{noRequests, noRunnable, noValues, noElement, noStack, noSlot, noClient, noOwed, noOperation, noAwaited, noCopies}
+use Rattle.state.specs.Tables.{noRunnables, runnableIn, withRunnable, noVariables, variableIn, withVariable, noAreas, areaIn, withArea, noElements, elementIn, withElement, noOperations, operationIn, withOperation, noTimers, timerIn, withTimer, noSlots, slotIn, withSlot, copiesIn, copyIn, noCopied}
 use Rattle.state.specs.Queues.{pushRequest, firstRequest, restRequests, pushValue, firstValue, restValues, pushArea, topArea, popArea}
 use Rattle.entries.specs.Entries.{maxOf, countOf, placesOf, entryOf}
-use Rattle.entries.specs.Faults.{inRange, namesThere, isServer, isQueued, rises, risesAt, pairsWell, entryFault, isNoEntry, placeSound, kindSound, configSound, partsSound}
-use Rattle.rules.specs.Sound.{isNoClient, clientFits, requestsSound, valuesSound, runnableSound, variableSound, isStored, elementSound, isOutcome, callingSound, doneSound, operationSound, timerSound, waitsWell, lifeSound, owedSound, areaFits, stackSound, isNoSlot, slotSound, ofRunnable, slotsOf, countSound, timesIn, holders, areaSound, isClient, queuedAs, servedAs, clientsAs, clientSound, queuedSound, servedSound, calledSound, runnablesSound, variablesSound, elementsSound, operationsSound, timersSound, slotsSound, countsSound, areasSound, clientsSound, shaped, waitsOn, waitersOf, waiterSound, waitersSound, soundOf, mostPending, isNoAwaited, awaitsWell, isNoLife, isNoOwed, isNoStack, heldWell}
+use Rattle.entries.specs.Faults.{inRange, namesThere, isServer, isQueued, rises, risesAt, pairsWell, entryFault, isNoEntry, placeSound, kindSound, configSound, partsSound, hasRoom, listsWell}
+use Rattle.rules.specs.Sound.{isNoClient, clientFits, requestsSound, valuesSound, runnableSound, variableSound, isStored, elementSound, isOutcome, callingSound, doneSound, operationSound, timerSound, waitsWell, lifeSound, owedSound, areaFits, stackSound, isNoSlot, slotSound, ofRunnable, slotsOf, countSound, timesIn, holders, areaSound, isClient, queuedAs, servedAs, clientsAs, clientSound, queuedSound, servedSound, calledSound, runnablesSound, variablesSound, elementsSound, operationsSound, timersSound, slotsSound, countsSound, areasSound, clientsSound, shaped, waitsOn, waitersOf, waiterSound, waitersSound, soundOf, mostPending, isNoAwaited, awaitsWell, isNoLife, isNoOwed, isNoStack, heldWell, copiedSound, copiesSound, copySound, hasCopy, isNoCopy}
 use Rattle.rules.specs.Rows.{rows, rowOf}
-use Rattle.rules.specs.Refusals.{argues, formed, partThere, queuesAs, partOwn, asksSynchronous, finishedLets, failedLets, lifeLets, ownedRefusal, instanceRefusal, schedulerRefusal, refusalBy, refusalOf, endsWaiting, waitingLets, asksWaiting}
-use Rattle.effects.specs.Steps.{oneMore, readVariableOf, writeVariableOf, enterOf, onTop, exitOf, readOf, updatedOf, linked, accepts, fedElement, fedElements, feeds, isFed, fedRunnables, fed, writeOf, invalidateOf, isFull, fullMask, sentOf, sendOf, receiveOf, requestsFull, callerAfter, called, callOf, pollOf, collectOf, resultOf, closing, returns, isReturned, returnedRunnables, closed, answers, handBackOf, timeoutOf, endOf, isDue, maySpawn, starting, instanceOf, isEmptyAt, lowestEmpty, foundEmpty, spawned, spawnOf, tickOf, operationLets, timerLets, operationsLet, timersLet, operationAfter, operationsAfter, timersAfter, runnablesAfter, allLet, waited, waitOf, failOf, slotLets, slotsLet, slotsAfter, holdOf, giveUpOf}
+use Rattle.rules.specs.Refusals.{argues, formed, partThere, queuesAs, partOwn, asksSynchronous, finishedLets, failedLets, lifeLets, ownedRefusal, instanceRefusal, schedulerRefusal, refusalBy, refusalOf, endsWaiting, waitingLets, asksWaiting, listedThere, listsOf, namedThere}
+use Rattle.effects.specs.Steps.{oneMore, readVariableOf, writeVariableOf, enterOf, onTop, exitOf, readOf, updatedOf, linked, accepts, fedElement, fedElements, feeds, isFed, fedRunnables, fed, writeOf, invalidateOf, isFull, fullMask, sentOf, sendOf, receiveOf, requestsFull, callerAfter, called, callOf, pollOf, collectOf, resultOf, closing, returns, isReturned, returnedRunnables, closed, answers, handBackOf, timeoutOf, endOf, isDue, maySpawn, starting, instanceOf, isEmptyAt, lowestEmpty, foundEmpty, spawned, spawnOf, tickOf, operationLets, timerLets, operationsLet, timersLet, operationAfter, operationsAfter, timersAfter, runnablesAfter, allLet, waited, waitOf, failOf, slotLets, slotsLet, slotsAfter, holdOf, giveUpOf, cleared, copiedElements, copiedInto, handedElements, handedRunnables}
 use Rattle.effects.specs.Step.{actOf, possibleOf, agrees, claimedOf, innerOf, stepOf}
 use Rattle.recording.specs.Recording.{valuesGood, tested, stepIn, endIn, fieldOf}
 use Rattle.recording.specs.Whole.{wholeFrom, wholeOf, textOf}
@@ -56,6 +57,8 @@ config = record {
   timers = noTimerConfs;
   devents = noDataEvents;
   revents = noReturnEvents;
+  incoming = noLists;
+  outgoing = noLists;
   edition = firstEdition;
 }
 
@@ -90,6 +93,8 @@ stateWith x n q y = record {
   operations = record { at = set (replicate 8 noOperation) 0 x };
   timers = noTimers;
   slots = record { at = set (set (replicate 32 noSlot) 0 (running 0 noOwed)) 1 y };
+  incoming = noCopied;
+  outgoing = noCopied;
 }
 
 -- the old client is served, in slot 1
@@ -163,7 +168,7 @@ pub served-goes-round : seenFrom servedLast (call 5 ∷ spawn 2 ∷ back 2 6 1 �
     ∷ seen (Taken (numberV 6)) (done 0 (numberV 6))
     ∷ seen (Taken okV) (calling 0 50)
     ∷ []
-unfolding allOf allBelow anyBelow sumBelow maskBelow firstBelow eachBelow shifted placeFilled filled isVoid isPayload isKind isMask isGood sameValue runnableConfIn variableConfIn areaConfIn requiredConfIn providedConfIn linkIn operationConfIn timerConfIn dataEventIn returnEventIn noRequests noRunnable noValues noElement noStack noSlot noRunnables runnableIn withRunnable noVariables variableIn withVariable noAreas areaIn withArea noElements elementIn withElement noOperations operationIn withOperation noTimers timerIn withTimer noSlots slotIn withSlot pushRequest firstRequest restRequests pushValue firstValue restValues pushArea topArea popArea maxOf countOf placesOf entryOf inRange namesThere isServer isQueued rises risesAt pairsWell entryFault isNoEntry placeSound kindSound configSound isNoClient clientFits requestsSound valuesSound runnableSound variableSound isStored elementSound isOutcome callingSound doneSound operationSound timerSound waitsWell lifeSound owedSound areaFits stackSound isNoSlot slotSound ofRunnable slotsOf countSound timesIn holders areaSound isClient queuedAs servedAs clientsAs clientSound queuedSound servedSound calledSound runnablesSound variablesSound elementsSound operationsSound timersSound slotsSound countsSound areasSound clientsSound shaped soundOf rows rowOf argues formed partThere queuesAs partOwn asksSynchronous finishedLets failedLets lifeLets ownedRefusal instanceRefusal schedulerRefusal refusalBy refusalOf readVariableOf writeVariableOf enterOf onTop exitOf readOf updatedOf linked accepts fedElement fedElements feeds isFed fedRunnables fed writeOf invalidateOf isFull fullMask sentOf sendOf receiveOf requestsFull callerAfter called callOf pollOf collectOf resultOf closing returns isReturned returnedRunnables closed answers handBackOf timeoutOf endOf isDue maySpawn starting instanceOf isEmptyAt lowestEmpty foundEmpty spawned spawnOf tickOf operationLets timerLets operationsLet timersLet operationAfter operationsAfter timersAfter runnablesAfter allLet waited waitOf failOf actOf possibleOf agrees claimedOf innerOf stepOf config done calling bearing running stateWith served last servedLast step call spawn back ask seen seenFrom waitsOn waitersOf waiterSound waitersSound isEdition partsSound hasStep marksInvalid topOf mostPending oneMore isNoAwaited awaitsWell isNoLife isNoOwed isNoStack endsWaiting waitingLets heldWell asksWaiting slotLets slotsLet slotsAfter holdOf giveUpOf valuesGood tested stepIn endIn fieldOf textOf judgeFrom judgeOf isUnplanned doneShown operationShown judgedShown each passedOver behind sequences upToThree choicesIn sequencesOf fills rankOf answeredAll stateAfter turnsOf wholeFrom wholeOf mendedSteps noteCount turnNotes stepNotes surveyOf
+unfolding allOf allBelow anyBelow sumBelow maskBelow firstBelow eachBelow shifted placeFilled filled isVoid isPayload isKind isMask isGood sameValue runnableConfIn variableConfIn areaConfIn requiredConfIn providedConfIn linkIn operationConfIn timerConfIn dataEventIn returnEventIn noRequests noRunnable noValues noElement noStack noSlot noRunnables runnableIn withRunnable noVariables variableIn withVariable noAreas areaIn withArea noElements elementIn withElement noOperations operationIn withOperation noTimers timerIn withTimer noSlots slotIn withSlot pushRequest firstRequest restRequests pushValue firstValue restValues pushArea topArea popArea maxOf countOf placesOf entryOf inRange namesThere isServer isQueued rises risesAt pairsWell entryFault isNoEntry placeSound kindSound configSound isNoClient clientFits requestsSound valuesSound runnableSound variableSound isStored elementSound isOutcome callingSound doneSound operationSound timerSound waitsWell lifeSound owedSound areaFits stackSound isNoSlot slotSound ofRunnable slotsOf countSound timesIn holders areaSound isClient queuedAs servedAs clientsAs clientSound queuedSound servedSound calledSound runnablesSound variablesSound elementsSound operationsSound timersSound slotsSound countsSound areasSound clientsSound shaped soundOf rows rowOf argues formed partThere queuesAs partOwn asksSynchronous finishedLets failedLets lifeLets ownedRefusal instanceRefusal schedulerRefusal refusalBy refusalOf readVariableOf writeVariableOf enterOf onTop exitOf readOf updatedOf linked accepts fedElement fedElements feeds isFed fedRunnables fed writeOf invalidateOf isFull fullMask sentOf sendOf receiveOf requestsFull callerAfter called callOf pollOf collectOf resultOf closing returns isReturned returnedRunnables closed answers handBackOf timeoutOf endOf isDue maySpawn starting instanceOf isEmptyAt lowestEmpty foundEmpty spawned spawnOf tickOf operationLets timerLets operationsLet timersLet operationAfter operationsAfter timersAfter runnablesAfter allLet waited waitOf failOf actOf possibleOf agrees claimedOf innerOf stepOf config done calling bearing running stateWith served last servedLast step call spawn back ask seen seenFrom waitsOn waitersOf waiterSound waitersSound isEdition partsSound hasStep marksInvalid topOf mostPending oneMore isNoAwaited awaitsWell isNoLife isNoOwed isNoStack endsWaiting waitingLets heldWell asksWaiting slotLets slotsLet slotsAfter holdOf giveUpOf valuesGood tested stepIn endIn fieldOf textOf judgeFrom judgeOf isUnplanned doneShown operationShown judgedShown each passedOver behind sequences upToThree choicesIn sequencesOf fills rankOf answeredAll stateAfter turnsOf wholeFrom wholeOf mendedSteps noteCount turnNotes stepNotes surveyOf namedThere listedThere listsOf hasRoom listsWell hasField listsElements listedBelow listedIn copiedSound copiesSound copySound hasCopy isNoCopy copiesIn copyIn listsAt firstListed handedElements handedRunnables cleared copiedElements copiedInto noCopied noCopies
 served-goes-round = refl
 
 -- an old client still queued: the call times out, and the number is 0; a call is 28, though the queue is full, and 28 again when a spawn has put the old client on an instance; behind its hand back, which is answered 0, a call is accepted
@@ -178,12 +183,12 @@ pub queued-goes-round : seenFrom queuedLast (call 5 ∷ waitFifty ∷ timesOut �
     ∷ seen (Taken timeoutV) (done 0 timeoutV)
     ∷ seen (Taken okV) (calling 0 50)
     ∷ []
-unfolding allOf allBelow anyBelow sumBelow maskBelow firstBelow eachBelow shifted placeFilled filled isVoid isPayload isKind isMask isGood sameValue runnableConfIn variableConfIn areaConfIn requiredConfIn providedConfIn linkIn operationConfIn timerConfIn dataEventIn returnEventIn noRequests noRunnable noValues noElement noStack noSlot noRunnables runnableIn withRunnable noVariables variableIn withVariable noAreas areaIn withArea noElements elementIn withElement noOperations operationIn withOperation noTimers timerIn withTimer noSlots slotIn withSlot pushRequest firstRequest restRequests pushValue firstValue restValues pushArea topArea popArea maxOf countOf placesOf entryOf inRange namesThere isServer isQueued rises risesAt pairsWell entryFault isNoEntry placeSound kindSound configSound isNoClient clientFits requestsSound valuesSound runnableSound variableSound isStored elementSound isOutcome callingSound doneSound operationSound timerSound waitsWell lifeSound owedSound areaFits stackSound isNoSlot slotSound ofRunnable slotsOf countSound timesIn holders areaSound isClient queuedAs servedAs clientsAs clientSound queuedSound servedSound calledSound runnablesSound variablesSound elementsSound operationsSound timersSound slotsSound countsSound areasSound clientsSound shaped soundOf rows rowOf argues formed partThere queuesAs partOwn asksSynchronous finishedLets failedLets lifeLets ownedRefusal instanceRefusal schedulerRefusal refusalBy refusalOf readVariableOf writeVariableOf enterOf onTop exitOf readOf updatedOf linked accepts fedElement fedElements feeds isFed fedRunnables fed writeOf invalidateOf isFull fullMask sentOf sendOf receiveOf requestsFull callerAfter called callOf pollOf collectOf resultOf closing returns isReturned returnedRunnables closed answers handBackOf timeoutOf endOf isDue maySpawn starting instanceOf isEmptyAt lowestEmpty foundEmpty spawned spawnOf tickOf operationLets timerLets operationsLet timersLet operationAfter operationsAfter timersAfter runnablesAfter allLet waited waitOf failOf actOf possibleOf agrees claimedOf innerOf stepOf config done calling bearing running stateWith queued last queuedLast step call spawn back ask waitFifty timesOut seen seenFrom waitsOn waitersOf waiterSound waitersSound isEdition partsSound hasStep marksInvalid topOf mostPending oneMore isNoAwaited awaitsWell isNoLife isNoOwed isNoStack endsWaiting waitingLets heldWell asksWaiting slotLets slotsLet slotsAfter holdOf giveUpOf valuesGood tested stepIn endIn fieldOf textOf judgeFrom judgeOf isUnplanned doneShown operationShown judgedShown each passedOver behind sequences upToThree choicesIn sequencesOf fills rankOf answeredAll stateAfter turnsOf wholeFrom wholeOf mendedSteps noteCount turnNotes stepNotes surveyOf
+unfolding allOf allBelow anyBelow sumBelow maskBelow firstBelow eachBelow shifted placeFilled filled isVoid isPayload isKind isMask isGood sameValue runnableConfIn variableConfIn areaConfIn requiredConfIn providedConfIn linkIn operationConfIn timerConfIn dataEventIn returnEventIn noRequests noRunnable noValues noElement noStack noSlot noRunnables runnableIn withRunnable noVariables variableIn withVariable noAreas areaIn withArea noElements elementIn withElement noOperations operationIn withOperation noTimers timerIn withTimer noSlots slotIn withSlot pushRequest firstRequest restRequests pushValue firstValue restValues pushArea topArea popArea maxOf countOf placesOf entryOf inRange namesThere isServer isQueued rises risesAt pairsWell entryFault isNoEntry placeSound kindSound configSound isNoClient clientFits requestsSound valuesSound runnableSound variableSound isStored elementSound isOutcome callingSound doneSound operationSound timerSound waitsWell lifeSound owedSound areaFits stackSound isNoSlot slotSound ofRunnable slotsOf countSound timesIn holders areaSound isClient queuedAs servedAs clientsAs clientSound queuedSound servedSound calledSound runnablesSound variablesSound elementsSound operationsSound timersSound slotsSound countsSound areasSound clientsSound shaped soundOf rows rowOf argues formed partThere queuesAs partOwn asksSynchronous finishedLets failedLets lifeLets ownedRefusal instanceRefusal schedulerRefusal refusalBy refusalOf readVariableOf writeVariableOf enterOf onTop exitOf readOf updatedOf linked accepts fedElement fedElements feeds isFed fedRunnables fed writeOf invalidateOf isFull fullMask sentOf sendOf receiveOf requestsFull callerAfter called callOf pollOf collectOf resultOf closing returns isReturned returnedRunnables closed answers handBackOf timeoutOf endOf isDue maySpawn starting instanceOf isEmptyAt lowestEmpty foundEmpty spawned spawnOf tickOf operationLets timerLets operationsLet timersLet operationAfter operationsAfter timersAfter runnablesAfter allLet waited waitOf failOf actOf possibleOf agrees claimedOf innerOf stepOf config done calling bearing running stateWith queued last queuedLast step call spawn back ask waitFifty timesOut seen seenFrom waitsOn waitersOf waiterSound waitersSound isEdition partsSound hasStep marksInvalid topOf mostPending oneMore isNoAwaited awaitsWell isNoLife isNoOwed isNoStack endsWaiting waitingLets heldWell asksWaiting slotLets slotsLet slotsAfter holdOf giveUpOf valuesGood tested stepIn endIn fieldOf textOf judgeFrom judgeOf isUnplanned doneShown operationShown judgedShown each passedOver behind sequences upToThree choicesIn sequencesOf fills rankOf answeredAll stateAfter turnsOf wholeFrom wholeOf mendedSteps noteCount turnNotes stepNotes surveyOf namedThere listedThere listsOf hasRoom listsWell hasField listsElements listedBelow listedIn copiedSound copiesSound copySound hasCopy isNoCopy copiesIn copyIn listsAt firstListed handedElements handedRunnables cleared copiedElements copiedInto noCopied noCopies
 queued-goes-round = refl
 
 -- both first states are sound, and so is one in which the last number is open
 pub sound-there : map (soundOf config) (servedLast ∷ queuedLast ∷ stateWith (calling 65535 7) 0 (record { queued = 2; at = set (set (replicate 16 noClient) 0 (bearing 0)) 1 (bearing 65535) }) noSlot ∷ []) ≡ true ∷ true ∷ true ∷ []
-unfolding allOf allBelow anyBelow sumBelow maskBelow firstBelow eachBelow shifted placeFilled filled isVoid isPayload isKind isMask isGood sameValue runnableConfIn variableConfIn areaConfIn requiredConfIn providedConfIn linkIn operationConfIn timerConfIn dataEventIn returnEventIn noRequests noRunnable noValues noElement noStack noSlot noRunnables runnableIn withRunnable noVariables variableIn withVariable noAreas areaIn withArea noElements elementIn withElement noOperations operationIn withOperation noTimers timerIn withTimer noSlots slotIn withSlot pushRequest firstRequest restRequests pushValue firstValue restValues pushArea topArea popArea maxOf countOf placesOf entryOf inRange namesThere isServer isQueued rises risesAt pairsWell entryFault isNoEntry placeSound kindSound configSound isNoClient clientFits requestsSound valuesSound runnableSound variableSound isStored elementSound isOutcome callingSound doneSound operationSound timerSound waitsWell lifeSound owedSound areaFits stackSound isNoSlot slotSound ofRunnable slotsOf countSound timesIn holders areaSound isClient queuedAs servedAs clientsAs clientSound queuedSound servedSound calledSound runnablesSound variablesSound elementsSound operationsSound timersSound slotsSound countsSound areasSound clientsSound shaped soundOf rows rowOf argues formed partThere queuesAs partOwn asksSynchronous finishedLets failedLets lifeLets ownedRefusal instanceRefusal schedulerRefusal refusalBy refusalOf readVariableOf writeVariableOf enterOf onTop exitOf readOf updatedOf linked accepts fedElement fedElements feeds isFed fedRunnables fed writeOf invalidateOf isFull fullMask sentOf sendOf receiveOf requestsFull callerAfter called callOf pollOf collectOf resultOf closing returns isReturned returnedRunnables closed answers handBackOf timeoutOf endOf isDue maySpawn starting instanceOf isEmptyAt lowestEmpty foundEmpty spawned spawnOf tickOf operationLets timerLets operationsLet timersLet operationAfter operationsAfter timersAfter runnablesAfter allLet waited waitOf failOf actOf possibleOf agrees claimedOf innerOf stepOf config done calling bearing running stateWith served queued last servedLast queuedLast waitsOn waitersOf waiterSound waitersSound isEdition partsSound hasStep marksInvalid topOf mostPending oneMore isNoAwaited awaitsWell isNoLife isNoOwed isNoStack endsWaiting waitingLets heldWell asksWaiting slotLets slotsLet slotsAfter holdOf giveUpOf valuesGood tested stepIn endIn fieldOf textOf judgeFrom judgeOf isUnplanned doneShown operationShown judgedShown each passedOver behind sequences upToThree choicesIn sequencesOf fills rankOf answeredAll stateAfter turnsOf wholeFrom wholeOf mendedSteps noteCount turnNotes stepNotes surveyOf
+unfolding allOf allBelow anyBelow sumBelow maskBelow firstBelow eachBelow shifted placeFilled filled isVoid isPayload isKind isMask isGood sameValue runnableConfIn variableConfIn areaConfIn requiredConfIn providedConfIn linkIn operationConfIn timerConfIn dataEventIn returnEventIn noRequests noRunnable noValues noElement noStack noSlot noRunnables runnableIn withRunnable noVariables variableIn withVariable noAreas areaIn withArea noElements elementIn withElement noOperations operationIn withOperation noTimers timerIn withTimer noSlots slotIn withSlot pushRequest firstRequest restRequests pushValue firstValue restValues pushArea topArea popArea maxOf countOf placesOf entryOf inRange namesThere isServer isQueued rises risesAt pairsWell entryFault isNoEntry placeSound kindSound configSound isNoClient clientFits requestsSound valuesSound runnableSound variableSound isStored elementSound isOutcome callingSound doneSound operationSound timerSound waitsWell lifeSound owedSound areaFits stackSound isNoSlot slotSound ofRunnable slotsOf countSound timesIn holders areaSound isClient queuedAs servedAs clientsAs clientSound queuedSound servedSound calledSound runnablesSound variablesSound elementsSound operationsSound timersSound slotsSound countsSound areasSound clientsSound shaped soundOf rows rowOf argues formed partThere queuesAs partOwn asksSynchronous finishedLets failedLets lifeLets ownedRefusal instanceRefusal schedulerRefusal refusalBy refusalOf readVariableOf writeVariableOf enterOf onTop exitOf readOf updatedOf linked accepts fedElement fedElements feeds isFed fedRunnables fed writeOf invalidateOf isFull fullMask sentOf sendOf receiveOf requestsFull callerAfter called callOf pollOf collectOf resultOf closing returns isReturned returnedRunnables closed answers handBackOf timeoutOf endOf isDue maySpawn starting instanceOf isEmptyAt lowestEmpty foundEmpty spawned spawnOf tickOf operationLets timerLets operationsLet timersLet operationAfter operationsAfter timersAfter runnablesAfter allLet waited waitOf failOf actOf possibleOf agrees claimedOf innerOf stepOf config done calling bearing running stateWith served queued last servedLast queuedLast waitsOn waitersOf waiterSound waitersSound isEdition partsSound hasStep marksInvalid topOf mostPending oneMore isNoAwaited awaitsWell isNoLife isNoOwed isNoStack endsWaiting waitingLets heldWell asksWaiting slotLets slotsLet slotsAfter holdOf giveUpOf valuesGood tested stepIn endIn fieldOf textOf judgeFrom judgeOf isUnplanned doneShown operationShown judgedShown each passedOver behind sequences upToThree choicesIn sequencesOf fills rankOf answeredAll stateAfter turnsOf wholeFrom wholeOf mendedSteps noteCount turnNotes stepNotes surveyOf namedThere listedThere listsOf hasRoom listsWell hasField listsElements listedBelow listedIn copiedSound copiesSound copySound hasCopy isNoCopy copiesIn copyIn listsAt firstListed handedElements handedRunnables cleared copiedElements copiedInto noCopied noCopies
 sound-there = refl
 
 -- ---- what the board shows, judged from such a state on
@@ -201,7 +206,7 @@ plans =
 
 -- the plan of the call before; the call is open; its plan is final; a call with 28 is not judged; the old client's number 9 is never shown; the next call is open
 pub board-goes-round : map (λ (rs : List Step). judgedShown 0 (judgeOf config servedLast (textOf rs) 9)) plans ≡ Final 8 ∷ Wait ∷ Final 6 ∷ Unjudged ∷ Final 6 ∷ Wait ∷ []
-unfolding allOf allBelow anyBelow sumBelow maskBelow firstBelow eachBelow shifted placeFilled filled isVoid isPayload isKind isMask isGood sameValue runnableConfIn variableConfIn areaConfIn requiredConfIn providedConfIn linkIn operationConfIn timerConfIn dataEventIn returnEventIn noRequests noRunnable noValues noElement noStack noSlot noRunnables runnableIn withRunnable noVariables variableIn withVariable noAreas areaIn withArea noElements elementIn withElement noOperations operationIn withOperation noTimers timerIn withTimer noSlots slotIn withSlot pushRequest firstRequest restRequests pushValue firstValue restValues pushArea topArea popArea maxOf countOf placesOf entryOf inRange namesThere isServer isQueued rises risesAt pairsWell entryFault isNoEntry placeSound kindSound configSound isNoClient clientFits requestsSound valuesSound runnableSound variableSound isStored elementSound isOutcome callingSound doneSound operationSound timerSound waitsWell lifeSound owedSound areaFits stackSound isNoSlot slotSound ofRunnable slotsOf countSound timesIn holders areaSound isClient queuedAs servedAs clientsAs clientSound queuedSound servedSound calledSound runnablesSound variablesSound elementsSound operationsSound timersSound slotsSound countsSound areasSound clientsSound shaped soundOf rows rowOf argues formed partThere queuesAs partOwn asksSynchronous finishedLets failedLets lifeLets ownedRefusal instanceRefusal schedulerRefusal refusalBy refusalOf readVariableOf writeVariableOf enterOf onTop exitOf readOf updatedOf linked accepts fedElement fedElements feeds isFed fedRunnables fed writeOf invalidateOf isFull fullMask sentOf sendOf receiveOf requestsFull callerAfter called callOf pollOf collectOf resultOf closing returns isReturned returnedRunnables closed answers handBackOf timeoutOf endOf isDue maySpawn starting instanceOf isEmptyAt lowestEmpty foundEmpty spawned spawnOf tickOf operationLets timerLets operationsLet timersLet operationAfter operationsAfter timersAfter runnablesAfter allLet waited waitOf failOf actOf possibleOf agrees claimedOf innerOf stepOf valuesGood tested stepIn endIn fieldOf textOf judgeFrom judgeOf isUnplanned doneShown operationShown judgedShown config done calling bearing running stateWith served last servedLast step call spawn back ask plans waitsOn waitersOf waiterSound waitersSound isEdition partsSound hasStep marksInvalid topOf mostPending oneMore isNoAwaited awaitsWell isNoLife isNoOwed isNoStack endsWaiting waitingLets heldWell asksWaiting slotLets slotsLet slotsAfter holdOf giveUpOf each passedOver behind sequences upToThree choicesIn sequencesOf fills rankOf answeredAll stateAfter turnsOf wholeFrom wholeOf mendedSteps noteCount turnNotes stepNotes surveyOf
+unfolding allOf allBelow anyBelow sumBelow maskBelow firstBelow eachBelow shifted placeFilled filled isVoid isPayload isKind isMask isGood sameValue runnableConfIn variableConfIn areaConfIn requiredConfIn providedConfIn linkIn operationConfIn timerConfIn dataEventIn returnEventIn noRequests noRunnable noValues noElement noStack noSlot noRunnables runnableIn withRunnable noVariables variableIn withVariable noAreas areaIn withArea noElements elementIn withElement noOperations operationIn withOperation noTimers timerIn withTimer noSlots slotIn withSlot pushRequest firstRequest restRequests pushValue firstValue restValues pushArea topArea popArea maxOf countOf placesOf entryOf inRange namesThere isServer isQueued rises risesAt pairsWell entryFault isNoEntry placeSound kindSound configSound isNoClient clientFits requestsSound valuesSound runnableSound variableSound isStored elementSound isOutcome callingSound doneSound operationSound timerSound waitsWell lifeSound owedSound areaFits stackSound isNoSlot slotSound ofRunnable slotsOf countSound timesIn holders areaSound isClient queuedAs servedAs clientsAs clientSound queuedSound servedSound calledSound runnablesSound variablesSound elementsSound operationsSound timersSound slotsSound countsSound areasSound clientsSound shaped soundOf rows rowOf argues formed partThere queuesAs partOwn asksSynchronous finishedLets failedLets lifeLets ownedRefusal instanceRefusal schedulerRefusal refusalBy refusalOf readVariableOf writeVariableOf enterOf onTop exitOf readOf updatedOf linked accepts fedElement fedElements feeds isFed fedRunnables fed writeOf invalidateOf isFull fullMask sentOf sendOf receiveOf requestsFull callerAfter called callOf pollOf collectOf resultOf closing returns isReturned returnedRunnables closed answers handBackOf timeoutOf endOf isDue maySpawn starting instanceOf isEmptyAt lowestEmpty foundEmpty spawned spawnOf tickOf operationLets timerLets operationsLet timersLet operationAfter operationsAfter timersAfter runnablesAfter allLet waited waitOf failOf actOf possibleOf agrees claimedOf innerOf stepOf valuesGood tested stepIn endIn fieldOf textOf judgeFrom judgeOf isUnplanned doneShown operationShown judgedShown config done calling bearing running stateWith served last servedLast step call spawn back ask plans waitsOn waitersOf waiterSound waitersSound isEdition partsSound hasStep marksInvalid topOf mostPending oneMore isNoAwaited awaitsWell isNoLife isNoOwed isNoStack endsWaiting waitingLets heldWell asksWaiting slotLets slotsLet slotsAfter holdOf giveUpOf each passedOver behind sequences upToThree choicesIn sequencesOf fills rankOf answeredAll stateAfter turnsOf wholeFrom wholeOf mendedSteps noteCount turnNotes stepNotes surveyOf namedThere listedThere listsOf hasRoom listsWell hasField listsElements listedBelow listedIn copiedSound copiesSound copySound hasCopy isNoCopy copiesIn copyIn listsAt firstListed handedElements handedRunnables cleared copiedElements copiedInto noCopied noCopies
 board-goes-round = refl
 
 -- ---- what the mender does, from such a state on
@@ -217,7 +222,7 @@ pub found : List Turn
 found = turn 0 [] (call 5) ∷ turn 2 (spawn 2 ∷ []) (back 2 6 1) ∷ turn 0 [] (back 1 9 0) ∷ turn 0 [] (call 4) ∷ []
 
 lost-turns : turnsOf (innerOf config) config servedLast lost ≡ found
-unfolding allOf allBelow anyBelow sumBelow maskBelow firstBelow eachBelow shifted placeFilled filled isVoid isPayload isKind isMask isGood sameValue runnableConfIn variableConfIn areaConfIn requiredConfIn providedConfIn linkIn operationConfIn timerConfIn dataEventIn returnEventIn noRequests noRunnable noValues noElement noStack noSlot noRunnables runnableIn withRunnable noVariables variableIn withVariable noAreas areaIn withArea noElements elementIn withElement noOperations operationIn withOperation noTimers timerIn withTimer noSlots slotIn withSlot pushRequest firstRequest restRequests pushValue firstValue restValues pushArea topArea popArea maxOf countOf placesOf entryOf inRange namesThere isServer isQueued rises risesAt pairsWell entryFault isNoEntry placeSound kindSound configSound isNoClient clientFits requestsSound valuesSound runnableSound variableSound isStored elementSound isOutcome callingSound doneSound operationSound timerSound waitsWell lifeSound owedSound areaFits stackSound isNoSlot slotSound ofRunnable slotsOf countSound timesIn holders areaSound isClient queuedAs servedAs clientsAs clientSound queuedSound servedSound calledSound runnablesSound variablesSound elementsSound operationsSound timersSound slotsSound countsSound areasSound clientsSound shaped soundOf rows rowOf argues formed partThere queuesAs partOwn asksSynchronous finishedLets failedLets lifeLets ownedRefusal instanceRefusal schedulerRefusal refusalBy refusalOf readVariableOf writeVariableOf enterOf onTop exitOf readOf updatedOf linked accepts fedElement fedElements feeds isFed fedRunnables fed writeOf invalidateOf isFull fullMask sentOf sendOf receiveOf requestsFull callerAfter called callOf pollOf collectOf resultOf closing returns isReturned returnedRunnables closed answers handBackOf timeoutOf endOf isDue maySpawn starting instanceOf isEmptyAt lowestEmpty foundEmpty spawned spawnOf tickOf operationLets timerLets operationsLet timersLet operationAfter operationsAfter timersAfter runnablesAfter allLet waited waitOf failOf actOf possibleOf agrees claimedOf innerOf stepOf each passedOver behind sequences upToThree choicesIn sequencesOf fills rankOf answeredAll stateAfter turnsOf config done calling bearing running stateWith served last servedLast step call spawn back lost turn found waitsOn waitersOf waiterSound waitersSound isEdition partsSound hasStep marksInvalid topOf mostPending oneMore isNoAwaited awaitsWell isNoLife isNoOwed isNoStack endsWaiting waitingLets heldWell asksWaiting slotLets slotsLet slotsAfter holdOf giveUpOf valuesGood tested stepIn endIn fieldOf textOf judgeFrom judgeOf isUnplanned doneShown operationShown judgedShown wholeFrom wholeOf mendedSteps noteCount turnNotes stepNotes surveyOf
+unfolding allOf allBelow anyBelow sumBelow maskBelow firstBelow eachBelow shifted placeFilled filled isVoid isPayload isKind isMask isGood sameValue runnableConfIn variableConfIn areaConfIn requiredConfIn providedConfIn linkIn operationConfIn timerConfIn dataEventIn returnEventIn noRequests noRunnable noValues noElement noStack noSlot noRunnables runnableIn withRunnable noVariables variableIn withVariable noAreas areaIn withArea noElements elementIn withElement noOperations operationIn withOperation noTimers timerIn withTimer noSlots slotIn withSlot pushRequest firstRequest restRequests pushValue firstValue restValues pushArea topArea popArea maxOf countOf placesOf entryOf inRange namesThere isServer isQueued rises risesAt pairsWell entryFault isNoEntry placeSound kindSound configSound isNoClient clientFits requestsSound valuesSound runnableSound variableSound isStored elementSound isOutcome callingSound doneSound operationSound timerSound waitsWell lifeSound owedSound areaFits stackSound isNoSlot slotSound ofRunnable slotsOf countSound timesIn holders areaSound isClient queuedAs servedAs clientsAs clientSound queuedSound servedSound calledSound runnablesSound variablesSound elementsSound operationsSound timersSound slotsSound countsSound areasSound clientsSound shaped soundOf rows rowOf argues formed partThere queuesAs partOwn asksSynchronous finishedLets failedLets lifeLets ownedRefusal instanceRefusal schedulerRefusal refusalBy refusalOf readVariableOf writeVariableOf enterOf onTop exitOf readOf updatedOf linked accepts fedElement fedElements feeds isFed fedRunnables fed writeOf invalidateOf isFull fullMask sentOf sendOf receiveOf requestsFull callerAfter called callOf pollOf collectOf resultOf closing returns isReturned returnedRunnables closed answers handBackOf timeoutOf endOf isDue maySpawn starting instanceOf isEmptyAt lowestEmpty foundEmpty spawned spawnOf tickOf operationLets timerLets operationsLet timersLet operationAfter operationsAfter timersAfter runnablesAfter allLet waited waitOf failOf actOf possibleOf agrees claimedOf innerOf stepOf each passedOver behind sequences upToThree choicesIn sequencesOf fills rankOf answeredAll stateAfter turnsOf config done calling bearing running stateWith served last servedLast step call spawn back lost turn found waitsOn waitersOf waiterSound waitersSound isEdition partsSound hasStep marksInvalid topOf mostPending oneMore isNoAwaited awaitsWell isNoLife isNoOwed isNoStack endsWaiting waitingLets heldWell asksWaiting slotLets slotsLet slotsAfter holdOf giveUpOf valuesGood tested stepIn endIn fieldOf textOf judgeFrom judgeOf isUnplanned doneShown operationShown judgedShown wholeFrom wholeOf mendedSteps noteCount turnNotes stepNotes surveyOf namedThere listedThere listsOf hasRoom listsWell hasField listsElements listedBelow listedIn copiedSound copiesSound copySound hasCopy isNoCopy copiesIn copyIn listsAt firstListed handedElements handedRunnables cleared copiedElements copiedInto noCopied noCopies
 lost-turns = refl
 
 -- a call under a number that is still borne can't be mended: no step of the scheduler takes a client away
@@ -225,11 +230,11 @@ pub stuck : List Step
 stuck = call 5 ∷ spawn 2 ∷ back 2 6 1 ∷ call 4 ∷ []
 
 stuck-turns : turnsOf (innerOf config) config servedLast stuck ≡ turn 0 [] (call 5) ∷ turn 0 [] (spawn 2) ∷ turn 0 [] (back 2 6 1) ∷ []
-unfolding allOf allBelow anyBelow sumBelow maskBelow firstBelow eachBelow shifted placeFilled filled isVoid isPayload isKind isMask isGood sameValue runnableConfIn variableConfIn areaConfIn requiredConfIn providedConfIn linkIn operationConfIn timerConfIn dataEventIn returnEventIn noRequests noRunnable noValues noElement noStack noSlot noRunnables runnableIn withRunnable noVariables variableIn withVariable noAreas areaIn withArea noElements elementIn withElement noOperations operationIn withOperation noTimers timerIn withTimer noSlots slotIn withSlot pushRequest firstRequest restRequests pushValue firstValue restValues pushArea topArea popArea maxOf countOf placesOf entryOf inRange namesThere isServer isQueued rises risesAt pairsWell entryFault isNoEntry placeSound kindSound configSound isNoClient clientFits requestsSound valuesSound runnableSound variableSound isStored elementSound isOutcome callingSound doneSound operationSound timerSound waitsWell lifeSound owedSound areaFits stackSound isNoSlot slotSound ofRunnable slotsOf countSound timesIn holders areaSound isClient queuedAs servedAs clientsAs clientSound queuedSound servedSound calledSound runnablesSound variablesSound elementsSound operationsSound timersSound slotsSound countsSound areasSound clientsSound shaped soundOf rows rowOf argues formed partThere queuesAs partOwn asksSynchronous finishedLets failedLets lifeLets ownedRefusal instanceRefusal schedulerRefusal refusalBy refusalOf readVariableOf writeVariableOf enterOf onTop exitOf readOf updatedOf linked accepts fedElement fedElements feeds isFed fedRunnables fed writeOf invalidateOf isFull fullMask sentOf sendOf receiveOf requestsFull callerAfter called callOf pollOf collectOf resultOf closing returns isReturned returnedRunnables closed answers handBackOf timeoutOf endOf isDue maySpawn starting instanceOf isEmptyAt lowestEmpty foundEmpty spawned spawnOf tickOf operationLets timerLets operationsLet timersLet operationAfter operationsAfter timersAfter runnablesAfter allLet waited waitOf failOf actOf possibleOf agrees claimedOf innerOf stepOf each passedOver behind sequences upToThree choicesIn sequencesOf fills rankOf answeredAll stateAfter turnsOf config done calling bearing running stateWith served last servedLast step call spawn back stuck turn waitsOn waitersOf waiterSound waitersSound isEdition partsSound hasStep marksInvalid topOf mostPending oneMore isNoAwaited awaitsWell isNoLife isNoOwed isNoStack endsWaiting waitingLets heldWell asksWaiting slotLets slotsLet slotsAfter holdOf giveUpOf valuesGood tested stepIn endIn fieldOf textOf judgeFrom judgeOf isUnplanned doneShown operationShown judgedShown wholeFrom wholeOf mendedSteps noteCount turnNotes stepNotes surveyOf
+unfolding allOf allBelow anyBelow sumBelow maskBelow firstBelow eachBelow shifted placeFilled filled isVoid isPayload isKind isMask isGood sameValue runnableConfIn variableConfIn areaConfIn requiredConfIn providedConfIn linkIn operationConfIn timerConfIn dataEventIn returnEventIn noRequests noRunnable noValues noElement noStack noSlot noRunnables runnableIn withRunnable noVariables variableIn withVariable noAreas areaIn withArea noElements elementIn withElement noOperations operationIn withOperation noTimers timerIn withTimer noSlots slotIn withSlot pushRequest firstRequest restRequests pushValue firstValue restValues pushArea topArea popArea maxOf countOf placesOf entryOf inRange namesThere isServer isQueued rises risesAt pairsWell entryFault isNoEntry placeSound kindSound configSound isNoClient clientFits requestsSound valuesSound runnableSound variableSound isStored elementSound isOutcome callingSound doneSound operationSound timerSound waitsWell lifeSound owedSound areaFits stackSound isNoSlot slotSound ofRunnable slotsOf countSound timesIn holders areaSound isClient queuedAs servedAs clientsAs clientSound queuedSound servedSound calledSound runnablesSound variablesSound elementsSound operationsSound timersSound slotsSound countsSound areasSound clientsSound shaped soundOf rows rowOf argues formed partThere queuesAs partOwn asksSynchronous finishedLets failedLets lifeLets ownedRefusal instanceRefusal schedulerRefusal refusalBy refusalOf readVariableOf writeVariableOf enterOf onTop exitOf readOf updatedOf linked accepts fedElement fedElements feeds isFed fedRunnables fed writeOf invalidateOf isFull fullMask sentOf sendOf receiveOf requestsFull callerAfter called callOf pollOf collectOf resultOf closing returns isReturned returnedRunnables closed answers handBackOf timeoutOf endOf isDue maySpawn starting instanceOf isEmptyAt lowestEmpty foundEmpty spawned spawnOf tickOf operationLets timerLets operationsLet timersLet operationAfter operationsAfter timersAfter runnablesAfter allLet waited waitOf failOf actOf possibleOf agrees claimedOf innerOf stepOf each passedOver behind sequences upToThree choicesIn sequencesOf fills rankOf answeredAll stateAfter turnsOf config done calling bearing running stateWith served last servedLast step call spawn back stuck turn waitsOn waitersOf waiterSound waitersSound isEdition partsSound hasStep marksInvalid topOf mostPending oneMore isNoAwaited awaitsWell isNoLife isNoOwed isNoStack endsWaiting waitingLets heldWell asksWaiting slotLets slotsLet slotsAfter holdOf giveUpOf valuesGood tested stepIn endIn fieldOf textOf judgeFrom judgeOf isUnplanned doneShown operationShown judgedShown wholeFrom wholeOf mendedSteps noteCount turnNotes stepNotes surveyOf namedThere listedThere listsOf hasRoom listsWell hasField listsElements listedBelow listedIn copiedSound copiesSound copySound hasCopy isNoCopy copiesIn copyIn listsAt firstListed handedElements handedRunnables cleared copiedElements copiedInto noCopied noCopies
 stuck-turns = refl
 
 first-sound : soundOf config servedLast ≡ true
-unfolding allOf allBelow anyBelow sumBelow maskBelow firstBelow eachBelow shifted placeFilled filled isVoid isPayload isKind isMask isGood sameValue runnableConfIn variableConfIn areaConfIn requiredConfIn providedConfIn linkIn operationConfIn timerConfIn dataEventIn returnEventIn noRequests noRunnable noValues noElement noStack noSlot noRunnables runnableIn withRunnable noVariables variableIn withVariable noAreas areaIn withArea noElements elementIn withElement noOperations operationIn withOperation noTimers timerIn withTimer noSlots slotIn withSlot pushRequest firstRequest restRequests pushValue firstValue restValues pushArea topArea popArea maxOf countOf placesOf entryOf inRange namesThere isServer isQueued rises risesAt pairsWell entryFault isNoEntry placeSound kindSound configSound isNoClient clientFits requestsSound valuesSound runnableSound variableSound isStored elementSound isOutcome callingSound doneSound operationSound timerSound waitsWell lifeSound owedSound areaFits stackSound isNoSlot slotSound ofRunnable slotsOf countSound timesIn holders areaSound isClient queuedAs servedAs clientsAs clientSound queuedSound servedSound calledSound runnablesSound variablesSound elementsSound operationsSound timersSound slotsSound countsSound areasSound clientsSound shaped soundOf rows rowOf argues formed partThere queuesAs partOwn asksSynchronous finishedLets failedLets lifeLets ownedRefusal instanceRefusal schedulerRefusal refusalBy refusalOf readVariableOf writeVariableOf enterOf onTop exitOf readOf updatedOf linked accepts fedElement fedElements feeds isFed fedRunnables fed writeOf invalidateOf isFull fullMask sentOf sendOf receiveOf requestsFull callerAfter called callOf pollOf collectOf resultOf closing returns isReturned returnedRunnables closed answers handBackOf timeoutOf endOf isDue maySpawn starting instanceOf isEmptyAt lowestEmpty foundEmpty spawned spawnOf tickOf operationLets timerLets operationsLet timersLet operationAfter operationsAfter timersAfter runnablesAfter allLet waited waitOf failOf actOf possibleOf agrees claimedOf innerOf stepOf config done bearing running stateWith served last servedLast waitsOn waitersOf waiterSound waitersSound isEdition partsSound hasStep marksInvalid topOf mostPending oneMore isNoAwaited awaitsWell isNoLife isNoOwed isNoStack endsWaiting waitingLets heldWell asksWaiting slotLets slotsLet slotsAfter holdOf giveUpOf valuesGood tested stepIn endIn fieldOf textOf judgeFrom judgeOf isUnplanned doneShown operationShown judgedShown each passedOver behind sequences upToThree choicesIn sequencesOf fills rankOf answeredAll stateAfter turnsOf wholeFrom wholeOf mendedSteps noteCount turnNotes stepNotes surveyOf
+unfolding allOf allBelow anyBelow sumBelow maskBelow firstBelow eachBelow shifted placeFilled filled isVoid isPayload isKind isMask isGood sameValue runnableConfIn variableConfIn areaConfIn requiredConfIn providedConfIn linkIn operationConfIn timerConfIn dataEventIn returnEventIn noRequests noRunnable noValues noElement noStack noSlot noRunnables runnableIn withRunnable noVariables variableIn withVariable noAreas areaIn withArea noElements elementIn withElement noOperations operationIn withOperation noTimers timerIn withTimer noSlots slotIn withSlot pushRequest firstRequest restRequests pushValue firstValue restValues pushArea topArea popArea maxOf countOf placesOf entryOf inRange namesThere isServer isQueued rises risesAt pairsWell entryFault isNoEntry placeSound kindSound configSound isNoClient clientFits requestsSound valuesSound runnableSound variableSound isStored elementSound isOutcome callingSound doneSound operationSound timerSound waitsWell lifeSound owedSound areaFits stackSound isNoSlot slotSound ofRunnable slotsOf countSound timesIn holders areaSound isClient queuedAs servedAs clientsAs clientSound queuedSound servedSound calledSound runnablesSound variablesSound elementsSound operationsSound timersSound slotsSound countsSound areasSound clientsSound shaped soundOf rows rowOf argues formed partThere queuesAs partOwn asksSynchronous finishedLets failedLets lifeLets ownedRefusal instanceRefusal schedulerRefusal refusalBy refusalOf readVariableOf writeVariableOf enterOf onTop exitOf readOf updatedOf linked accepts fedElement fedElements feeds isFed fedRunnables fed writeOf invalidateOf isFull fullMask sentOf sendOf receiveOf requestsFull callerAfter called callOf pollOf collectOf resultOf closing returns isReturned returnedRunnables closed answers handBackOf timeoutOf endOf isDue maySpawn starting instanceOf isEmptyAt lowestEmpty foundEmpty spawned spawnOf tickOf operationLets timerLets operationsLet timersLet operationAfter operationsAfter timersAfter runnablesAfter allLet waited waitOf failOf actOf possibleOf agrees claimedOf innerOf stepOf config done bearing running stateWith served last servedLast waitsOn waitersOf waiterSound waitersSound isEdition partsSound hasStep marksInvalid topOf mostPending oneMore isNoAwaited awaitsWell isNoLife isNoOwed isNoStack endsWaiting waitingLets heldWell asksWaiting slotLets slotsLet slotsAfter holdOf giveUpOf valuesGood tested stepIn endIn fieldOf textOf judgeFrom judgeOf isUnplanned doneShown operationShown judgedShown each passedOver behind sequences upToThree choicesIn sequencesOf fills rankOf answeredAll stateAfter turnsOf wholeFrom wholeOf mendedSteps noteCount turnNotes stepNotes surveyOf namedThere listedThere listsOf hasRoom listsWell hasField listsElements listedBelow listedIn copiedSound copiesSound copySound hasCopy isNoCopy copiesIn copyIn listsAt firstListed handedElements handedRunnables cleared copiedElements copiedInto noCopied noCopies
 first-sound = refl
 
 -- the mended steps, and where there is no mending
@@ -237,11 +242,11 @@ pub mender-goes-round : (turnsOf (stepOf config) config servedLast lost ≡ foun
 mender-goes-round = (turns-once config servedLast first-sound lost ∙ lost-turns, turns-once config servedLast first-sound stuck ∙ stuck-turns)
 
 lost-surveyed : surveyOf (innerOf config) config servedLast (textOf lost) ≡ Whole 5 2
-unfolding allOf allBelow anyBelow sumBelow maskBelow firstBelow eachBelow shifted placeFilled filled isVoid isPayload isKind isMask isGood sameValue runnableConfIn variableConfIn areaConfIn requiredConfIn providedConfIn linkIn operationConfIn timerConfIn dataEventIn returnEventIn noRequests noRunnable noValues noElement noStack noSlot noRunnables runnableIn withRunnable noVariables variableIn withVariable noAreas areaIn withArea noElements elementIn withElement noOperations operationIn withOperation noTimers timerIn withTimer noSlots slotIn withSlot pushRequest firstRequest restRequests pushValue firstValue restValues pushArea topArea popArea maxOf countOf placesOf entryOf inRange namesThere isServer isQueued rises risesAt pairsWell entryFault isNoEntry placeSound kindSound configSound isNoClient clientFits requestsSound valuesSound runnableSound variableSound isStored elementSound isOutcome callingSound doneSound operationSound timerSound waitsWell lifeSound owedSound areaFits stackSound isNoSlot slotSound ofRunnable slotsOf countSound timesIn holders areaSound isClient queuedAs servedAs clientsAs clientSound queuedSound servedSound calledSound runnablesSound variablesSound elementsSound operationsSound timersSound slotsSound countsSound areasSound clientsSound shaped soundOf rows rowOf argues formed partThere queuesAs partOwn asksSynchronous finishedLets failedLets lifeLets ownedRefusal instanceRefusal schedulerRefusal refusalBy refusalOf readVariableOf writeVariableOf enterOf onTop exitOf readOf updatedOf linked accepts fedElement fedElements feeds isFed fedRunnables fed writeOf invalidateOf isFull fullMask sentOf sendOf receiveOf requestsFull callerAfter called callOf pollOf collectOf resultOf closing returns isReturned returnedRunnables closed answers handBackOf timeoutOf endOf isDue maySpawn starting instanceOf isEmptyAt lowestEmpty foundEmpty spawned spawnOf tickOf operationLets timerLets operationsLet timersLet operationAfter operationsAfter timersAfter runnablesAfter allLet waited waitOf failOf actOf possibleOf agrees claimedOf innerOf stepOf each passedOver behind sequences upToThree choicesIn sequencesOf fills rankOf answeredAll stateAfter turnsOf valuesGood tested stepIn endIn fieldOf textOf wholeFrom wholeOf mendedSteps noteCount turnNotes stepNotes surveyOf config done calling bearing running stateWith served last servedLast step call spawn back lost waitsOn waitersOf waiterSound waitersSound isEdition partsSound hasStep marksInvalid topOf mostPending oneMore isNoAwaited awaitsWell isNoLife isNoOwed isNoStack endsWaiting waitingLets heldWell asksWaiting slotLets slotsLet slotsAfter holdOf giveUpOf judgeFrom judgeOf isUnplanned doneShown operationShown judgedShown
+unfolding allOf allBelow anyBelow sumBelow maskBelow firstBelow eachBelow shifted placeFilled filled isVoid isPayload isKind isMask isGood sameValue runnableConfIn variableConfIn areaConfIn requiredConfIn providedConfIn linkIn operationConfIn timerConfIn dataEventIn returnEventIn noRequests noRunnable noValues noElement noStack noSlot noRunnables runnableIn withRunnable noVariables variableIn withVariable noAreas areaIn withArea noElements elementIn withElement noOperations operationIn withOperation noTimers timerIn withTimer noSlots slotIn withSlot pushRequest firstRequest restRequests pushValue firstValue restValues pushArea topArea popArea maxOf countOf placesOf entryOf inRange namesThere isServer isQueued rises risesAt pairsWell entryFault isNoEntry placeSound kindSound configSound isNoClient clientFits requestsSound valuesSound runnableSound variableSound isStored elementSound isOutcome callingSound doneSound operationSound timerSound waitsWell lifeSound owedSound areaFits stackSound isNoSlot slotSound ofRunnable slotsOf countSound timesIn holders areaSound isClient queuedAs servedAs clientsAs clientSound queuedSound servedSound calledSound runnablesSound variablesSound elementsSound operationsSound timersSound slotsSound countsSound areasSound clientsSound shaped soundOf rows rowOf argues formed partThere queuesAs partOwn asksSynchronous finishedLets failedLets lifeLets ownedRefusal instanceRefusal schedulerRefusal refusalBy refusalOf readVariableOf writeVariableOf enterOf onTop exitOf readOf updatedOf linked accepts fedElement fedElements feeds isFed fedRunnables fed writeOf invalidateOf isFull fullMask sentOf sendOf receiveOf requestsFull callerAfter called callOf pollOf collectOf resultOf closing returns isReturned returnedRunnables closed answers handBackOf timeoutOf endOf isDue maySpawn starting instanceOf isEmptyAt lowestEmpty foundEmpty spawned spawnOf tickOf operationLets timerLets operationsLet timersLet operationAfter operationsAfter timersAfter runnablesAfter allLet waited waitOf failOf actOf possibleOf agrees claimedOf innerOf stepOf each passedOver behind sequences upToThree choicesIn sequencesOf fills rankOf answeredAll stateAfter turnsOf valuesGood tested stepIn endIn fieldOf textOf wholeFrom wholeOf mendedSteps noteCount turnNotes stepNotes surveyOf config done calling bearing running stateWith served last servedLast step call spawn back lost waitsOn waitersOf waiterSound waitersSound isEdition partsSound hasStep marksInvalid topOf mostPending oneMore isNoAwaited awaitsWell isNoLife isNoOwed isNoStack endsWaiting waitingLets heldWell asksWaiting slotLets slotsLet slotsAfter holdOf giveUpOf judgeFrom judgeOf isUnplanned doneShown operationShown judgedShown namedThere listedThere listsOf hasRoom listsWell hasField listsElements listedBelow listedIn copiedSound copiesSound copySound hasCopy isNoCopy copiesIn copyIn listsAt firstListed handedElements handedRunnables cleared copiedElements copiedInto noCopied noCopies
 lost-surveyed = refl
 
 stuck-surveyed : surveyOf (innerOf config) config servedLast (textOf stuck) ≡ NotMended 4 31
-unfolding allOf allBelow anyBelow sumBelow maskBelow firstBelow eachBelow shifted placeFilled filled isVoid isPayload isKind isMask isGood sameValue runnableConfIn variableConfIn areaConfIn requiredConfIn providedConfIn linkIn operationConfIn timerConfIn dataEventIn returnEventIn noRequests noRunnable noValues noElement noStack noSlot noRunnables runnableIn withRunnable noVariables variableIn withVariable noAreas areaIn withArea noElements elementIn withElement noOperations operationIn withOperation noTimers timerIn withTimer noSlots slotIn withSlot pushRequest firstRequest restRequests pushValue firstValue restValues pushArea topArea popArea maxOf countOf placesOf entryOf inRange namesThere isServer isQueued rises risesAt pairsWell entryFault isNoEntry placeSound kindSound configSound isNoClient clientFits requestsSound valuesSound runnableSound variableSound isStored elementSound isOutcome callingSound doneSound operationSound timerSound waitsWell lifeSound owedSound areaFits stackSound isNoSlot slotSound ofRunnable slotsOf countSound timesIn holders areaSound isClient queuedAs servedAs clientsAs clientSound queuedSound servedSound calledSound runnablesSound variablesSound elementsSound operationsSound timersSound slotsSound countsSound areasSound clientsSound shaped soundOf rows rowOf argues formed partThere queuesAs partOwn asksSynchronous finishedLets failedLets lifeLets ownedRefusal instanceRefusal schedulerRefusal refusalBy refusalOf readVariableOf writeVariableOf enterOf onTop exitOf readOf updatedOf linked accepts fedElement fedElements feeds isFed fedRunnables fed writeOf invalidateOf isFull fullMask sentOf sendOf receiveOf requestsFull callerAfter called callOf pollOf collectOf resultOf closing returns isReturned returnedRunnables closed answers handBackOf timeoutOf endOf isDue maySpawn starting instanceOf isEmptyAt lowestEmpty foundEmpty spawned spawnOf tickOf operationLets timerLets operationsLet timersLet operationAfter operationsAfter timersAfter runnablesAfter allLet waited waitOf failOf actOf possibleOf agrees claimedOf innerOf stepOf each passedOver behind sequences upToThree choicesIn sequencesOf fills rankOf answeredAll stateAfter turnsOf valuesGood tested stepIn endIn fieldOf textOf wholeFrom wholeOf mendedSteps noteCount turnNotes stepNotes surveyOf config done calling bearing running stateWith served last servedLast step call spawn back stuck waitsOn waitersOf waiterSound waitersSound isEdition partsSound hasStep marksInvalid topOf mostPending oneMore isNoAwaited awaitsWell isNoLife isNoOwed isNoStack endsWaiting waitingLets heldWell asksWaiting slotLets slotsLet slotsAfter holdOf giveUpOf judgeFrom judgeOf isUnplanned doneShown operationShown judgedShown
+unfolding allOf allBelow anyBelow sumBelow maskBelow firstBelow eachBelow shifted placeFilled filled isVoid isPayload isKind isMask isGood sameValue runnableConfIn variableConfIn areaConfIn requiredConfIn providedConfIn linkIn operationConfIn timerConfIn dataEventIn returnEventIn noRequests noRunnable noValues noElement noStack noSlot noRunnables runnableIn withRunnable noVariables variableIn withVariable noAreas areaIn withArea noElements elementIn withElement noOperations operationIn withOperation noTimers timerIn withTimer noSlots slotIn withSlot pushRequest firstRequest restRequests pushValue firstValue restValues pushArea topArea popArea maxOf countOf placesOf entryOf inRange namesThere isServer isQueued rises risesAt pairsWell entryFault isNoEntry placeSound kindSound configSound isNoClient clientFits requestsSound valuesSound runnableSound variableSound isStored elementSound isOutcome callingSound doneSound operationSound timerSound waitsWell lifeSound owedSound areaFits stackSound isNoSlot slotSound ofRunnable slotsOf countSound timesIn holders areaSound isClient queuedAs servedAs clientsAs clientSound queuedSound servedSound calledSound runnablesSound variablesSound elementsSound operationsSound timersSound slotsSound countsSound areasSound clientsSound shaped soundOf rows rowOf argues formed partThere queuesAs partOwn asksSynchronous finishedLets failedLets lifeLets ownedRefusal instanceRefusal schedulerRefusal refusalBy refusalOf readVariableOf writeVariableOf enterOf onTop exitOf readOf updatedOf linked accepts fedElement fedElements feeds isFed fedRunnables fed writeOf invalidateOf isFull fullMask sentOf sendOf receiveOf requestsFull callerAfter called callOf pollOf collectOf resultOf closing returns isReturned returnedRunnables closed answers handBackOf timeoutOf endOf isDue maySpawn starting instanceOf isEmptyAt lowestEmpty foundEmpty spawned spawnOf tickOf operationLets timerLets operationsLet timersLet operationAfter operationsAfter timersAfter runnablesAfter allLet waited waitOf failOf actOf possibleOf agrees claimedOf innerOf stepOf each passedOver behind sequences upToThree choicesIn sequencesOf fills rankOf answeredAll stateAfter turnsOf valuesGood tested stepIn endIn fieldOf textOf wholeFrom wholeOf mendedSteps noteCount turnNotes stepNotes surveyOf config done calling bearing running stateWith served last servedLast step call spawn back stuck waitsOn waitersOf waiterSound waitersSound isEdition partsSound hasStep marksInvalid topOf mostPending oneMore isNoAwaited awaitsWell isNoLife isNoOwed isNoStack endsWaiting waitingLets heldWell asksWaiting slotLets slotsLet slotsAfter holdOf giveUpOf judgeFrom judgeOf isUnplanned doneShown operationShown judgedShown namedThere listedThere listsOf hasRoom listsWell hasField listsElements listedBelow listedIn copiedSound copiesSound copySound hasCopy isNoCopy copiesIn copyIn listsAt firstListed handedElements handedRunnables cleared copiedElements copiedInto noCopied noCopies
 stuck-surveyed = refl
 
 -- what the mender answers to both as texts: five steps and two notes; and 31 at the fourth step

@@ -11,7 +11,7 @@ use Rattle.laws.proofs.Choosing.{clash}
 use Rattle.faces.specs.Types.{Value, Step, Taken, Config, State}
 use Rattle.values.specs.Values.{numberV, limitV}
 use Rattle.entries.specs.Faults.{isServer}
-use Rattle.effects.specs.Steps.{lowestEmpty, spawned}
+use Rattle.effects.specs.Steps.{lowestEmpty, begunIn}
 use Rattle.effects.specs.Step.{stepOf}
 use Rattle.stays_sound.specs.Facts.{Sound, CanSpawn}
 use Rattle.stays_sound.proofs.Told.{told}
@@ -20,7 +20,7 @@ use Rattle.stays_sound.proofs.Ways as go
 use Rattle.stays_sound.proofs.Accepted.{accepted, claim-told, gone}
 use Rattle.history.specs.History.{timeOf}
 use Rattle.history.proofs.Timed.{still}
-use Rattle.history.proofs.Passes.{Calm, calm-same, write-variable-calm, elements-calm, fed-calm, enter-alike, exit-alike, go-on-calm, hold-calm, receive-calm, tick-alike, tick-unmoved, wait-alike, wait-unmoved}
+use Rattle.history.proofs.Passes.{Calm, calm-same, write-variable-calm, elements-calm, outgoing-calm, ended-as, begun-as, fed-calm, enter-alike, exit-alike, go-on-calm, hold-calm, receive-calm, tick-alike, tick-unmoved, wait-alike, wait-unmoved}
 use Rattle.history.proofs.Deeds.{Quiet, enters, exits, stays, ticks, waits, keeps, Deed, pass, call, answer, late, end, server, plain, timeout, fail, other-code}
 
 -- ---- the steps that touch no call
@@ -71,12 +71,12 @@ module _ (cfg : Config) (st : State) (s : Step) where
   calm c h f a = calm-by c f (quiet s c h) a
 
   -- a spawn, of a server or of a plain runnable
-  spawn-deed : s .code ≡ spawnCode → s .claim ≡ numberV (lowestEmpty (st .slots)) → CanSpawn cfg st (s .what) → Deed cfg st s (spawned cfg st (s .what) (lowestEmpty (st .slots)))
+  spawn-deed : s .code ≡ spawnCode → s .claim ≡ numberV (lowestEmpty (st .slots)) → CanSpawn cfg st (s .what) → Deed cfg st s (begunIn cfg st (s .what) (lowestEmpty (st .slots)))
   spawn-deed c k z = by (isServer cfg (s .what)) refl
     where
-      by : (b : Bool) → isServer cfg (s .what) ≡ b → Deed cfg st s (spawned cfg st (s .what) (lowestEmpty (st .slots)))
-      by true e = server c k e z refl
-      by false e = plain c k e z refl
+      by : (b : Bool) → isServer cfg (s .what) ≡ b → Deed cfg st s (begunIn cfg st (s .what) (lowestEmpty (st .slots)))
+      by true e = server c k e z (begun-as cfg st (s .what) (lowestEmpty (st .slots)))
+      by false e = plain c k e z (begun-as cfg st (s .what) (lowestEmpty (st .slots)))
 
   deed-way : {n : ℕ} {w : Value} {t : State} → Sound cfg st → s .code ≡ n → (eqb n sendCode ≡ false → s .claim ≡ w) → Way cfg st s n w t → Deed cfg st s t
   unfolding timeOf
@@ -100,7 +100,7 @@ module _ (cfg : Config) (st : State) (s : Step) where
   deed-way g c k (go.collect z) = calm c refl refl (go-on-calm st _)
   deed-way g c k (go.answer z e) = answer c (k refl) z e refl
   deed-way g c k (go.late z e) = late c (k refl) z refl
-  deed-way g c k (go.end z) = end c z refl
+  deed-way g c k (go.end z) = end c z (ended-as cfg st (s .who))
   deed-way g c k (go.spawn z) = spawn-deed c (k refl) z
   deed-way g c k (go.timeout z) = timeout c z refl
   deed-way g c k (go.tick z) =
@@ -110,6 +110,8 @@ module _ (cfg : Config) (st : State) (s : Step) where
   deed-way g c k (go.fail z) = fail c z refl
   deed-way g c k (go.hold z) = calm c refl refl (hold-calm st _ _ _ (z .fine))
   deed-way g c k (go.giveUp z) = calm c refl refl (go-on-calm st _)
+  deed-way g c k (go.readCopy z) = calm c refl refl (calm-same st)
+  deed-way g c k (go.writeCopy z) = calm c refl refl (outgoing-calm st _)
 
   pub deed : {v : Value} → stepOf cfg st s .answer ≡ Taken v → Deed cfg st s (stepOf cfg st s .state)
   deed h = deed-way (told cfg st (accepted cfg st s h .0)) refl (claim-told cfg st s h) (gone cfg st s refl h)

@@ -124,9 +124,9 @@ backs-deed cfg st s st′ rs g d l = go d
     go (call c k z e) = same c refl refl refl (λ i. rw e (slot-kept (λ y. y .life .finished) (st .slots) (s .who) _ (caller-kept (λ y. y .life .finished) (λ y o. refl) cfg (s .what) (slotIn (st .slots) (s .who))) i))
     go (answer c k z a e) = rw e (backs-hand (st .slots) rs s l (slotIn (st .slots) (s .who)) c (slot-inside (st .slots) (s .who) (z .who .there .used)))
     go (late c k z e) = rw e (backs-hand (st .slots) rs s l (slotIn (st .slots) (s .who)) c (slot-inside (st .slots) (s .who) (z .who .there .used)))
-    go (end c z e) = rw e (backs-end (st .slots) rs s l c (slot-inside (st .slots) (s .who) (z .there .used)))
-    go (server c k y z e) = rw e (comes c k z)
-    go (plain c k y z e) = rw e (comes c k z)
+    go (end c z e) = rw (e .slots) (backs-end (st .slots) rs s l c (slot-inside (st .slots) (s .who) (z .there .used)))
+    go (server c k y z e) = rw (e .slots) (comes c k z)
+    go (plain c k y z e) = rw (e .slots) (comes c k z)
     go (timeout c z e) = same c refl refl refl (λ i. rw e)
     go (fail c z e) = same c refl refl refl (λ i. rw e (slot-kept (λ y. y .life .finished) (st .slots) (s .who) (failing (slotIn (st .slots) (s .who))) refl i))
 
@@ -159,9 +159,9 @@ runs-deed cfg st s st′ d r = go d
     go (call c k z e) = rw e (runs-put (st .slots) (s .who) _ (asks (z .fine) (operationConfIn (cfg .operations) (s .what) .asynchronous)) r)
     go (answer c k z a e) = rw e (runs-put (st .slots) (s .who) (finishing x) (λ f. z .who .running) r)
     go (late c k z e) = rw e (runs-put (st .slots) (s .who) (finishing x) (λ f. z .who .running) r)
-    go (end c z e) = rw e (runs-put (st .slots) (s .who) noSlot (λ f. refl) r)
-    go (server c k y z e) = rw e (runs-put (st .slots) (lowestEmpty (st .slots)) _ (λ f. new-running cfg st (s .what)) r)
-    go (plain c k y z e) = rw e (runs-put (st .slots) (lowestEmpty (st .slots)) _ (λ f. new-running cfg st (s .what)) r)
+    go (end c z e) = rw (e .slots) (runs-put (st .slots) (s .who) noSlot (λ f. refl) r)
+    go (server c k y z e) = rw (e .slots) (runs-put (st .slots) (lowestEmpty (st .slots)) _ (λ f. new-running cfg st (s .what)) r)
+    go (plain c k y z e) = rw (e .slots) (runs-put (st .slots) (lowestEmpty (st .slots)) _ (λ f. new-running cfg st (s .what)) r)
     go (timeout c z e) = rw e r
     go (fail c z e) = rw e (runs-put (st .slots) (s .who) (failing x) (λ f. z .who .running) r)
 
@@ -209,12 +209,12 @@ paid-deed cfg st s st′ h g d t p = go d
         (slot-kept (λ y. y .life .finished) (st .slots) (s .who) _ (caller-kept (λ y. y .life .finished) (λ y o. refl) cfg (s .what) (slotIn (st .slots) (s .who)))) p)
     go (answer c k z a e) = rw (answer-adds cfg h s c k, e) (paid-hand (st .slots) (s .who) (slotIn (st .slots) (s .who)) (h .taken) p)
     go (late c k z e) = rw (late-adds cfg h s c k, e) (paid-hand (st .slots) (s .who) (slotIn (st .slots) (s .who)) (h .taken) p)
-    go (end c z e) = rw (end-adds cfg h s c, e) (paid-put (st .slots) (s .who) noSlot (h .taken) noRequest (slot-inside (st .slots) (s .who) (z .there .used)) (omega (arith, here cfg st (s .who) g (z .there), t .served .size)) (λ l. absurd (omega (arith, l))) p)
+    go (end c z e) = rw (end-adds cfg h s c, e .slots) (paid-put (st .slots) (s .who) noSlot (h .taken) noRequest (slot-inside (st .slots) (s .who) (z .there .used)) (omega (arith, here cfg st (s .who) g (z .there), t .served .size)) (λ l. absurd (omega (arith, l))) p)
     go (server c k y z e) =
-        rw (server-adds cfg h s c y, k, e, server-capacity cfg (s .what) y)
+        rw (server-adds cfg h s c y, k, e .slots, server-capacity cfg (s .what) y)
         (paid-put (st .slots) i _ (h .taken) _ (long i (z .slot)) (omega (arith, z .slot, t .served .size)) (λ l. refl) p)
     go (plain c k y z e) =
-        rw (plain-adds cfg h s c y, k, e)
+        rw (plain-adds cfg h s c y, k, e .slots)
         (paid-put (st .slots) i _ (h .taken) noRequest (long i (z .slot)) (omega (arith, z .slot, t .served .size)) (λ l. absurd (omega (arith, l))) p)
     go (timeout c z e) = rw (timeout-adds cfg h s c, e) p
     go (fail c z e) =

@@ -19,7 +19,7 @@ use Rattle.effects.specs.Steps.{entered, exited, called, closed, answers, clien
 use Rattle.effects.proofs.Agreeing.{same-value}
 use Rattle.stays_sound.specs.Facts.{Sound, CanEnter, CanExit, CanCall, CanHandBack, CanEnd, CanSpawn, CanTimeout, CanTick, CanWait, CanFail}
 use Rattle.history.specs.History.{noRequest, byTimeout, History, passed, callAdds, closingAdds, backBy, failAdds, slotAdds, serverAdds, takenBy, observe, timeOf}
-use Rattle.history.proofs.Tied.{Alike, Tied, tied-alike}
+use Rattle.history.proofs.Tied.{As, Alike, Tied, tied-as, tied-alike}
 use Rattle.history.proofs.Passes.{Unmoved}
 use Rattle.history.proofs.Ties.{tied-call, tied-timeout, tied-answer, tied-late, tied-server, tied-plain, tied-end, tied-fail}
 
@@ -51,10 +51,10 @@ pub data Deed (cfg : Config) (st : State) (s : Step) (st′ : State) : Type 0 wh
       s .code ≡ handBackCode → s .claim ≡ numberV 1 → CanHandBack cfg st (s .who) (s .argument) → answers (st .operations) (clientOf st (s .who)) ≡ true
       → st′ ≡ answered cfg st (s .who) (handedBack st (s .who) (s .argument)) → Deed cfg st s st′
   late : s .code ≡ handBackCode → s .claim ≡ numberV 0 → CanHandBack cfg st (s .who) (s .argument) → st′ ≡ finished st st (s .who) → Deed cfg st s st′
-  end : s .code ≡ endCode → CanEnd st (s .who) → st′ ≡ emptied st (s .who) → Deed cfg st s st′
-  server : s .code ≡ spawnCode → s .claim ≡ numberV (lowestEmpty (st .slots)) → isServer cfg (s .what) ≡ true → CanSpawn cfg st (s .what) → st′ ≡ spawned cfg st (s .what) (lowestEmpty (st .slots))
+  end : s .code ≡ endCode → CanEnd st (s .who) → As (emptied st (s .who)) st′ → Deed cfg st s st′
+  server : s .code ≡ spawnCode → s .claim ≡ numberV (lowestEmpty (st .slots)) → isServer cfg (s .what) ≡ true → CanSpawn cfg st (s .what) → As (spawned cfg st (s .what) (lowestEmpty (st .slots))) st′
       → Deed cfg st s st′
-  plain : s .code ≡ spawnCode → s .claim ≡ numberV (lowestEmpty (st .slots)) → isServer cfg (s .what) ≡ false → CanSpawn cfg st (s .what) → st′ ≡ spawned cfg st (s .what) (lowestEmpty (st .slots))
+  plain : s .code ≡ spawnCode → s .claim ≡ numberV (lowestEmpty (st .slots)) → isServer cfg (s .what) ≡ false → CanSpawn cfg st (s .what) → As (spawned cfg st (s .what) (lowestEmpty (st .slots))) st′
       → Deed cfg st s st′
   timeout : s .code ≡ timeoutCode → CanTimeout cfg st (s .what) → st′ ≡ closed cfg st (s .what) timeoutV → Deed cfg st s st′
   fail : s .code ≡ failCode → CanFail st (s .who) → st′ ≡ failed st (s .who) → Deed cfg st s st′
@@ -127,12 +127,12 @@ tied-deed cfg st s st′ h g (pass a q m w) t = rw (pass-adds cfg h s q) (tied-a
 tied-deed cfg st s st′ h g (call c k z e) t = rw (call-adds cfg h s c k, e) (tied-call cfg st h (s .who) (s .what) (s .argument) g z t)
 tied-deed cfg st s st′ h g (answer c k z a e) t = rw (answer-adds cfg h s c k, e) (tied-answer cfg st h (s .who) (s .argument) z a t)
 tied-deed cfg st s st′ h g (late c k z e) t = rw (late-adds cfg h s c k, e) (tied-late cfg st h (s .who) (s .argument) z t)
-tied-deed cfg st s st′ h g (end c z e) t = rw (end-adds cfg h s c, e) (tied-end cfg st h (s .who) g z t)
+tied-deed cfg st s st′ h g (end c z e) t = rw (end-adds cfg h s c) (tied-as e (tied-end cfg st h (s .who) g z t))
 tied-deed cfg st s st′ h g (server c k y z e) t =
-    rw (server-adds cfg h s c y, k, e)
-    (tied-server cfg st h (s .what) (lowestEmpty (st .slots)) g (z .slot) (server-capacity cfg (s .what) y) (due-server cfg st (s .what) y z) t)
+    rw (server-adds cfg h s c y, k)
+    (tied-as e (tied-server cfg st h (s .what) (lowestEmpty (st .slots)) g (z .slot) (server-capacity cfg (s .what) y) (due-server cfg st (s .what) y z) t))
 tied-deed cfg st s st′ h g (plain c k y z e) t =
-    rw (plain-adds cfg h s c y, k, e)
-    (tied-plain cfg st h (s .what) (lowestEmpty (st .slots)) g (z .slot) (plain-capacity cfg (s .what) y) t)
+    rw (plain-adds cfg h s c y, k)
+    (tied-as e (tied-plain cfg st h (s .what) (lowestEmpty (st .slots)) g (z .slot) (plain-capacity cfg (s .what) y) t))
 tied-deed cfg st s st′ h g (timeout c z e) t = rw (timeout-adds cfg h s c, e) (tied-timeout cfg st h (s .what) z t)
 tied-deed cfg st s st′ h g (fail c z e) t = rw (fail-adds cfg h s c, e) (tied-fail cfg st h (s .who) g z t)

@@ -1,33 +1,36 @@
 -- In an edition that marks no element invalid nothing is Invalid. Payloads, outcomes and what such an edition stores are not (`payload-valid`, `outcome-valid`, `stored-valid`), so a sound state holds
 -- none (`holds-valid`), and each way of a step answers what the state holds, or a value of another kind (`way-valid`). The way of an invalidate relies on an edition that marks.
 -- Assumes nothing.
-use Prim.Native.Nat.{ℕ, _<_}
+use Prim.Native.Nat.{ℕ, _≤_, _<_}
 use mathlib.Core.Bool.{Bool, true, false, not}
 use mathlib.Core.List.{_∷_}
 use mathlib.Core.Path.{_≡_, refl}
 use native.Mathlib.Decide.{decLt}
 use native.Mathlib.Omega.{arith}
 use lib.Dec.{ltb, leb, eqb}
-use lib.ListN.{getD}
+use lib.ListN.{length, getD}
+use borrow.Author.Tests.{eqb-true}
 use Rattle.numbers.specs.Codes.{invalidateCode}
 use Rattle.laws.specs.Choice.{pick, both}
 use Rattle.laws.specs.Row.{filled}
 use Rattle.laws.proofs.Choosing.{clash, both-left, both-right, all-told, pick-has}
 use Rattle.laws.proofs.Looping.{all-at}
 use Rattle.laws.proofs.Places.{past, filled-good, filled-blank}
-use Rattle.faces.specs.Types.{Value, Step, Config, Variable, Element, Operation, State, Client}
-use Rattle.values.specs.Values.{voidV, isVoid, isPayload}
+use Rattle.faces.specs.Types.{Value, Step, Lists, Config, Variable, Element, Operation, Copies, Copied, State, Client}
+use Rattle.values.specs.Values.{neverReceivedV, voidV, isVoid, isPayload}
 use Rattle.config.specs.Editions.{marksInvalid}
 use Rattle.config.specs.Tables.{requiredConfIn, runnableConfIn, operationConfIn}
-use Rattle.state.specs.Parts.{lastNumber, noVariable, noElement, noOperation, maxValues, noClient, maxRequests}
+use Rattle.state.specs.Parts.{lastNumber, noVariable, noElement, noOperation, maxValues, noClient, noCopies, maxRequests}
 use Rattle.state.specs.Queues.{firstValue}
 use Rattle.state.specs.Start.{startOf}
-use Rattle.state.specs.Tables.{variableIn, elementIn, operationIn, runnableIn, slotIn}
-use Rattle.rules.specs.Sound.{variableSound, variablesSound, isStored, valuesSound, elementSound, elementsSound, isOutcome, callingSound, doneSound, operationSound, operationsSound, isNoClient, clientFits, requestsSound, runnableSound, runnablesSound}
+use Rattle.state.specs.Tables.{variableIn, elementIn, operationIn, runnableIn, slotIn, copyIn, copiesIn}
+use Rattle.config.specs.Lists.{placeOf}
+use Rattle.rules.specs.Sound.{hasCopy, isNoCopy, copySound, copiedSound, variableSound, variablesSound, isStored, valuesSound, elementSound, elementsSound, isOutcome, callingSound, doneSound, operationSound, operationsSound, isNoClient, clientFits, requestsSound, runnableSound, runnablesSound}
 use Rattle.rules.proofs.Configured.{required-most, length-most}
-use Rattle.effects.specs.Steps.{fullMask, sentOf}
+use Rattle.effects.specs.Steps.{fullMask, sentOf, runnableOf}
 use Rattle.stays_sound.specs.Facts.{Sound}
 use Rattle.stays_sound.proofs.Told.{told, shape-told}
+use Rattle.stays_sound.proofs.Copies.{Copied′, copies-told, copies-at, no-copies-blank, blank-sound}
 use Rattle.stays_sound.proofs.Ways as go
 use Rattle.stays_sound.proofs.Accepted.{accepted, gone}
 use Rattle.stays_sound.proofs.Instances.{instance-told, owed-client, slot-at}
@@ -145,8 +148,34 @@ module _ (cfg : Config) (st : State) (g : Sound cfg st) (m : marksInvalid (cfg .
       let x = slotIn (st .slots) i in
       client-valid (x .life .runnable) (x .owed .client) (owed-client cfg (x .life) (x .owed) (instance-told cfg x u (slot-at cfg (st .slots) (g .slots) i b) .owed) s)
 
+  -- a place for a copy, whether in use or not
+  copy-valid : (t : Lists) (cs : Copied) → length (cs .at) ≡ 32 → copiedSound (cfg .edition) t (st .slots) cs ≡ true → (i j : ℕ) → Valid (copyIn (copiesIn cs i) j)
+  unfolding copySound copiesIn copyIn noCopies isNoCopy
+  copy-valid t cs e h i j = on (decLt i 32)
+    where
+      -- past the last place nothing has come
+      beyond : (c : Copies) → length (c .at) ≡ 4 → 4 ≤ j → Valid (getD (c .at) j neverReceivedV)
+      beyond c f l q = omega (arith, rw (past (c .at) j 4 neverReceivedV f l) at q)
+
+      inside : (c : Copies) → Copied′ (cfg .edition) t (slotIn (st .slots) i) c → Dec (j < 4) → Valid (getD (c .at) j neverReceivedV)
+      inside c f (yes l) =
+          let v = getD (c .at) j neverReceivedV in
+          either-valid v (hasCopy t (slotIn (st .slots) i) j) (isStored (cfg .edition) v) (isNoCopy v) (stored-valid (cfg .edition) v m)
+          (λ n q. omega (arith, q, eqb-true (v .kind) 6 (both-left (eqb (v .kind) 6) _ n))) (f .each j l)
+      inside c f (no l) = beyond c (f .places) (omega (arith, l))
+
+      on : Dec (i < 32) → Valid (getD (getD (cs .at) i noCopies .at) j neverReceivedV)
+      on (yes b) = inside (getD (cs .at) i noCopies) (copies-told (cfg .edition) t (slotIn (st .slots) i) (getD (cs .at) i noCopies) (copies-at (cfg .edition) t (st .slots) cs h i b)) (decLt j 4)
+      on (no n) = rw (past (cs .at) i 32 noCopies e (omega (arith, n))) (inside noCopies (copies-told (cfg .edition) t (slotIn (st .slots) i) noCopies (blank-sound (cfg .edition) t (slotIn (st .slots) i) noCopies no-copies-blank)) (decLt j 4))
+
+  incoming-valid : (i j : ℕ) → Valid (copyIn (copiesIn (st .incoming) i) j)
+  incoming-valid = copy-valid (cfg .incoming) (st .incoming) (shape-told st (g .shape) .incoming) (g .copies .incoming)
+
+  outgoing-valid : (i j : ℕ) → Valid (copyIn (copiesIn (st .outgoing) i) j)
+  outgoing-valid = copy-valid (cfg .outgoing) (st .outgoing) (shape-told st (g .shape) .outgoing) (g .copies .outgoing)
+
   holds-valid : HoldsValid st
-  holds-valid = record { variables = λ k b. variable-valid k; elements = λ q b. element-valid q; operations = λ o b. done-valid o; queues = λ q j b c. queued-valid q j b (omega (arith, c, values-told cfg st q g b, length-most cfg (g .config) q)); requests = request-valid; served = served-valid }
+  holds-valid = record { variables = λ k b. variable-valid k; elements = λ q b. element-valid q; operations = λ o b. done-valid o; queues = λ q j b c. queued-valid q j b (omega (arith, c, values-told cfg st q g b, length-most cfg (g .config) q)); requests = request-valid; served = served-valid; incoming = λ i j b c. incoming-valid i j; outgoing = λ i j b c. outgoing-valid i j }
 
   -- ---- what a step answers
 
@@ -182,6 +211,8 @@ module _ (cfg : Config) (st : State) (g : Sound cfg st) (m : marksInvalid (cfg .
   way-valid s (go.fail z) = λ q. omega (arith, q)
   way-valid s (go.hold z) = λ q. omega (arith, q)
   way-valid s (go.giveUp z) = λ q. omega (arith, q)
+  way-valid s (go.readCopy z) = incoming-valid (s .who) (placeOf (cfg .incoming) (runnableOf st (s .who)) (s .what))
+  way-valid s (go.writeCopy z) = λ q. omega (arith, q)
 
 -- the way of an invalidate relies on an edition that marks
 invalidate-marks : {cfg : Config} {st : State} {s : Step} {v : Value} {t : State} → go.Way cfg st s invalidateCode v t → marksInvalid (cfg .edition) ≡ true

@@ -22,7 +22,7 @@ use Rattle.state.specs.Queues.{topArea}
 use Rattle.state.specs.Tables.{maxSlots, slotIn}
 use Rattle.rules.specs.Sound.{componentOf, areaFits, isZero, lifeSound, owedSound, stackSound, isNoLife, isNoSlot, slotSound}
 use Rattle.rules.specs.Rows.{noPart, rows, rowOf}
-use Rattle.rules.specs.Refusals.{argues, formed, partThere, queuesAs, partOwn, asksSynchronous, asksWaiting, finishedLets, failedLets, endsWaiting, waitingLets, lifeLets, ownedRefusal, instanceRefusal, refusalBy, refusalOf}
+use Rattle.rules.specs.Refusals.{namedThere, listedThere, argues, formed, partThere, queuesAs, partOwn, asksSynchronous, asksWaiting, finishedLets, failedLets, endsWaiting, waitingLets, lifeLets, ownedRefusal, instanceRefusal, refusalBy, refusalOf}
 use Rattle.effects.specs.Steps.{onTop, answers, clientOf, hasFailed, handBackOf, exitOf, endOf}
 use Rattle.effects.proofs.Codes.{exit, handBack, end, possible-by}
 use Rattle.stays_sound.specs.Facts.{Sound}
@@ -51,13 +51,13 @@ module _ (cfg : Config) (st : State) (g : Sound cfg st) (i : ℕ) (b : i < maxSl
       not-true _ (both-right (isServer cfg (x .life .runnable)) _ (sym (owed-when cfg (x .life) (x .owed) (it .owed)) ∙ e))
 
   pub back-open : slotIn (st .slots) i .owed .serving ≡ true → Possible cfg st handBackCode i 0
-  unfolding refusalOf refusalBy instanceRefusal ownedRefusal rowOf rows formed argues partThere partOwn asksSynchronous finishedLets failedLets lifeLets allOf isPayload isVoid handBackOf hasStep marksInvalid endsWaiting waitingLets asksWaiting
+  unfolding refusalOf refusalBy instanceRefusal ownedRefusal rowOf rows formed argues namedThere listedThere partThere partOwn asksSynchronous finishedLets failedLets lifeLets allOf isPayload isVoid handBackOf hasStep marksInvalid endsWaiting waitingLets asksWaiting
   back-open e =
       rw (possible-by cfg st (record { code = handBackCode; who = i; what = 0; argument = voidV; claim = voidV }) handBack refl (rw (used, r, f, unfinished e)), f, e)
       (pick-has (λ (y : Stepped). answerRefusal (y .answer) ≡ 0) (answers (st .operations) (clientOf st i)) _ _ (λ q. refl) (λ q. refl))
 
   pub exit-open : 0 < slotIn (st .slots) i .stack .held → Possible cfg st exitCode i (topArea (slotIn (st .slots) i .stack))
-  unfolding refusalOf refusalBy instanceRefusal ownedRefusal rowOf rows formed argues partThere partOwn queuesAs countOf entryOf asksSynchronous finishedLets failedLets lifeLets allOf isVoid exitOf onTop areaFits topArea hasStep marksInvalid endsWaiting waitingLets asksWaiting
+  unfolding refusalOf refusalBy instanceRefusal ownedRefusal rowOf rows formed argues namedThere listedThere partThere partOwn queuesAs countOf entryOf asksSynchronous finishedLets failedLets lifeLets allOf isVoid exitOf onTop areaFits topArea hasStep marksInvalid endsWaiting waitingLets asksWaiting
   exit-open p =
       rw (possible-by cfg st (record { code = exitCode; who = i; what = topArea k; argument = voidV; claim = voidV }) exit refl (rw (used, r, f, either-more (not (slotIn (st .slots) i .life .finished)) true refl, both-left (ltb (topArea k) (cfg .areas .n)) _ top, both-right (ltb (topArea k) (cfg .areas .n)) _ top)), lt-ltb 0 (k .held) p, eq-eqb (topArea k) (topArea k) refl)
     where
@@ -70,5 +70,5 @@ module _ (cfg : Config) (st : State) (g : Sound cfg st) (i : ℕ) (b : i < maxSl
           (omega (arith, stack-most cfg (slotIn (st .slots) i .life) k (it .stack), p)) (omega (arith, p))
 
   pub end-open : slotIn (st .slots) i .owed .serving ≡ false → slotIn (st .slots) i .stack .held ≡ 0 → Possible cfg st endCode i 0
-  unfolding refusalOf refusalBy instanceRefusal ownedRefusal rowOf rows formed argues partThere partOwn asksSynchronous finishedLets failedLets lifeLets allOf isVoid endOf hasStep marksInvalid endsWaiting waitingLets asksWaiting
+  unfolding refusalOf refusalBy instanceRefusal ownedRefusal rowOf rows formed argues namedThere listedThere partThere partOwn asksSynchronous finishedLets failedLets lifeLets allOf isVoid endOf hasStep marksInvalid endsWaiting waitingLets asksWaiting
   end-open e h = rw (possible-by cfg st (record { code = endCode; who = i; what = 0; argument = voidV; claim = voidV }) end refl (rw (used, r, f, either-more (not (slotIn (st .slots) i .life .finished)) true refl)), e, h)

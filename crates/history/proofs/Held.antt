@@ -78,9 +78,9 @@ moves cfg st s st′ g d = go d
     go (call c k z e) = still c refl refl (record { areas = λ a. rw e; stacks = λ a k. rw e (one (s .who) _ (st .slots) (call-stack cfg (s .what) (slotIn (st .slots) (s .who))) a k) })
     go (answer c k z a e) = still c refl refl (record { areas = λ a. rw e; stacks = λ a k. rw e (one (s .who) (finishing (slotIn (st .slots) (s .who))) (st .slots) (λ b. refl) a k) })
     go (late c k z e) = still c refl refl (record { areas = λ a. rw e; stacks = λ a k. rw e (one (s .who) (finishing (slotIn (st .slots) (s .who))) (st .slots) (λ b. refl) a k) })
-    go (end c z e) = still c refl refl (record { areas = λ a. rw e; stacks = λ a k. rw e (one (s .who) noSlot (st .slots) (end-stack st (s .who) z) a k) })
-    go (server c k y z e) = still c refl refl (record { areas = λ a. rw e; stacks = λ a k. rw e (one _ _ (st .slots) (spawn-stack cfg st (s .what) g z) a k) })
-    go (plain c k y z e) = still c refl refl (record { areas = λ a. rw e; stacks = λ a k. rw e (one _ _ (st .slots) (spawn-stack cfg st (s .what) g z) a k) })
+    go (end c z e) = still c refl refl (record { areas = λ a. rw (e .areas); stacks = λ a k. rw (e .slots) (one (s .who) noSlot (st .slots) (end-stack st (s .who) z) a k) })
+    go (server c k y z e) = still c refl refl (record { areas = λ a. rw (e .areas); stacks = λ a k. rw (e .slots) (one _ _ (st .slots) (spawn-stack cfg st (s .what) g z) a k) })
+    go (plain c k y z e) = still c refl refl (record { areas = λ a. rw (e .areas); stacks = λ a k. rw (e .slots) (one _ _ (st .slots) (spawn-stack cfg st (s .what) g z) a k) })
     go (timeout c z e) = still c refl refl (record { areas = λ a. rw e; stacks = λ a k. rw e })
     go (fail c z e) = still c refl refl (record { areas = λ a. rw e; stacks = λ a k. rw e (one (s .who) (failing (slotIn (st .slots) (s .who))) (st .slots) (λ b. refl) a k) })
 

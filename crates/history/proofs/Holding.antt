@@ -156,6 +156,8 @@ module _ (cfg : Config) (st : State) (s : Step) where
   holds-way g c (go.fail z) = kept cfg st s c (s .who) (failing (slotIn (st .slots) (s .who))) refl refl refl refl refl
   holds-way g c (go.hold z) = holds c z refl
   holds-way g c (go.giveUp z) = goesOn (rw c) (rw c) (quick cfg st s c refl) (z .there) refl
+  holds-way g c (go.readCopy z) = same cfg st s c refl refl refl refl
+  holds-way g c (go.writeCopy z) = same cfg st s c refl refl refl refl
 
 -- ---- the recording, step by step
 

@@ -20,12 +20,15 @@ pub mod Finals
 pub mod Held
 pub mod Unended
 pub mod Lives
+pub mod Copying
+pub mod Unseen
 pub mod Backs
 pub mod Waiting
 pub mod Holding
 pub mod Goes
 pub mod Reached
 pub mod Proofs
+pub mod Regulated
 pub mod Sends
 pub mod Editions
 pub mod Together

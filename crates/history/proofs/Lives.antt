@@ -33,7 +33,7 @@ pub lives-one : (i : ℕ) (rs : List Step) (s : Step) → livesIn i (rs ++ (s �
 unfolding livesIn
 lives-one i rs s = traced-one (livesAfter i) 0 rs s
 
-spawn-puts : (i n w : ℕ) (s : Step) → s .code ≡ spawnCode → s .claim .number ≡ i → livesAfter i n w s ≡ n
+pub spawn-puts : (i n w : ℕ) (s : Step) → s .code ≡ spawnCode → s .claim .number ≡ i → livesAfter i n w s ≡ n
 unfolding livesAfter
 spawn-puts i n w s c e = rw (c, eq-eqb (s .claim .number) i e)
 
@@ -104,8 +104,8 @@ lives-deed cfg st s st′ rs g d l = go d
     go (call c k z e) = same c refl refl (λ i. rw e (slot-kept (λ y. y .used) (st .slots) (s .who) _ (caller-kept (λ y. y .used) (λ y o. refl) cfg (s .what) (slotIn (st .slots) (s .who))) i))
     go (answer c k z a e) = same c refl refl (λ i. rw e (slot-kept (λ y. y .used) (st .slots) (s .who) (finishing (slotIn (st .slots) (s .who))) refl i))
     go (late c k z e) = same c refl refl (λ i. rw e (slot-kept (λ y. y .used) (st .slots) (s .who) (finishing (slotIn (st .slots) (s .who))) refl i))
-    go (end c z e) = rw e (lives-end (st .slots) rs s l c (slot-inside (st .slots) (s .who) (z .there .used)))
-    go (server c k y z e) = rw e (comes c k z)
-    go (plain c k y z e) = rw e (comes c k z)
+    go (end c z e) = rw (e .slots) (lives-end (st .slots) rs s l c (slot-inside (st .slots) (s .who) (z .there .used)))
+    go (server c k y z e) = rw (e .slots) (comes c k z)
+    go (plain c k y z e) = rw (e .slots) (comes c k z)
     go (timeout c z e) = same c refl refl (λ i. rw e)
     go (fail c z e) = same c refl refl (λ i. rw e (slot-kept (λ y. y .used) (st .slots) (s .who) (failing (slotIn (st .slots) (s .who))) refl i))

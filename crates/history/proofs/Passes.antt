@@ -5,26 +5,26 @@
 -- Assumes nothing.
 use Prim.Native.Nat.{ℕ, _-_, _≤_, _<_}
 use mathlib.Core.Bool.{true, false}
-use mathlib.Core.Path.{_≡_, refl, _∙_}
+use mathlib.Core.Path.{_≡_, refl, sym, _∙_}
 use native.Mathlib.Nat.{add-zero}
 use native.Mathlib.Omega.{arith}
 use borrow.Author.Tests.{leb-true}
 use Rattle.laws.proofs.Looping.{all-at}
 use Rattle.laws.proofs.Places.{each-at}
-use Rattle.faces.specs.Types.{Value, Config, Elements, Operation, Operations, Slot, State, Awaited}
+use Rattle.faces.specs.Types.{Value, Config, Elements, Operation, Operations, Slot, Copied, State, Awaited}
 use Rattle.config.specs.Tables.{runnableConfIn, timerConfIn}
 use Rattle.state.specs.Parts.{noOperation, noAwaited}
 use Rattle.laws.proofs.Choosing.{clash}
-use Rattle.state.specs.Tables.{runnableIn, areaIn, operationIn, slotIn, withSlot, withAreas, withElements, withSlots}
+use Rattle.state.specs.Tables.{runnableIn, areaIn, operationIn, slotIn, withSlot, withAreas, withElements, withSlots, withOutgoing}
 use Rattle.rules.specs.Rows.{noPart}
 use Rattle.rules.specs.Sound.{timesIn, operationSound, operationsSound}
-use Rattle.effects.specs.Steps.{stored, entered, exited, fed, isOpen, goneOn, woken, ticked, operationLets, operationsLet, operationAfter, operationsAfter, waited, awaiting, awaited, runningOn, dequeued, received, hasFailed, onElement, held}
+use Rattle.effects.specs.Steps.{stored, entered, exited, fed, isOpen, goneOn, woken, ticked, operationLets, operationsLet, operationAfter, operationsAfter, waited, awaiting, awaited, runningOn, dequeued, received, hasFailed, onElement, held, leaving, emptied, runnableOf, handedRunnables, ended, spawned, begunIn}
 use Rattle.stays_sound.specs.Facts.{Sound, CanWait}
 use Rattle.stays_sound.proofs.Told.{operations-length}
-use Rattle.stays_sound.proofs.Kept.{runnable-kept, slot-kept, slot-has, fed-kept, after-kept, waited-kept, slots-after-kept}
+use Rattle.stays_sound.proofs.Kept.{runnable-kept, slot-kept, slot-has, fed-kept, handed-kept, after-kept, waited-kept, slots-after-kept}
 use Rattle.stays_sound.proofs.Operations.{calls-told}
 use Rattle.stays_sound.proofs.Clients.{calling-inside}
-use Rattle.history.proofs.Tied.{SameCalls, Alike}
+use Rattle.history.proofs.Tied.{As, SameCalls, Alike}
 
 pub same-calls : (os : Operations) → SameCalls 0 os os
 same-calls os = record { number = λ o. refl; calling = λ o. refl; done = λ o. refl; count = λ o e. add-zero _ }
@@ -62,6 +62,29 @@ write-variable-calm st v x = still st _ refl refl refl (record { operations = sa
 -- other elements, as after a read, an invalidate and a receive
 pub elements-calm : (st : State) (t : Elements) → Calm 0 st (withElements st t)
 elements-calm st t = still st _ refl refl refl (record { operations = same-calls (st .operations); requests = λ r. refl; owed = λ k. refl; failed = λ k. refl; finished = λ k. refl; running = λ k f r. r; used = λ k. refl })
+
+-- and other copies to be written, as after one is set
+pub outgoing-calm : (st : State) (t : Copied) → Calm 0 st (withOutgoing st t)
+outgoing-calm st t = still st _ refl refl refl (record { operations = same-calls (st .operations); requests = λ r. refl; owed = λ k. refl; failed = λ k. refl; finished = λ k. refl; running = λ k f r. r; used = λ k. refl })
+
+-- what an instance has set and copied is nothing that histories are told by: it ends as it did without, and begins so
+pub ended-as : (cfg : Config) (st : State) (i : ℕ) → As (emptied st i) (ended cfg st i)
+ended-as cfg st i =
+    let r = runnableOf st i in
+    record {
+      operations = refl;
+      areas = refl;
+      timers = refl;
+      slots = refl;
+      requests = λ j.
+          runnable-kept (λ x. x .requests) (handedRunnables cfg st i) r (leaving (runnableIn (handedRunnables cfg st i) r)) refl j
+          ∙ handed-kept (λ x. x .requests) (λ c x. refl) cfg st i j
+          ∙ sym (runnable-kept (λ x. x .requests) (st .runnables) r (leaving (runnableIn (st .runnables) r)) refl j);
+    }
+
+pub begun-as : (cfg : Config) (st : State) (r k : ℕ) → As (spawned cfg st r k) (begunIn cfg st r k)
+unfolding spawned
+begun-as cfg st r k = record { operations = refl; areas = refl; timers = refl; slots = refl; requests = λ j. refl }
 
 pub fed-calm : (cfg : Config) (st : State) (p : ℕ) (v : Value) → Calm 0 st (fed cfg st p v)
 unfolding fed

@@ -3,21 +3,27 @@
 -- The instance in the slot 1 is of the runnable 1, the server of that operation; it was spawned for the call.
 -- Assumes nothing.
 use Prim.Native.Nat.{ℕ, _<_}
-use mathlib.Core.Bool.{true, false}
+use mathlib.Core.Bool.{true, false, Bool}
 use mathlib.Core.List.{[], _∷_}
-use mathlib.Core.Path.{_≡_, refl, ap}
+use mathlib.Core.Path.{_≡_, refl, ap, sym, _∙_}
 use native.Mathlib.Omega.{arith}
-use Rattle.numbers.specs.Codes.{writeVariableCode, enterCode, callCode, resultCode, handBackCode, endCode, spawnCode, timeoutCode, tickCode, waitCode, failCode}
+use lib.Dec.{eqb}
+use Rattle.history.proofs.Beside.{all-alike}
+use Rattle.state.specs.Start.{startElement, startElements, startOf}
+use Rattle.state.specs.Parts.{noElement, noValues}
+use Rattle.laws.proofs.Places.{each-has}
+use Rattle.laws.specs.Choice.{pick}
+use Rattle.numbers.specs.Codes.{writeVariableCode, enterCode, callCode, resultCode, handBackCode, endCode, spawnCode, timeoutCode, tickCode, waitCode, failCode, readCopyCode}
 use Rattle.laws.proofs.Choosing.{clash}
-use Rattle.faces.specs.Types.{Value, Step, Config, State}
-use Rattle.values.specs.Values.{voidV, numberV, okV, limitV, timeoutV, sameValue}
-use Rattle.config.specs.Tables.{operationConfIn}
+use Rattle.faces.specs.Types.{Value, Step, Config, State, RequiredConf, Element}
+use Rattle.values.specs.Values.{voidV, numberV, okV, limitV, timeoutV, sameValue, neverReceivedV}
+use Rattle.config.specs.Tables.{operationConfIn, requiredConfIn}
 use Rattle.entries.specs.Faults.{isServer}
-use Rattle.state.specs.Tables.{operationIn}
+use Rattle.state.specs.Tables.{operationIn, elementIn, noElements}
 use Rattle.rules.specs.Rows.{rows, rowOf}
 use Rattle.rules.specs.Refusals.{asksSynchronous}
 use Rattle.history.specs.History.{nothing, observe, historyFrom, historyOf, endsOf, lastOn, isUnended, endedCall, Started, timeOf, timeIn, tracedFrom, livesAfter, livesIn, binds, boundAfter, boundIn, awaitsAfter, awaitsIn, holderAfter, holderOf}
-use Rattle.history.specs.Promises.{SpawnsEmpty, FailedStops, HolderStays, CallsOneByOne, WaiterWaits, EndsOnce, OpenInTime, ResultIsDelivered, ResultIsOwn, DoneIsDelivered, UnendedIsLatest}
+use Rattle.history.specs.Promises.{SpawnsEmpty, FailedStops, HolderStays, CallsOneByOne, WaiterWaits, EndsOnce, OpenInTime, ResultIsDelivered, ResultIsOwn, DoneIsDelivered, UnendedIsLatest, Accepted, ReadsAlike, ReadsItsSpawn}
 
 -- a step on the part 0, by the instance in the slot 0 or by the scheduler
 abbrev step : ℕ → Value → Value → Step
@@ -149,3 +155,35 @@ pub bound-asynchronous : (cfg : Config) (t : ℕ) → isServer cfg 0 ≡ false �
     → CallsOneByOne cfg (spawns ∷ calls ∷ waits t ∷ step timeoutCode voidV voidV ∷ []) (step callCode voidV limitV) [] → ⊥
 unfolding historyOf historyFrom observe nothing sameValue endsOf isUnended boundIn tracedFrom boundAfter binds asksSynchronous
 bound-asynchronous cfg t q f h = omega (arith, ap (λ (v : Value). v .kind) (rw (q, f) at (h refl)))
+
+-- ---- copies
+
+-- the instance in the slot 0 reads its copy of the required element 0
+abbrev reads : Value → Step
+reads v = step readCopyCode voidV v
+
+-- `copy_follows`: a second read of the same copy is answered another number than the first
+pub reads-afresh : (cfg : Config) → ReadsAlike cfg (spawns ∷ reads (numberV 1) ∷ []) (reads (numberV 2)) [] → ⊥
+unfolding livesIn tracedFrom livesAfter
+reads-afresh cfg h = omega (arith, ap (λ (v : Value). v .number) (h refl (reads (numberV 1)) (spawns ∷ []) [] refl refl refl refl refl))
+
+-- `copy_of_other`: who was spawned first of all reads a number, which no element holds then
+starts-without : (k : RequiredConf) → startElement k .value .kind ≡ 1 → ⊥
+unfolding startElement noElement
+starts-without k = by (eqb (k .capacity) 0)
+  where
+    by : (b : Bool) → pick b (record { value = neverReceivedV; updated = false; queue = noValues }) noElement .value .kind ≡ 1 → ⊥
+    by true h = omega (arith, h)
+    by false h = omega (arith, h)
+
+no-number : (cfg : Config) (q : ℕ) → elementIn (startOf cfg .elements) q .value .kind ≡ 1 → ⊥
+unfolding startOf startElements elementIn noElements noElement
+no-number cfg q =
+    each-has (λ (k : ℕ) (x : Element). startElement (requiredConfIn (cfg .required) k)) noElement (λ (k : ℕ) (x : Element). x .value .kind ≡ 1 → ⊥) (cfg .required .n) (noElements .at) q
+    (λ l. starts-without (requiredConfIn (cfg .required) q)) (all-alike (λ (x : Element). x .value .kind ≡ 1 → ⊥) 16 noElement q (λ h. omega (arith, h)))
+
+pub reads-before : (cfg : Config) → ReadsItsSpawn cfg (spawns ∷ []) (reads (numberV 7)) [] → ⊥
+unfolding livesIn tracedFrom livesAfter Accepted
+reads-before cfg h =
+    let r = h refl in
+    no-number cfg 0 (ap (λ (m : State). elementIn (m .elements) 0 .value .kind) (r .1) ∙ ap (λ (v : Value). v .kind) (sym (r .2)))

@@ -7,7 +7,7 @@ use mathlib.Core.Logic.{_↔_, _⊎_, inl, inr, ⊎-elim}
 use mathlib.Core.Path.{_≡_, refl, sym, ap, _∙_}
 use native.Mathlib.Omega.{arith}
 use borrow.Author.Tests.{ne-eqb}
-use Rattle.numbers.specs.Codes.{sendCode, callCode, resultCode, handBackCode, spawnCode, receiveCode, giveUpCode}
+use Rattle.numbers.specs.Codes.{readCopyCode, writeCopyCode, sendCode, callCode, resultCode, handBackCode, spawnCode, receiveCode, giveUpCode}
 use Rattle.laws.specs.Mask.{isSet}
 use Rattle.laws.proofs.Choosing.{clash}
 use Rattle.laws.proofs.Masks.{none-set}
@@ -149,6 +149,9 @@ send-is-unread cfg before after s v c = (u, at)
       waiter = p .waiter;
       held = λ w q. absurd (⊎-elim (λ x. other-code receiveCode c refl (x .0)) (λ x. other-code giveUpCode c refl (x .0)) (p .held w q .3));
       spent = λ q. absurd (other-code giveUpCode c refl q);
+      copy = λ q. absurd (other-code readCopyCode c refl q);
+      copies = λ q. absurd (other-code readCopyCode c refl q);
+      unseen = λ q. absurd (other-code writeCopyCode c refl q);
       answer = λ q. absurd (other-code handBackCode c refl q);
       zero = p .zero;
       ends = p .ends;

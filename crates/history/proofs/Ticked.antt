@@ -119,9 +119,9 @@ clocks cfg st s st′ d = go d
     go (call c k z e) = same c refl refl (rw e)
     go (answer c k z a e) = same c refl refl (rw e)
     go (late c k z e) = same c refl refl (rw e)
-    go (end c z e) = same c refl refl (rw e)
-    go (server c k y z e) = same c refl refl (rw e)
-    go (plain c k y z e) = same c refl refl (rw e)
+    go (end c z e) = same c refl refl (rw (e .timers))
+    go (server c k y z e) = same c refl refl (rw (e .timers))
+    go (plain c k y z e) = same c refl refl (rw (e .timers))
     go (timeout c z e) = same c refl refl (rw e)
     go (fail c z e) = same c refl refl (rw e)
 

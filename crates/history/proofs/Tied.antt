@@ -78,6 +78,24 @@ pub record Tied (st : State) (h : History) : Type 0 where
   pub calls : Calls (st .operations) (h .latest) (h .endings) (h .place)
   pub failed : Failed (st .slots) (h .failed)
 
+-- ---- states that differ in nothing that histories are told by
+
+-- st′ has the operations, areas, timers and slots of m, and its requests: elements, copies and pending activations may differ
+pub record As (m st′ : State) : Type 0 where
+  pub operations : st′ .operations ≡ m .operations
+  pub areas : st′ .areas ≡ m .areas
+  pub timers : st′ .timers ≡ m .timers
+  pub slots : st′ .slots ≡ m .slots
+  pub requests : (r : ℕ) → runnableIn (st′ .runnables) r .requests ≡ runnableIn (m .runnables) r .requests
+
+pub tied-as : {m st′ : State} {h : History} → As m st′ → Tied m h → Tied st′ h
+tied-as e t = record {
+  queues = record { size = t .queues .size; each = λ r. rw (e .operations, e .requests r) (t .queues .each r) };
+  served = rw (e .operations, e .slots) (t .served);
+  calls = rw (e .operations) (t .calls);
+  failed = rw (e .slots) (t .failed);
+}
+
 -- ---- tables that agree in what is read of them
 
 pub record SameCalls (t : ℕ) (os os′ : Operations) : Type 0 where

@@ -5,6 +5,7 @@ use mathlib.Core.Path.{subst}
 use Rattle.faces.specs.Types.{Step}
 use Rattle.state.specs.Start.{startOf}
 use Rattle.history.specs.Promises.{Run, OfRuns, OfSteps, Followed, AtMoment, AtStep, Demand3}
+use Rattle.history.proofs.Regulated.{reads-its-spawn, reads-alike, set-is-unseen}
 use Rattle.history.proofs.Runs.{halves}
 use Rattle.history.proofs.Proofs.{stays-sound, areas-held, enters-free, exits-held, ends-empty, spawns-empty, acts-alive, holder-stays, failed-stops, back-is-last, ends-paid, failed-goes-on, requests-fit, values-fit, calls-one-by-one, waiter-waits, back-is-answered, ends-once, ends-properly, timeout-at-zero, timeout-ends-open, timeout-in-time, back-in-time, open-in-time, ticks-in-time, timers-in-time, result-is-delivered, result-is-own, done-is-delivered, number-is-final, done-is-final, failure-is-final, done-is-failure, used-is-lived, failed-followed, finished-followed, number-goes-round, waiting-followed, bound-followed, open-is-unended, unended-is-latest, latest-started, count-is-rest, queues-followed, served-followed, first-in-first-out, spawn-takes-next, held-goes-on, gives-up-held, held-in-time, held-followed}
 
@@ -60,6 +61,9 @@ at-step cfg before after s st c e = record {
   waiter = waiter-waits cfg before after s st c e;
   held = held-goes-on cfg before after s st c e;
   spent = gives-up-held cfg before after s st c e;
+  copy = reads-its-spawn cfg before after s st c e;
+  copies = reads-alike cfg before after s st c e;
+  unseen = set-is-unseen cfg before after s st c e;
   answer = back-is-answered cfg before after s st c e;
   zero = timeout-at-zero cfg before after s st c e;
   ends = timeout-ends-open cfg before after s st c e;

@@ -116,6 +116,8 @@ module _ (cfg : Config) (st : State) (s : Step) where
       one (s .who) (awaiting (slotIn (st .slots) (s .who)) (onElement (s .what) (s .argument .number))) c refl refl refl
       (λ o. sym (waits-none o (slotIn (st .slots) (s .who)) (no-caller (slotIn (st .slots) (s .who) .life) (z .who .running))))
   waits-way g c k (go.giveUp z) = one (s .who) (runningOn (slotIn (st .slots) (s .who))) c refl refl refl (λ o. sym (waits-none o (slotIn (st .slots) (s .who)) (z .free)))
+  waits-way g c k (go.readCopy z) = same c refl refl refl
+  waits-way g c k (go.writeCopy z) = same c refl refl refl
 
 -- ---- the recording, step by step
 

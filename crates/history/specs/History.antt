@@ -317,6 +317,19 @@ holderAfter a w s = pick (eqb (s .what) a) (pick (eqb (s .code) enterCode) (some
 unfoldable pub holderOf : ℕ → List Step → Option ℕ
 holderOf a rs = traced (λ n. holderAfter a) none rs
 
+-- ---- copies, and what is seen of them
+
+-- the same step with another argument (W-211)
+abbrev pub arguing : Step → Value → Step
+arguing s v = record { code = s .code; who = s .who; what = s .what; argument = v; claim = s .claim }
+
+-- the first end of the instance in the slot i among the steps is that of one which has not failed, f saying whether it has failed before them: then what it has set is handed on (W-211)
+unfoldable pub handsOnIn : ℕ → Bool → List Step → Bool
+handsOnIn i f [] = false
+handsOnIn i f (s ∷ rs) =
+    pick (both (eqb (s .code) endCode) (eqb (s .who) i)) (not f)
+    (handsOnIn i (either f (both (eqb (s .code) failCode) (eqb (s .who) i))) rs)
+
 -- ---- requests followed in a second way: all that were ever queued at r, and how many were taken there
 
 -- the requests that rs queues at r, oldest first; n steps stand before rs ("How tight the contracts are", demand 3)

@@ -3,18 +3,18 @@
 -- A promise that needs no state to be said names none; crate crew says these of the two files alone.
 -- `Run cfg rs st` says that every step of rs, in turn from the start state, is accepted, with an answer that agrees with what it claims, and that st is the state reached.
 -- Assumes nothing.
-use Prim.Native.Nat.{ℕ, _+_, _%_, _≤_, _<_}
+use Prim.Native.Nat.{ℕ, _+_, _-_, _%_, _≤_, _<_}
 use mathlib.Core.Bool.{true, false}
 use mathlib.Core.List.{List, [], _∷_, _++_, List·Memᴰ}
 use mathlib.Core.Logic.{_⊎_}
 use mathlib.Core.Option.{Option, none, some}
 use mathlib.Core.Path.{_≡_}
 use lib.Dec.{ltb, eqb}
-use lib.ListN.{length, getD, drop}
-use Rattle.numbers.specs.Codes.{enterCode, exitCode, receiveCode, callCode, resultCode, handBackCode, endCode, spawnCode, timeoutCode, tickCode, giveUpCode}
+use lib.ListN.{length, getD, take, drop}
+use Rattle.numbers.specs.Codes.{enterCode, exitCode, receiveCode, callCode, resultCode, handBackCode, endCode, spawnCode, timeoutCode, tickCode, giveUpCode, readCopyCode, writeCopyCode}
 use Rattle.laws.specs.Choice.{pick, both, either, bit}
-use Rattle.faces.specs.Types.{Step, Answer, Config, Client, State}
-use Rattle.values.specs.Values.{voidV, numberV, okV, limitV, noDataV, timeoutV, serverErrV, answerRefusal, answerValue}
+use Rattle.faces.specs.Types.{Value, Step, Answer, Config, Client, State}
+use Rattle.values.specs.Values.{voidV, numberV, okV, limitV, noDataV, timeoutV, serverErrV, isPayload, answerRefusal, answerValue}
 use Rattle.config.specs.Tables.{maxRunnableConfs, maxAreaConfs, maxRequiredConfs, maxOperationConfs, runnableConfIn, requiredConfIn, operationConfIn, timerConfIn}
 use Rattle.entries.specs.Faults.{configSound}
 use Rattle.state.specs.Parts.{lastNumber, noClient}
@@ -24,7 +24,7 @@ use Rattle.state.specs.Start.{startOf}
 use Rattle.rules.specs.Rows.{aSlot, rowOf}
 use Rattle.rules.specs.Sound.{isCaller, isHeld, timesIn, isBound, soundOf}
 use Rattle.effects.specs.Step.{agrees, possibleOf, stepOf}
-use Rattle.history.specs.History.{Request, noRequest, byInstance, byFailure, Ending, historyOf, queuedAt, takenBy, failedBy, latestOn, endsOf, endedOn, lastOn, isUnended, given, delivered, endedCall, Started, EndedBy, timeSince, lastTick, InTime, livesIn, backIn, boundIn, awaitsIn, heldIn, HeldFor, holderOf, allQueued, allSpawns}
+use Rattle.history.specs.History.{Request, noRequest, byInstance, byFailure, Ending, historyOf, queuedAt, takenBy, failedBy, latestOn, endsOf, endedOn, lastOn, isUnended, given, delivered, endedCall, Started, EndedBy, timeSince, lastTick, InTime, livesIn, arguing, handsOnIn, backIn, boundIn, awaitsIn, heldIn, HeldFor, holderOf, allQueued, allSpawns}
 
 -- an answer says that the step was taken, with a value that agrees with what it claims: by the number and the value that stand for it; no refusal has the number 0 (`never-zero` in crate stays_sound) ("Numbers of refusal"; W-201)
 abbrev pub Answers : Answer → Step → Type 0
@@ -148,6 +148,24 @@ HeldGoesOn cfg before s after =
 -- and who gives up was held (W-210)
 abbrev pub GivesUpHeld : Config → List Step → Step → List Step → Type 0
 GivesUpHeld cfg before s after = s .code ≡ giveUpCode → 0 < heldIn (s .who) before
+
+-- who reads a copy is answered what the element held when its instance was spawned: m is the state before that spawn (W-211)
+abbrev pub ReadsItsSpawn : Config → List Step → Step → List Step → Type 0
+ReadsItsSpawn cfg before s after =
+    s .code ≡ readCopyCode
+    → (m : State) × Run cfg (take (livesIn (s .who) before - 1) before) m × (s .claim ≡ elementIn (m .elements) (s .what) .value)
+
+-- and so is answered the same each time, from its spawn to its end: x is an earlier step, of the same instance on the same element (W-211)
+abbrev pub ReadsAlike : Config → List Step → Step → List Step → Type 0
+ReadsAlike cfg before s after =
+    s .code ≡ readCopyCode → (x : Step) (earlier between : List Step) → before ≡ earlier ++ (x ∷ between)
+    → x .code ≡ readCopyCode → x .who ≡ s .who → x .what ≡ s .what → livesIn (s .who) earlier ≡ livesIn (s .who) before → x .claim ≡ s .claim
+
+-- what an instance sets is seen by nobody before it ends, and never if it fails or does not end: any other payload in its place, and the same recording is accepted with the same answers (W-211)
+abbrev pub SetIsUnseen : Config → List Step → Step → List Step → Type 0
+SetIsUnseen cfg before s after =
+    s .code ≡ writeCopyCode → handsOnIn (s .who) false after ≡ false
+    → (v : Value) → isPayload v ≡ true → (st : State) × Run cfg (before ++ (arguing s v ∷ after)) st
 
 -- a hand back is answered 1, and so ends the call that its instance was spawned for, exactly if that call has no ending yet ("The eighteen steps", Hand back)
 abbrev pub BackIsAnswered : Config → List Step → Step → List Step → Type 0
@@ -397,6 +415,9 @@ pub record AtStep (cfg : Config) (before : List Step) (s : Step) (after : List S
   pub waiter : WaiterWaits cfg before s after
   pub held : HeldGoesOn cfg before s after
   pub spent : GivesUpHeld cfg before s after
+  pub copy : ReadsItsSpawn cfg before s after
+  pub copies : ReadsAlike cfg before s after
+  pub unseen : SetIsUnseen cfg before s after
   pub answer : BackIsAnswered cfg before s after
   pub zero : TimeoutAtZero cfg before s after
   pub ends : TimeoutEndsOpen cfg before s after

@@ -22,7 +22,7 @@ fn refusal(cfg: Config, slots: Slots, s: Step) -> u8
             s,
         ),
         numbers::CODE_SPAWN..=numbers::CODE_WAIT => refusals::scheduler_refusal(cfg, s),
-        numbers::CODE_FAIL..=numbers::CODE_GIVE_UP => refusals::instance_refusal(cfg, slots, s),
+        numbers::CODE_FAIL..=numbers::CODE_WRITE_COPY => refusals::instance_refusal(cfg, slots, s),
         _ => numbers::MALFORMED,
     }
 }
@@ -52,14 +52,16 @@ pub fn possible(cfg: Config, st: State, s: Step) -> Stepped
             numbers::CODE_CALL => call_steps::call(cfg, st, i, k, v),
             numbers::CODE_RESULT => call_steps::result(cfg, st, i, k),
             numbers::CODE_HAND_BACK => end_steps::hand_back(cfg, st, i, v),
-            numbers::CODE_END => end_steps::end(st, i),
+            numbers::CODE_END => end_steps::end(cfg, st, i),
             numbers::CODE_SPAWN => time_steps::spawn(cfg, st, k),
             numbers::CODE_TIMEOUT => end_steps::timeout(cfg, st, k),
             numbers::CODE_TICK => time_steps::tick(cfg, st, k),
             numbers::CODE_WAIT => time_steps::wait(cfg, st, v.number),
             numbers::CODE_FAIL => end_steps::fail(st, i),
             numbers::CODE_HOLD => data_steps::hold(st, i, k, v.number),
-            _ => data_steps::give_up(st, i),
+            numbers::CODE_GIVE_UP => data_steps::give_up(st, i),
+            numbers::CODE_READ_COPY => copies::read_copy(cfg, st, i, k),
+            _ => copies::write_copy(cfg, st, i, k, v),
         };
     }
     shared_steps::refuse(n, st)

@@ -85,3 +85,11 @@ holdCode = 20
 -- give up waiting for data (W-210)
 abbrev pub giveUpCode : ℕ
 giveUpCode = 21
+
+-- read copy: what an instance's own copy of an element holds (W-211)
+abbrev pub readCopyCode : ℕ
+readCopyCode = 22
+
+-- write copy: set an instance's own copy of an element (W-211)
+abbrev pub writeCopyCode : ℕ
+writeCopyCode = 23

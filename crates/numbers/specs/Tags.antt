@@ -90,6 +90,18 @@ returnEventTag = 0x19
 abbrev pub returnEventLength : ℕ
 returnEventLength = 2
 
+-- the tag of an element that a runnable lists to be copied at spawn (W-211)
+abbrev pub incomingTag : ℕ
+incomingTag = 0x1a
+
+-- the tag of an element that a runnable lists to be written at end (W-211)
+abbrev pub outgoingTag : ℕ
+outgoingTag = 0x1b
+
+-- how long the body of either is (W-211)
+abbrev pub listedLength : ℕ
+listedLength = 2
+
 -- the tag of a step ("The files", tag 40)
 abbrev pub stepTag : ℕ
 stepTag = 0x40
@@ -110,7 +122,7 @@ endLength = 0
 abbrev pub fieldHead : ℕ
 fieldHead = 3
 
--- the length of an element's, a link's or an event's body ("The files", tags 13, 14, 15, 18, 19)
+-- the length of an element's, a link's, an event's or a listed element's body ("The files", tags 13, 14, 15, 18, 19; W-211)
 abbrev pub pairLength : ℕ
 pairLength = 2
 
@@ -118,13 +130,13 @@ pairLength = 2
 abbrev pub noLength : ℕ
 noLength = 65536
 
--- how many kinds of parts there are, with the tags from 10 on ("The files", the table)
+-- how many kinds of parts there are, with the tags from 10 on ("The files", the table; W-211)
 abbrev pub partKinds : ℕ
-partKinds = 10
+partKinds = 12
 
--- the tag of the last kind of parts ("The files", the table)
+-- the tag of the last kind of parts ("The files", the table; W-211)
 abbrev pub lastTag : ℕ
-lastTag = 0x19
+lastTag = 0x1b
 
 -- how long a step's field is, in all ("The files", recording)
 abbrev pub stepSize : ℕ

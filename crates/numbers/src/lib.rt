@@ -102,6 +102,10 @@ pub const CODE_HOLD: u8 = 20;
 
 pub const CODE_GIVE_UP: u8 = 21;
 
+pub const CODE_READ_COPY: u8 = 22;
+
+pub const CODE_WRITE_COPY: u8 = 23;
+
 // Tags of fields.
 pub const TAG_EDITION: u8 = 0x01;
 
@@ -124,6 +128,10 @@ pub const TAG_TIMER: u8 = 0x17;
 pub const TAG_DATA_EVENT: u8 = 0x18;
 
 pub const TAG_RETURN_EVENT: u8 = 0x19;
+
+pub const TAG_INCOMING: u8 = 0x1a;
+
+pub const TAG_OUTGOING: u8 = 0x1b;
 
 pub const TAG_STEP: u8 = 0x40;
 
@@ -152,6 +160,8 @@ pub const LENGTH_DATA_EVENT: usize = 2;
 
 pub const LENGTH_RETURN_EVENT: usize = 2;
 
+pub const LENGTH_LISTED: usize = 2;
+
 pub const LENGTH_STEP: usize = 13;
 
 pub const LENGTH_END: usize = 0;
@@ -159,14 +169,14 @@ pub const LENGTH_END: usize = 0;
 // The bytes of a field before its body: tag and length.
 pub const HEAD: usize = 3;
 
-// The length of an element's, a link's or an event's body.
+// The length of an element's, a link's, an event's or a listed element's body.
 pub const LENGTH_PAIR: usize = 2;
 
 // More than two bytes can say: no field has this length.
 pub const NO_LENGTH: usize = 65536;
 
 // How many kinds of parts there are, with the tags from 10 on.
-pub const PART_KINDS: u8 = 10;
+pub const PART_KINDS: u8 = 12;
 
 // The bytes of whole fields.
 pub const SIZE_RUNNABLE: u8 = (HEAD + LENGTH_RUNNABLE) as u8;

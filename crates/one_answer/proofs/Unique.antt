@@ -159,6 +159,39 @@ config-marks-invalid κs a x y s t = same
 pub config-has-step : One Rattle.config.proofs.has_step.Kinds.ps Rattle.config.proofs.has_step.Kinds.r Rattle.config.proofs.has_step.Reads.Post
 config-has-step κs a x y s t = same
 
+pub config-Lists-none : One Rattle.config.proofs.Lists.none.Kinds.ps Rattle.config.proofs.Lists.none.Kinds.r Rattle.config.proofs.Lists.none.Reads.Post
+config-Lists-none κs a x y s t = same
+
+pub config-Lists-get : One Rattle.config.proofs.Lists.get.Kinds.ps Rattle.config.proofs.Lists.get.Kinds.r Rattle.config.proofs.Lists.get.Reads.Post
+config-Lists-get κs a x y s t = same
+
+pub config-Lists-add : One Rattle.config.proofs.Lists.add.Kinds.ps Rattle.config.proofs.Lists.add.Kinds.r Rattle.config.proofs.Lists.add.Reads.Post
+config-Lists-add κs a x y s t = same
+
+pub config-Lists-below : One Rattle.config.proofs.Lists.below.Kinds.ps Rattle.config.proofs.Lists.below.Kinds.r Rattle.config.proofs.Lists.below.Reads.Post
+config-Lists-below κs a x y s t = same
+
+pub config-Lists-first : One Rattle.config.proofs.Lists.first.Kinds.ps Rattle.config.proofs.Lists.first.Kinds.r Rattle.config.proofs.Lists.first.Reads.Post
+config-Lists-first κs a x y s t = same
+
+pub config-Lists-lists-at : One Rattle.config.proofs.Lists.lists_at.Kinds.ps Rattle.config.proofs.Lists.lists_at.Kinds.r Rattle.config.proofs.Lists.lists_at.Reads.Post
+config-Lists-lists-at κs a x y s t = same
+
+pub config-Lists-element-at : One Rattle.config.proofs.Lists.element_at.Kinds.ps Rattle.config.proofs.Lists.element_at.Kinds.r Rattle.config.proofs.Lists.element_at.Reads.Post
+config-Lists-element-at κs a x y s t = same
+
+pub config-Lists-place : One Rattle.config.proofs.Lists.place.Kinds.ps Rattle.config.proofs.Lists.place.Kinds.r Rattle.config.proofs.Lists.place.Reads.Post
+config-Lists-place κs a x y s t = same
+
+pub config-Lists-has : One Rattle.config.proofs.Lists.has.Kinds.ps Rattle.config.proofs.Lists.has.Kinds.r Rattle.config.proofs.Lists.has.Reads.Post
+config-Lists-has κs a x y s t = same
+
+pub config-lists-elements : One Rattle.config.proofs.lists_elements.Kinds.ps Rattle.config.proofs.lists_elements.Kinds.r Rattle.config.proofs.lists_elements.Reads.Post
+config-lists-elements κs a x y s t = same
+
+pub config-has-field : One Rattle.config.proofs.has_field.Kinds.ps Rattle.config.proofs.has_field.Kinds.r Rattle.config.proofs.has_field.Reads.Post
+config-has-field κs a x y s t = same
+
 -- ---- state
 
 pub state-Requests-get : One Rattle.state.proofs.Requests.get.Kinds.ps Rattle.state.proofs.Requests.get.Kinds.r Rattle.state.proofs.Requests.get.Reads.Post
@@ -242,6 +275,18 @@ state-up-one κs a x y s t = same
 pub state-down-one : One Rattle.state.proofs.down_one.Kinds.ps Rattle.state.proofs.down_one.Kinds.r Rattle.state.proofs.down_one.Reads.Post
 state-down-one κs a x y s t = same
 
+pub state-Copies-get : One Rattle.state.proofs.Copies.get.Kinds.ps Rattle.state.proofs.Copies.get.Kinds.r Rattle.state.proofs.Copies.get.Reads.Post
+state-Copies-get κs a x y s t = same
+
+pub state-Copies-with : One Rattle.state.proofs.Copies.with.Kinds.ps Rattle.state.proofs.Copies.with.Kinds.r Rattle.state.proofs.Copies.with.Reads.Post
+state-Copies-with κs a x y s t = same
+
+pub state-Copied-get : One Rattle.state.proofs.Copied.get.Kinds.ps Rattle.state.proofs.Copied.get.Kinds.r Rattle.state.proofs.Copied.get.Reads.Post
+state-Copied-get κs a x y s t = same
+
+pub state-Copied-with : One Rattle.state.proofs.Copied.with.Kinds.ps Rattle.state.proofs.Copied.with.Kinds.r Rattle.state.proofs.Copied.with.Reads.Post
+state-Copied-with κs a x y s t = same
+
 -- ---- entries
 
 pub entries-is-time : One Rattle.entries.proofs.is_time.Kinds.ps Rattle.entries.proofs.is_time.Kinds.r Rattle.entries.proofs.is_time.Reads.Post
@@ -294,6 +339,9 @@ entries-kind-sound κs a x y s t = same
 
 pub entries-config-sound : One Rattle.entries.proofs.config_sound.Kinds.ps Rattle.entries.proofs.config_sound.Kinds.r Rattle.entries.proofs.config_sound.Reads.Post
 entries-config-sound κs a x y s t = same
+
+pub entries-has-room : One Rattle.entries.proofs.has_room.Kinds.ps Rattle.entries.proofs.has_room.Kinds.r Rattle.entries.proofs.has_room.Reads.Post
+entries-has-room κs a x y s t = same
 
 -- ---- wire
 
@@ -419,6 +467,26 @@ feeding-is-fed κs a x y s t = same
 
 pub feeding-fed-runnables : One Rattle.feeding.proofs.fed_runnables.Kinds.ps Rattle.feeding.proofs.fed_runnables.Kinds.r Rattle.feeding.proofs.fed_runnables.Reads.Post
 feeding-fed-runnables κs a x y s t = same
+
+-- ---- copies
+
+pub copies-lists-some : One Rattle.copies.proofs.lists_some.Kinds.ps Rattle.copies.proofs.lists_some.Kinds.r Rattle.copies.proofs.lists_some.Reads.Post
+copies-lists-some κs a x y s t = same
+
+pub copies-handed-on : One Rattle.copies.proofs.handed_on.Kinds.ps Rattle.copies.proofs.handed_on.Kinds.r Rattle.copies.proofs.handed_on.Reads.Post
+copies-handed-on κs a x y s t = same
+
+pub copies-uncopied : One Rattle.copies.proofs.uncopied.Kinds.ps Rattle.copies.proofs.uncopied.Kinds.r Rattle.copies.proofs.uncopied.Reads.Post
+copies-uncopied κs a x y s t = same
+
+pub copies-copied-to : One Rattle.copies.proofs.copied_to.Kinds.ps Rattle.copies.proofs.copied_to.Kinds.r Rattle.copies.proofs.copied_to.Reads.Post
+copies-copied-to κs a x y s t = same
+
+pub copies-read-copy : One Rattle.copies.proofs.read_copy.Kinds.ps Rattle.copies.proofs.read_copy.Kinds.r Rattle.copies.proofs.read_copy.Reads.Post
+copies-read-copy κs a x y s t = same
+
+pub copies-write-copy : One Rattle.copies.proofs.write_copy.Kinds.ps Rattle.copies.proofs.write_copy.Kinds.r Rattle.copies.proofs.write_copy.Reads.Post
+copies-write-copy κs a x y s t = same
 
 -- ---- data_steps
 

@@ -1,5 +1,5 @@
 -- One part more: what placing an entry changes of a configuration, said by counts and entries, and that nothing else changes.
--- A table of any kind shows the same six facts (row-adds); above them the kind is a number from 10 to 19, hex.
+-- A table of any kind shows the same six facts (row-adds); above them the kind is a number from 10 to 1B, hex.
 -- Assumes nothing.
 use Prim.Native.Nat.{ℕ, _+_, _≤_, _<_, zero, suc, _*_, _%_}
 use mathlib.Core.Path.{_≡_, refl, sym, ap, _∙_}
@@ -12,21 +12,22 @@ use borrow.Author.Tests.{lt-ltb, ne-eqb, leb-true}
 use Rattle.numbers.specs.Tags.{lastTag}
 use Rattle.laws.specs.Choice.{pick, bit}
 use Rattle.config.specs.declared.Config.{Config}
-use Rattle.config.specs.Tables.{noRunnableConf, runnableConfIn, addRunnableConf, noVariableConf, variableConfIn, addVariableConf, noAreaConf, areaConfIn, addAreaConf, noRequiredConf, requiredConfIn, addRequiredConf, noProvidedConf, providedConfIn, addProvidedConf, noLink, linkIn, addLink, noOperationConf, operationConfIn, addOperationConf, noTimerConf, timerConfIn, addTimerConf, noDataEvent, dataEventIn, addDataEvent, noReturnEvent, returnEventIn, addReturnEvent}
+use Rattle.config.specs.Tables.{noRunnableConf, runnableConfIn, addRunnableConf, noVariableConf, variableConfIn, addVariableConf, noAreaConf, areaConfIn, addAreaConf, noRequiredConf, requiredConfIn, addRequiredConf, noProvidedConf, providedConfIn, addProvidedConf, noLink, linkIn, addLink, noOperationConf, operationConfIn, addOperationConf, noTimerConf, timerConfIn, addTimerConf, noDataEvent, dataEventIn, addDataEvent, noReturnEvent, returnEventIn, addReturnEvent, noListed, listedIn, addListed}
 use Rattle.entries.specs.declared.Entry.{Entry}
-use Rattle.entries.specs.Entries.{maxOf, countOf, placesOf, entryOf, placed, noEntry, runnableEntry, runnablePart, variableEntry, variablePart, areaEntry, areaPart, requiredEntry, requiredPart, providedEntry, providedPart, linkEntry, linkPart, operationEntry, operationPart, timerEntry, timerPart, dataEventEntry, dataEventPart, returnEventEntry, returnEventPart}
+use Rattle.entries.specs.Entries.{maxOf, countOf, placesOf, entryOf, placed, noEntry, runnableEntry, runnablePart, variableEntry, variablePart, areaEntry, areaPart, requiredEntry, requiredPart, providedEntry, providedPart, linkEntry, linkPart, operationEntry, operationPart, timerEntry, timerPart, dataEventEntry, dataEventPart, returnEventEntry, returnEventPart, listedEntry, listedPart}
 use mathlib.Core.Bool.{true}
 use mathlib.Core.List.{List}
 use Rattle.laws.proofs.Choosing.{both-left, both-right}
 use Rattle.entries.specs.Faults.{inRange}
 use Rattle.reading.specs.Reading.{entryRead}
 
--- what holds of each of the ten kinds holds of any tag between them
-pub each-kind : (P : ℕ → Type 0) → P 0x10 → P 0x11 → P 0x12 → P 0x13 → P 0x14 → P 0x15 → P 0x16 → P 0x17 → P 0x18 → P 0x19
+-- what holds of each kind holds of any tag between the first and the last
+pub each-kind : (P : ℕ → Type 0) → P 0x10 → P 0x11 → P 0x12 → P 0x13 → P 0x14 → P 0x15 → P 0x16 → P 0x17 → P 0x18 → P 0x19 → P 0x1a → P 0x1b
     → (tag : ℕ) → 0x10 ≤ tag → tag ≤ lastTag → P tag
-each-kind P a b c d e f g h i j tag low high =
+each-kind P a b c d e f g h i j m n tag low high =
     on 0x10 low a (λ l. on 0x11 l b (λ l. on 0x12 l c (λ l. on 0x13 l d (λ l. on 0x14 l e
-    (λ l. on 0x15 l f (λ l. on 0x16 l g (λ l. on 0x17 l h (λ l. on 0x18 l i (λ l. on 0x19 l j (λ l. absurd (omega arith)))))))))))
+    (λ l. on 0x15 l f (λ l. on 0x16 l g (λ l. on 0x17 l h (λ l. on 0x18 l i (λ l. on 0x19 l j
+    (λ l. on 0x1a l m (λ l. on 0x1b l n (λ l. absurd (omega arith)))))))))))))
   where
     on : (k : ℕ) → k ≤ tag → P k → (k + 1 ≤ tag → P tag) → P tag
     on k l x rest = go (ℕ-discrete tag k)
@@ -48,7 +49,9 @@ backOf tag e =
     (pick (eqb tag 0x17) (timerEntry (timerPart e))
     (pick (eqb tag 0x18) (dataEventEntry (dataEventPart e))
     (pick (eqb tag 0x19) (returnEventEntry (returnEventPart e))
-    noEntry)))))))))
+    (pick (eqb tag 0x1a) (listedEntry (listedPart e))
+    (pick (eqb tag 0x1b) (listedEntry (listedPart e))
+    noEntry)))))))))))
 
 -- cfg′ has one part more of a kind, with the entry e, and is otherwise as cfg
 pub record Adds (cfg cfg′ : Config) (tag : ℕ) (e : Entry) : Type 0 where
@@ -77,7 +80,7 @@ row-adds {A} {cfg} {cfg′} {tag} entry d x l n b own more was now places rest s
 
 -- a kind with room: one part more
 pub adds : (cfg : Config) (e : Entry) (tag : ℕ) → 0x10 ≤ tag → tag ≤ lastTag → countOf cfg tag < maxOf tag → placesOf cfg tag ≡ maxOf tag → Adds cfg (placed cfg tag e) tag (backOf tag e)
-unfolding countOf maxOf placesOf placed entryOf backOf runnableConfIn addRunnableConf variableConfIn addVariableConf areaConfIn addAreaConf requiredConfIn addRequiredConf providedConfIn addProvidedConf linkIn addLink operationConfIn addOperationConf timerConfIn addTimerConf dataEventIn addDataEvent returnEventIn addReturnEvent
+unfolding countOf maxOf placesOf placed entryOf backOf runnableConfIn addRunnableConf variableConfIn addVariableConf areaConfIn addAreaConf requiredConfIn addRequiredConf providedConfIn addProvidedConf linkIn addLink operationConfIn addOperationConf timerConfIn addTimerConf dataEventIn addDataEvent returnEventIn addReturnEvent listedIn addListed
 adds cfg e =
     each-kind (λ tag. countOf cfg tag < maxOf tag → placesOf cfg tag ≡ maxOf tag → Adds cfg (placed cfg tag e) tag (backOf tag e))
     (λ h l. rw (lt-ltb (cfg .runnables .n) 16 h) (row-adds runnableEntry noRunnableConf (runnablePart e) (cfg .runnables .at) (cfg .runnables .n) (omega arith) refl refl (λ i. refl) (λ i. refl) (λ q k. rw q) (λ k n. rw (ne-eqb k 0x10 n) (refl, λ i. refl)) refl))
@@ -90,6 +93,8 @@ adds cfg e =
     (λ h l. rw (lt-ltb (cfg .timers .n) 8 h) (row-adds timerEntry noTimerConf (timerPart e) (cfg .timers .at) (cfg .timers .n) (omega arith) refl refl (λ i. refl) (λ i. refl) (λ q k. rw q) (λ k n. rw (ne-eqb k 0x17 n) (refl, λ i. refl)) refl))
     (λ h l. rw (lt-ltb (cfg .devents .n) 32 h) (row-adds dataEventEntry noDataEvent (dataEventPart e) (cfg .devents .at) (cfg .devents .n) (omega arith) refl refl (λ i. refl) (λ i. refl) (λ q k. rw q) (λ k n. rw (ne-eqb k 0x18 n) (refl, λ i. refl)) refl))
     (λ h l. rw (lt-ltb (cfg .revents .n) 16 h) (row-adds returnEventEntry noReturnEvent (returnEventPart e) (cfg .revents .at) (cfg .revents .n) (omega arith) refl refl (λ i. refl) (λ i. refl) (λ q k. rw q) (λ k n. rw (ne-eqb k 0x19 n) (refl, λ i. refl)) refl))
+    (λ h l. rw (lt-ltb (cfg .incoming .n) 64 h) (row-adds listedEntry noListed (listedPart e) (cfg .incoming .at) (cfg .incoming .n) (omega arith) refl refl (λ i. refl) (λ i. refl) (λ q k. rw q) (λ k n. rw (ne-eqb k 0x1a n) (refl, λ i. refl)) refl))
+    (λ h l. rw (lt-ltb (cfg .outgoing .n) 64 h) (row-adds listedEntry noListed (listedPart e) (cfg .outgoing .at) (cfg .outgoing .n) (omega arith) refl refl (λ i. refl) (λ i. refl) (λ q k. rw q) (λ k n. rw (ne-eqb k 0x1b n) (refl, λ i. refl)) refl))
 
 -- ---- the entry of a part that was read is the entry that the bytes say
 
@@ -120,6 +125,8 @@ back-read =
     (λ t h. rw (mark-back (getD t 4 0) (leb-true (getD t 4 0) 1 (both-right (leb (getD t 3 0) 15) _ h))))
     (λ t h. refl)
     (λ t h. rw (mark-back (getD t 4 0) (leb-true (getD t 4 0) 1 (both-left (leb (getD t 4 0) 1) _ (both-right (leb (getD t 3 0) 15) _ h)))))
+    (λ t h. refl)
+    (λ t h. refl)
     (λ t h. refl)
     (λ t h. refl)
     (λ t h. refl)

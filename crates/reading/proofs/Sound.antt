@@ -1,6 +1,7 @@
 -- A configuration that the reader gives is sound.
 -- While a text is read, what stands so far is sound all the time, and no kind above the last tag has a part. A part names only kinds below its own,
 -- so one more of the last kind or a higher one leaves every fault of the others as it was (fault-kept), and its own were tested with the same numbers.
+-- The edition is read before any part, so that it stays what each field was tested with (W-211).
 -- Assumes nothing.
 use Prim.Native.Nat.{ℕ, zero, suc, _+_, _-_, _≤_, _<_}
 use mathlib.Core.Bool.{true, not}
@@ -18,13 +19,14 @@ use Rattle.config.specs.declared.Config.{Config}
 use Rattle.config.specs.Editions.{isEdition}
 use Rattle.config.specs.Tables.{noConfig}
 use Rattle.entries.specs.declared.Entry.{Entry}
-use Rattle.entries.specs.Entries.{countOf, entryOf, placed}
+use Rattle.entries.specs.Entries.{maxOf, countOf, entryOf, placed}
 use Rattle.entries.specs.Faults.{entryFault, configSound}
 use Rattle.entries.proofs.Kind.{fault-told, Kind, edition-told, config-told, config-made}
 use Rattle.entries.proofs.Editions.{edition-count, edition-kind}
-use Rattle.entries.proofs.Tags.{kind-tag, blank-none, blank-sound}
+use Rattle.entries.proofs.Tags.{blank-none, blank-sound}
+use Rattle.entries.proofs.Listing.{room-tag, has-place}
 use Rattle.wire.specs.Bytes.{lengthOf}
-use Rattle.reading.specs.Reading.{outcomeRefusal, sizeOf, entryRead, inOrder, headOf, bodyFault, wholeOf, refusedAt, onHead, readFrom, configOf}
+use Rattle.reading.specs.Reading.{outcomeRefusal, sizeIn, entryRead, inOrder, headOf, bodyFault, wholeOf, refusedAt, onHead, readFrom, configOf}
 use Rattle.reading.specs.declared.Outcome.the-variants.{Whole}
 use Rattle.reading.specs.declared.Reading.{Reading}
 use Rattle.reading.specs.declared.Head.{Head}
@@ -41,26 +43,26 @@ pub record Sofar (cfg : Config) (last : ℕ) : Type 0 where
   pub kinds : (k : ℕ) → 0x10 ≤ k → k ≤ lastTag → Kind cfg k
   pub above : (k : ℕ) → last < k → countOf cfg k ≡ 0
 
-sofar-starts : Sofar noConfig 0
+pub sofar-starts : Sofar noConfig 0
 sofar-starts = record { edition = edition-told noConfig blank-sound; kinds = config-told noConfig blank-sound; above = λ k l. blank-none k }
 
 -- one part more, of the last kind or a higher one, that was tested without fault
-module _ (cfg cfg′ : Config) (last tag : ℕ) (e : Entry) (f : Sofar cfg last) (a : Adds cfg cfg′ tag e) (up : last ≤ tag) (h : entryFault cfg tag (countOf cfg tag) e ≡ 0) where
+module _ (cfg cfg′ : Config) (last tag : ℕ) (e : Entry) (f : Sofar cfg last) (a : Adds cfg cfg′ tag e) (up : last ≤ tag) (h : entryFault cfg tag (countOf cfg tag) e ≡ 0) (more : countOf cfg tag < maxOf tag) where
   -- what was found of an entry is still so
   kept : (k i : ℕ) → k ≤ tag → i ≤ countOf cfg k → (x : Entry) → entryFault cfg′ k i x ≡ entryFault cfg k i x
   kept k i l c x =
-      fault-kept cfg cfg′ k (λ j m. a .counts j (λ q. omega (arith, l, m, q))) (λ j n m. a .others j n (λ q. omega (arith, l, m, q))) i (λ z. before z (ℕ-discrete k tag)) x
+      fault-kept cfg cfg′ k (λ j m. a .counts j (λ q. omega (arith, l, m, q))) (λ j n m. a .others j n (λ q. omega (arith, l, m, q))) i (λ n m. before n m (ℕ-discrete k tag)) (a .edition) x
     where
-      before : (i ≡ 0 → ⊥) → Dec (k ≡ tag) → entryOf cfg′ k (i - 1) ≡ entryOf cfg k (i - 1)
-      before z (yes q) = rw q (a .earlier (i - 1) (λ r. omega (arith, r, z, ap (countOf cfg) q)))
-      before z (no n) = a .others k (i - 1) n
+      before : (n : ℕ) → n < i → Dec (k ≡ tag) → entryOf cfg′ k n ≡ entryOf cfg k n
+      before n m (yes q) = rw q (a .earlier n (λ r. omega (arith, r, m, c, ap (countOf cfg) q)))
+      before n m (no d) = a .others k n d
 
   -- the kind that has grown
   grown : Kind cfg tag → Kind cfg′ tag
   grown g =
       record {
         places = a .places tag ∙ g .places;
-        room = omega (arith, a .own, fault-told cfg tag (countOf cfg tag) e h .room);
+        room = omega (arith, a .own, more);
         used = λ i l. stands i (omega (arith, l, a .own)) (ℕ-discrete i (countOf cfg tag));
         blank = λ i l m. rw (a .earlier i (λ q. omega (arith, q, m, a .own))) (g .blank i l (omega (arith, m, a .own)));
       }
@@ -116,21 +118,22 @@ order-up last tag h = go (ℕ-discrete last 0)
 sofar-part : (cfg : Config) (last tag : ℕ) (t : List ℕ) → Sofar cfg last → last ≤ tag → entryFault cfg tag (countOf cfg tag) (entryRead tag t) ≡ 0 → Sofar (placed cfg tag (entryRead tag t)) tag
 sofar-part cfg last tag t f up h =
     let r = fault-told cfg tag (countOf cfg tag) (entryRead tag t) h in
-    let k = kind-tag tag (omega (arith, r .room)) in
-    let a = adds cfg (entryRead tag t) tag (k .0) (k .1) (r .room) (f .kinds tag (k .0) (k .1) .places) in
-    sofar-grows cfg (placed cfg tag (entryRead tag t)) last tag (entryRead tag t) f (rw (back-read tag (k .0) (k .1) t (r .range)) at a) up h (k .0) (k .1)
+    let k = room-tag cfg tag (countOf cfg tag) (entryRead tag t) (r .room) in
+    let more = has-place cfg (f .kinds 0x10 (omega arith) (omega arith)) tag (entryRead tag t) (f .kinds tag (k .0) (k .1)) r in
+    let a = adds cfg (entryRead tag t) tag (k .0) (k .1) more (f .kinds tag (k .0) (k .1) .places) in
+    sofar-grows cfg (placed cfg tag (entryRead tag t)) last tag (entryRead tag t) f (rw (back-read tag (k .0) (k .1) t (r .range)) at a) up h more (k .0) (k .1)
 
 -- an edition without fault
 is-one : (e : ℕ) → pick {A = ℕ} (isEdition e) 0 24 ≡ 0 → isEdition e ≡ true
 is-one e g = pick-on (isEdition e) 0 24 0 g (λ y. omega (arith, y)) .0
 
 -- a field without fault, the edition or a part
-sofar-field : (cfg : Config) (last tag : ℕ) (t : List ℕ) → Sofar cfg last → last ≤ tag → bodyFault cfg tag t ≡ 0 → Sofar (placed cfg tag (entryRead tag t)) tag
+pub sofar-field : (cfg : Config) (last tag : ℕ) (t : List ℕ) → Sofar cfg last → last ≤ tag → bodyFault cfg tag t ≡ 0 → Sofar (placed cfg tag (entryRead tag t)) tag
 unfolding bodyFault placed entryRead
 sofar-field cfg last tag t f up h = go (ℕ-discrete tag 0x01)
   where
     go : Dec (tag ≡ 0x01) → Sofar (placed cfg tag (entryRead tag t)) tag
-    go (yes q) = rw q (record { edition = is-one (getD t 3 0) (rw q at h); kinds = λ k l b. edition-kind cfg (getD t 3 0) k (f .kinds k l b); above = λ k l. edition-count cfg (getD t 3 0) k ∙ f .above k (omega (arith, q, up, l)) })
+    go (yes q) = rw q (record { edition = is-one (getD t 3 0) (rw q at h); kinds = λ k l b. edition-kind cfg (getD t 3 0) k (f .above k (omega (arith, q, up, l))) (f .kinds k l b); above = λ k l. edition-count cfg (getD t 3 0) k ∙ f .above k (omega (arith, q, up, l)) })
     go (no n) = sofar-part cfg last tag t f up (rw (ne-eqb tag 0x01 n) at h)
 
 -- ---- the whole text
@@ -146,14 +149,14 @@ unfolding refusedAt
 given-refused number place n = record { sound = blank-sound; blank = λ _. refl; number = λ e. absurd (n e) }
 
 -- a field that is refused at its head is refused with 21 or 22
-bad-number : (t : List ℕ) (last number : ℕ) → headOf t last ≡ Bad number → number ≡ 0 → ⊥
+bad-number : (v : ℕ) (t : List ℕ) (last number : ℕ) → headOf v t last ≡ Bad number → number ≡ 0 → ⊥
 unfolding headOf
-bad-number t last number =
+bad-number v t last number =
     pick-has P (ltb (length t) 3) _ _ (λ _. bad 21 (λ z. omega (arith, z)))
-    (λ _. pick-has P (eqb (lengthOf (getD t 1 0) (getD t 2 0)) (sizeOf (getD t 0 0))) _ _
-    (λ _. pick-has P (leb (sizeOf (getD t 0 0)) (length t - 3)) _ _
+    (λ _. pick-has P (eqb (lengthOf (getD t 1 0) (getD t 2 0)) (sizeIn v (getD t 0 0))) _ _
+    (λ _. pick-has P (leb (sizeIn v (getD t 0 0)) (length t - 3)) _ _
     (λ _. pick-has P (inOrder last (getD t 0 0)) _ _
-    (λ _. pick-has P (eqb (getD t 0 0) 0x7f) End (Field (getD t 0 0) (sizeOf (getD t 0 0))) (λ _ h. absurd (let z : _≡_ {A = ℕ} 0 1 = cc in omega arith)) (λ _ h. absurd (let z : _≡_ {A = ℕ} 0 1 = cc in omega arith)))
+    (λ _. pick-has P (eqb (getD t 0 0) 0x7f) End (Field (getD t 0 0) (sizeIn v (getD t 0 0))) (λ _ h. absurd (let z : _≡_ {A = ℕ} 0 1 = cc in omega arith)) (λ _ h. absurd (let z : _≡_ {A = ℕ} 0 1 = cc in omega arith)))
     (λ _. bad 22 (λ z. omega (arith, z))))
     (λ _. bad 21 (λ z. omega (arith, z))))
     (λ _. bad 21 (λ z. omega (arith, z))))
@@ -167,20 +170,20 @@ bad-number t last number =
 given-from : (fuel : ℕ) (t : List ℕ) (cfg : Config) (last place : ℕ) → Sofar cfg last → Given (readFrom fuel t cfg last place)
 unfolding readFrom
 given-from zero t cfg last place f = given-refused 21 place (λ z. omega (arith, z))
-given-from (suc fuel) t cfg last place f = go (λ tag size g. given-from fuel (drop (3 + size) t) (placed cfg tag (entryRead tag t)) tag (place + 1) g) (headOf t last) refl
+given-from (suc fuel) t cfg last place f = go (λ tag size g. given-from fuel (drop (3 + size) t) (placed cfg tag (entryRead tag t)) tag (place + 1) g) (headOf (cfg .edition) t last) refl
   where
     next : ℕ → ℕ → Reading
     next tag size = readFrom fuel (drop (3 + size) t) (placed cfg tag (entryRead tag t)) tag (place + 1)
 
-    go : ((tag size : ℕ) → Sofar (placed cfg tag (entryRead tag t)) tag → Given (next tag size)) → (x : Head) → headOf t last ≡ x → Given (onHead x t cfg place next)
-    go rest (Bad number) e = given-refused number place (bad-number t last number e)
+    go : ((tag size : ℕ) → Sofar (placed cfg tag (entryRead tag t)) tag → Given (next tag size)) → (x : Head) → headOf (cfg .edition) t last ≡ x → Given (onHead x t cfg place next)
+    go rest (Bad number) e = given-refused number place (bad-number (cfg .edition) t last number e)
     go rest End e =
         pick-has Given (eqb (length t) 3) (wholeOf cfg) (refusedAt (place + 1) 21)
         (λ _. record { sound = config-made cfg (f .edition) (f .kinds); blank = λ n. absurd (n refl); number = λ _. refl })
         (λ _. given-refused 21 (place + 1) (λ z. omega (arith, z)))
     go rest (Field tag size) e =
         pick-has Given (eqb (bodyFault cfg tag t) 0) (next tag size) (refusedAt place (bodyFault cfg tag t))
-        (λ z. rest tag size (sofar-field cfg last tag t f (order-up last tag (field-frame t last e .order)) (eqb-true (bodyFault cfg tag t) 0 z)))
+        (λ z. rest tag size (sofar-field cfg last tag t f (order-up last tag (field-frame (cfg .edition) t last e .order)) (eqb-true (bodyFault cfg tag t) 0 z)))
         (λ n. given-refused (bodyFault cfg tag t) place (eqb-false (bodyFault cfg tag t) 0 n))
 
 -- any bytes whatever

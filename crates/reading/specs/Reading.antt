@@ -7,10 +7,10 @@ use mathlib.Core.List.{List}
 use lib.Dec.{ltb, leb, eqb}
 use lib.ListN.{length, getD, drop}
 use Rattle.numbers.specs.Refusals.{badOrder, badFrame, outOfRange}
-use Rattle.numbers.specs.Tags.{editionTag, runnableTag, variableTag, areaTag, requiredTag, providedTag, linkTag, operationTag, timerTag, dataEventTag, returnEventTag, endTag, editionLength, runnableLength, variableLength, areaLength, requiredLength, providedLength, linkLength, operationLength, timerLength, dataEventLength, returnEventLength, endLength, noLength}
+use Rattle.numbers.specs.Tags.{editionTag, runnableTag, variableTag, areaTag, requiredTag, providedTag, linkTag, operationTag, timerTag, dataEventTag, returnEventTag, incomingTag, outgoingTag, endTag, editionLength, runnableLength, variableLength, areaLength, requiredLength, providedLength, linkLength, operationLength, timerLength, dataEventLength, returnEventLength, listedLength, endLength, noLength}
 use Rattle.laws.specs.Choice.{pick, both}
 use Rattle.config.specs.declared.Config.{Config}
-use Rattle.config.specs.Editions.{isEdition}
+use Rattle.config.specs.Editions.{isEdition, hasField}
 use Rattle.config.specs.Tables.{noConfig}
 use Rattle.wire.specs.Bytes.{lengthOf, numberOf}
 use Rattle.entries.specs.declared.Entry.{Entry}
@@ -46,8 +46,14 @@ sizeOf tag =
     (pick (eqb tag timerTag) timerLength
     (pick (eqb tag dataEventTag) dataEventLength
     (pick (eqb tag returnEventTag) returnEventLength
+    (pick (eqb tag incomingTag) listedLength
+    (pick (eqb tag outgoingTag) listedLength
     (pick (eqb tag endTag) endLength
-    noLength)))))))))))
+    noLength)))))))))))))
+
+-- the same in an edition: a tag whose fields it has not is unknown there (W-211)
+unfoldable pub sizeIn : ℕ → ℕ → ℕ
+sizeIn e tag = pick (hasField e tag) (sizeOf tag) noLength
 
 -- the number of the four bytes from place i on ("The files")
 abbrev pub numberAt : List ℕ → ℕ → ℕ
@@ -73,7 +79,7 @@ operationRead t = record { first = getD t 3 0; second = getD t 4 0; third = getD
 abbrev pub timerRead : List ℕ → Entry
 timerRead t = record { first = getD t 3 0; second = 0; third = 0; number = numberAt t 4 }
 
--- two bytes: elements, links and events ("The files", tags 13, 14, 15, 18, 19)
+-- two bytes: elements, links, events and listed elements ("The files", tags 13, 14, 15, 18, 19; W-211)
 abbrev pub pairRead : List ℕ → Entry
 pairRead t = record { first = getD t 3 0; second = getD t 4 0; third = 0; number = 0 }
 
@@ -102,11 +108,11 @@ headWith tag said size left ordered =
     (Bad badFrame))
     (Bad badFrame)
 
--- the field at the front of a text, behind a field with the tag last ("Numbers of refusal", 21 and 22)
-unfoldable pub headOf : List ℕ → ℕ → Head
-headOf t last =
+-- the field at the front of a text, behind a field with the tag last, in an edition; before that is read, in the first ("Numbers of refusal", 21 and 22; W-211)
+unfoldable pub headOf : ℕ → List ℕ → ℕ → Head
+headOf e t last =
     pick (ltb (length t) 3) (Bad badFrame)
-    (headWith (getD t 0 0) (lengthOf (getD t 1 0) (getD t 2 0)) (sizeOf (getD t 0 0)) (length t - 3) (inOrder last (getD t 0 0)))
+    (headWith (getD t 0 0) (lengthOf (getD t 1 0) (getD t 2 0)) (sizeIn e (getD t 0 0)) (length t - 3) (inOrder last (getD t 0 0)))
 
 -- the first fault of a field's body: an edition that there is not, or a fault of the part's entry; 0 for none ("Numbers of refusal", 23 to 26; W-208)
 unfoldable pub bodyFault : Config → ℕ → List ℕ → ℕ
@@ -131,7 +137,7 @@ onHead (Field tag size) t cfg place next = pick (eqb (bodyFault cfg tag t) 0) (n
 unfoldable pub readFrom : ℕ → List ℕ → Config → ℕ → ℕ → Reading
 readFrom zero t cfg last place = refusedAt place badFrame
 readFrom (suc k) t cfg last place =
-    onHead (headOf t last) t cfg place (λ (tag size : ℕ). readFrom k (drop (3 + size) t) (placed cfg tag (entryRead tag t)) tag (place + 1))
+    onHead (headOf (cfg .edition) t last) t cfg place (λ (tag size : ℕ). readFrom k (drop (3 + size) t) (placed cfg tag (entryRead tag t)) tag (place + 1))
 
 -- the reading of a whole text; a field takes three bytes or more, so there are never more fields than bytes ("Numbers of refusal", reading a configuration)
 unfoldable pub configOf : List ℕ → Reading

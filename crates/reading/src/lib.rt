@@ -1,7 +1,7 @@
 // Reading a configuration's file: any bytes, to a whole configuration or the first refusal and its place.
 ghost use mathlib.Core.Path.{_≡_};
 ghost use lib.ListN.{getD};
-ghost use Rattle.reading.specs.Reading.{sizeOf, numberAt, runnableRead, variableRead, areaRead, operationRead, timerRead, pairRead, entryRead, inOrder, headWith, headOf, bodyFault, refusedAt, configOf};
+ghost use Rattle.reading.specs.Reading.{sizeOf, sizeIn, numberAt, runnableRead, variableRead, areaRead, operationRead, timerRead, pairRead, entryRead, inOrder, headWith, headOf, bodyFault, refusedAt, configOf};
 use config::Config;
 use entries::Entry;
 
@@ -63,9 +63,21 @@ fn size_of(tag: u8) -> usize
         numbers::TAG_TIMER => numbers::LENGTH_TIMER,
         numbers::TAG_DATA_EVENT => numbers::LENGTH_DATA_EVENT,
         numbers::TAG_RETURN_EVENT => numbers::LENGTH_RETURN_EVENT,
+        numbers::TAG_INCOMING => numbers::LENGTH_LISTED,
+        numbers::TAG_OUTGOING => numbers::LENGTH_LISTED,
         numbers::TAG_END => numbers::LENGTH_END,
         _ => numbers::NO_LENGTH,
     }
+}
+
+// The same in an edition, which may not have fields with the tag.
+fn size_in(edition: u8, tag: u8) -> usize
+    ensures { λ r. ⌜ r ≡ sizeIn edition tag ⌝ }
+{
+    if config::has_field(edition, tag) {
+        return size_of(tag);
+    }
+    numbers::NO_LENGTH
 }
 
 // The bodies of the kinds, as entries.
@@ -180,8 +192,8 @@ fn head_with(tag: u8, said: usize, size: usize, left: usize, ordered: bool) -> H
     Head::Bad(numbers::BAD_FRAME)
 }
 
-fn head_of(t: &[u8], last: u8) -> Head
-    ensures { λ r. ⌜ r ≡ headOf (now (t .entry)) last ⌝ }
+fn head_of(edition: u8, t: &[u8], last: u8) -> Head
+    ensures { λ r. ⌜ r ≡ headOf edition (now (t .entry)) last ⌝ }
 {
     if t.len() < 3 {
         return Head::Bad(numbers::BAD_FRAME);
@@ -190,7 +202,7 @@ fn head_of(t: &[u8], last: u8) -> Head
     head_with(
         tag,
         wire::length_of(t[1], t[2]),
-        size_of(tag),
+        size_in(edition, tag),
         t.len() - 3,
         in_order(last, tag),
     )
@@ -228,7 +240,7 @@ pub fn read_config(s: &[u8]) -> Reading
     let mut place: usize = 1;
     loop {
         let t = &s[at..];
-        match head_of(t, last) {
+        match head_of(cfg.edition, t, last) {
             Head::Bad(number) => {
                 return refused_at(place, number);
             }

@@ -4,8 +4,9 @@ ghost use mathlib.Core.Bool.{not};
 ghost use Rattle.laws.specs.Choice.{either};
 ghost use Rattle.rules.specs.Sound.{isWaiting};
 ghost use Rattle.rules.specs.Rows.{rowOf};
-ghost use Rattle.rules.specs.Refusals.{argues, formed, partThere, queuesAs, partOwn, asksSynchronous, asksWaiting, finishedLets, failedLets, endsWaiting, waitingLets, lifeLets, ownedRefusal, instanceRefusal, schedulerRefusal};
+ghost use Rattle.rules.specs.Refusals.{argues, formed, partThere, listsOf, listedThere, namedThere, queuesAs, partOwn, asksSynchronous, asksWaiting, finishedLets, failedLets, endsWaiting, waitingLets, lifeLets, ownedRefusal, instanceRefusal, schedulerRefusal};
 use config::Config;
+use config::Lists;
 use rules::Row;
 use state::Life;
 use state::Slots;
@@ -29,6 +30,8 @@ const UNQUEUED: u8 = 1;
 
 const QUEUED: u8 = 2;
 
+const COPIED: u8 = 3;
+
 // Its argument.
 const NOTHING: u8 = 0;
 
@@ -39,7 +42,7 @@ const A_NUMBER: u8 = 2;
 const A_TIME: u8 = 3;
 
 // The table of steps, a row for each code from 0 on: who takes it, the part, the queueing, the argument.
-const ROWS: [[u8; 4]; 22] = [
+const ROWS: [[u8; 4]; 24] = [
     [NOBODY, NO_PART, ANYHOW, NOTHING],
     [A_SLOT, numbers::TAG_VARIABLE, ANYHOW, NOTHING],
     [A_SLOT, numbers::TAG_VARIABLE, ANYHOW, A_PAYLOAD],
@@ -62,6 +65,8 @@ const ROWS: [[u8; 4]; 22] = [
     [A_SLOT, NO_PART, ANYHOW, NOTHING],
     [A_SLOT, numbers::TAG_REQUIRED, QUEUED, A_TIME],
     [A_SLOT, NO_PART, ANYHOW, NOTHING],
+    [A_SLOT, numbers::TAG_REQUIRED, COPIED, NOTHING],
+    [A_SLOT, numbers::TAG_PROVIDED, COPIED, A_PAYLOAD],
 ];
 
 // The row of a code; a code without one is nobody's.
@@ -69,7 +74,7 @@ pub fn row_of(code: u8) -> Row
     ensures { λ r. ⌜ r ≡ rowOf code ⌝ }
 {
     let k = code as usize;
-    if k < 22 {
+    if k < 24 {
         let l = ROWS[k];
         return Row {
             who: l[0],
@@ -117,6 +122,34 @@ fn part_there(cfg: Config, tag: u8, n: u8) -> bool
     ensures { λ r. ⌜ r ≡ partThere cfg tag n ⌝ }
 {
     tag == NO_PART || n < entries::count_of(cfg, tag)
+}
+
+// The list in which elements of a kind are named.
+fn lists_of(cfg: Config, tag: u8) -> Lists
+    ensures { λ r. ⌜ r ≡ listsOf cfg tag ⌝ }
+{
+    if tag == numbers::TAG_REQUIRED {
+        return cfg.incoming;
+    }
+    cfg.outgoing
+}
+
+// An element of which the row asks that the runnable r lists it is listed by it.
+fn listed_there(cfg: Config, r: u8, row: Row, n: u8) -> bool
+    ensures { λ b. ⌜ b ≡ listedThere cfg r row n ⌝ }
+{
+    if row.queueing == COPIED {
+        let t = lists_of(cfg, row.part);
+        return t.has(r, n);
+    }
+    true
+}
+
+// What a step by an instance of the runnable r names is there.
+fn named_there(cfg: Config, r: u8, row: Row, n: u8) -> bool
+    ensures { λ b. ⌜ b ≡ namedThere cfg r row n ⌝ }
+{
+    part_there(cfg, row.part, n) && listed_there(cfg, r, row, n)
 }
 
 fn queues_as(cfg: Config, tag: u8, queueing: u8, n: u8) -> bool
@@ -237,7 +270,7 @@ fn life_lets(cfg: Config, l: Life, code: u8, what: u8) -> bool
         && (finished_lets(l, code) && (failed_lets(l, code) && may_ask(cfg, l, code, what)))
 }
 
-// For a step of a slot: the first of 2, 3, 4 and 5 that holds, or 0.
+// For a step of a slot: the first of 2, 30, 3, 4 and 5 that holds, or 0.
 pub fn instance_refusal(cfg: Config, slots: Slots, s: Step) -> u8
     ensures { λ r. ⌜ r ≡ instanceRefusal cfg slots (rowOf (s .code)) s ⌝ }
 {
@@ -249,7 +282,7 @@ pub fn instance_refusal(cfg: Config, slots: Slots, s: Step) -> u8
             let x = slots.get(s.who);
             let l = x.life;
             if x.used {
-                if part_there(cfg, row.part, what) {
+                if named_there(cfg, l.runnable, row, what) {
                     return owned_refusal(cfg, l, row, code, what);
                 }
                 return numbers::NOT_THERE;

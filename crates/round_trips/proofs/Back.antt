@@ -17,23 +17,23 @@ use Rattle.numbers.specs.Tags.{lastTag, partKinds}
 use Rattle.laws.specs.Choice.{pick}
 use Rattle.laws.proofs.Choosing.{pick-on}
 use Rattle.config.specs.declared.Config.{Config}
-use Rattle.config.specs.Editions.{isEdition}
+use Rattle.config.specs.Editions.{isEdition, hasField}
 use Rattle.config.specs.Tables.{noConfig, noVariableConf}
 use Rattle.wire.specs.Bytes.{endBytes, putAt, wroteTo, build}
 use Rattle.wire.specs.declared.Wrote.{Wrote}
 use Rattle.wire.specs.declared.Wrote.the-variants.{To, Refused as NotWritten}
 use Rattle.entries.specs.declared.Entry.{Entry}
-use Rattle.entries.specs.Entries.{countOf, entryOf, placed, withEdition}
+use Rattle.entries.specs.Entries.{maxOf, countOf, entryOf, placed, withEdition}
 use Rattle.entries.specs.Faults.{entryFault, configSound}
 use Rattle.entries.proofs.Kind.{fault-told, edition-told, config-told}
-use Rattle.reading.specs.Reading.{sizeOf, entryRead, inOrder, headOf, bodyFault, wholeOf, refusedAt, onHead, readFrom, configOf}
+use Rattle.reading.specs.Reading.{sizeOf, sizeIn, entryRead, inOrder, headOf, bodyFault, wholeOf, refusedAt, onHead, readFrom, configOf}
 use Rattle.reading.specs.declared.Head.{Head}
 use Rattle.reading.specs.declared.Head.the-variants.{Field}
 use Rattle.reading.proofs.Adding.{Adds, adds, back-read}
 use Rattle.reading.proofs.Kept.{fault-kept}
 use Rattle.writing.specs.Writing.{entryBytes, partBytes, kindBytes, blockOf, partsBytes, editionBytes, textOf, configTo, configWritten}
 use Rattle.round_trips.specs.Trip.{writeAndReadOf as readBack}
-use Rattle.round_trips.proofs.EachEntry.{entry-back, part-shaped, part-fits, frame-head, entry-leads}
+use Rattle.round_trips.proofs.EachEntry.{entry-back, part-shaped, part-fits, frame-head, entry-leads, leads-frame}
 use Rattle.round_trips.proofs.Standing.{Stands, stands-start, stands-grow, stands-next, stands-all}
 
 -- ---- reading goes on
@@ -47,7 +47,7 @@ unfolding inOrder
 in-order last tag n l d = rw (ne-eqb last 0 n, le-leb last tag l, ne-eqb tag 0x01 d)
 
 -- a turn of the reading at a field without fault
-turn : (fuel : ℕ) (t : List ℕ) (p : Config) (last place tag size : ℕ) → headOf t last ≡ Field tag size → bodyFault p tag t ≡ 0
+turn : (fuel : ℕ) (t : List ℕ) (p : Config) (last place tag size : ℕ) → headOf (p .edition) t last ≡ Field tag size → bodyFault p tag t ≡ 0
     → readFrom (suc fuel) t p last place ≡ readFrom fuel (drop (3 + size) t) (placed p tag (entryRead tag t)) tag (place + 1)
 unfolding readFrom
 turn fuel t p last place tag size e z =
@@ -56,7 +56,7 @@ turn fuel t p last place tag size e z =
 
 -- the edition comes first, and places no part
 first : (e : ℕ) → isEdition e ≡ true → (rest : List ℕ) (fuel : ℕ) → readFrom (suc fuel) (editionBytes e ++ rest) noConfig 0 1 ≡ readFrom fuel rest (withEdition noConfig e) 0x01 2
-unfolding headOf sizeOf inOrder bodyFault placed entryRead
+unfolding headOf sizeOf sizeIn hasField inOrder bodyFault placed entryRead
 first e one rest fuel =
     let l : ltb (length (editionBytes e ++ rest)) 3 ≡ false = le-ltb (length (editionBytes e ++ rest)) 3 (omega arith) in
     let m : leb 1 (length (editionBytes e ++ rest) - 3) ≡ true = le-leb 1 (length (editionBytes e ++ rest) - 3) (omega arith) in
@@ -80,7 +80,11 @@ module _ (cfg : Config) (s : configSound cfg ≡ true) (v : (i : ℕ) → getD (
     found : entryFault p tag (countOf p tag) (entryRead tag t) ≡ 0
     found =
         ap₂ (λ (n : ℕ) (x : Entry). entryFault p tag n x) (f .own) reads-entry
-        ∙ fault-kept cfg p tag (f .counts) (f .lower) i (λ z. f .same (i - 1) (omega (arith, z))) e ∙ no-fault
+        ∙ fault-kept cfg p tag (f .counts) (f .lower) i (f .same) (f .edition) e ∙ no-fault
+
+    -- and the edition has such fields (W-211)
+    there : hasField (p .edition) tag ≡ true
+    there = fault-told p tag (countOf p tag) (entryRead tag t) found .field
 
     body : bodyFault p tag t ≡ 0
     unfolding bodyFault
@@ -90,15 +94,16 @@ module _ (cfg : Config) (s : configSound cfg ≡ true) (v : (i : ℕ) → getD (
     grows =
         let r = fault-told p tag (countOf p tag) (entryRead tag t) found in
         let b = back-read tag low high t (r .range) ∙ reads-entry in
-        subst (Adds p (placed p tag (entryRead tag t)) tag) b (adds p (entryRead tag t) tag low high (r .room) (f .places tag low high))
+        let m : countOf p tag < maxOf tag = omega (arith, f .own, l, config-told cfg s tag low high .room) in
+        subst (Adds p (placed p tag (entryRead tag t)) tag) b (adds p (entryRead tag t) tag low high m (f .places tag low high))
 
   part-reads : (tag i : ℕ) → 0x10 ≤ tag → tag ≤ lastTag → i < countOf cfg tag → (u : List ℕ) → Reads cfg tag (i + 1) u → Reads cfg tag i (partBytes cfg tag i ++ u)
   unfolding Reads partBytes
   part-reads tag i low high l u rest zero p last place b f n up = absurd (not-suc-le-zero b)
   part-reads tag i low high l u rest (suc fuel) p last place b f n up =
-      let lead = entry-leads tag low high (entryOf cfg tag i) u last (in-order last tag n up (λ q. omega (arith, q, low))) in
-      let m : length u < fuel = omega (arith, b, lead .frame .room, length-append (entryBytes tag (entryOf cfg tag i)) u, ap length (lead .behind), length-drop (3 + sizeOf tag) (entryBytes tag (entryOf cfg tag i) ++ u)) in
-      turn fuel (entryBytes tag (entryOf cfg tag i) ++ u) p last place tag (sizeOf tag) (frame-head _ last tag (sizeOf tag) (lead .frame)) (body tag i low high l p f u)
+      let lead = entry-leads tag low high (entryOf cfg tag i) u in
+      let m : length u < fuel = omega (arith, b, lead .room, length-append (entryBytes tag (entryOf cfg tag i)) u, ap length (lead .behind), length-drop (3 + sizeOf tag) (entryBytes tag (entryOf cfg tag i) ++ u)) in
+      turn fuel (entryBytes tag (entryOf cfg tag i) ++ u) p last place tag (sizeOf tag) (frame-head (p .edition) _ last tag (sizeOf tag) (leads-frame (p .edition) tag (entryOf cfg tag i) u last lead (there tag i low high l p f u) (in-order last tag n up (λ q. omega (arith, q, low))))) (body tag i low high l p f u)
       ∙ ap (λ (x : List ℕ). readFrom fuel x (placed p tag (entryRead tag (entryBytes tag (entryOf cfg tag i) ++ u))) tag (place + 1)) (lead .behind)
       ∙ rest fuel (placed p tag (entryRead tag (entryBytes tag (entryOf cfg tag i) ++ u))) tag (place + 1) m
       (stands-grow cfg p (placed p tag (entryRead tag (entryBytes tag (entryOf cfg tag i) ++ u))) tag i f (grows tag i low high l p f u))
@@ -132,8 +137,8 @@ module _ (cfg : Config) (s : configSound cfg ≡ true) (v : (i : ℕ) → getD (
       (kind-reads (0x10 + m) (omega arith) (omega arith) u (subst (λ (k : ℕ). Reads cfg k 0 u) (omega arith) rest)))
 
   -- the end
-  end-reads : Reads cfg 0x1a 0 endBytes
-  unfolding Reads readFrom headOf sizeOf
+  end-reads : Reads cfg 0x1c 0 endBytes
+  unfolding Reads readFrom headOf sizeOf sizeIn hasField
   end-reads zero p last place b f n up = absurd (not-suc-le-zero b)
   end-reads (suc fuel) p last place b f n up =
       let o = in-order last 0x7f n (omega arith) (λ q. omega (arith, q)) in

@@ -12,15 +12,16 @@ use Rattle.numbers.specs.Tags.{lastTag}
 use Rattle.laws.specs.Choice.{pick, both}
 use Rattle.laws.proofs.Choosing.{both-left, both-right}
 use Rattle.config.specs.declared.Config.{Config}
+use Rattle.config.specs.Editions.{hasField}
 use Rattle.config.specs.Tables.{noVariableConf, variableConfIn}
 use Rattle.wire.specs.Bytes.{lengthOf}
 use Rattle.wire.proofs.Laws.{Bytes, be32-bytes, bytes32-be, front-read}
 use Rattle.entries.specs.declared.Entry.{Entry}
 use Rattle.entries.specs.Entries.{entryOf}
 use Rattle.entries.specs.Faults.{inRange, isTime}
-use Rattle.reading.specs.Reading.{sizeOf, runnableRead, variableRead, areaRead, operationRead, timerRead, pairRead, entryRead, inOrder, headOf}
+use Rattle.reading.specs.Reading.{sizeOf, sizeIn, runnableRead, variableRead, areaRead, operationRead, timerRead, pairRead, entryRead, inOrder, headOf}
 use Rattle.reading.specs.declared.Head.the-variants.{Field}
-use Rattle.reading.proofs.Ahead.{Framed}
+use Rattle.reading.proofs.Ahead.{size-there, Framed}
 use Rattle.reading.proofs.Adding.{each-kind}
 use Rattle.writing.specs.Writing.{runnableBytes, variableBytes, areaBytes, operationBytes, timerBytes, pairBytes, entryBytes}
 
@@ -63,7 +64,7 @@ pub part-shaped : (tag : ℕ) → 0x10 ≤ tag → tag ≤ lastTag → (cfg : Co
 unfolding entryOf
 part-shaped =
     each-kind (λ tag. (cfg : Config) (i : ℕ) → shapeOf tag (entryOf cfg tag i) ≡ entryOf cfg tag i)
-    (λ cfg i. refl) (λ cfg i. refl) (λ cfg i. refl) (λ cfg i. refl) (λ cfg i. refl) (λ cfg i. refl) (λ cfg i. refl) (λ cfg i. refl) (λ cfg i. refl) (λ cfg i. refl)
+    (λ cfg i. refl) (λ cfg i. refl) (λ cfg i. refl) (λ cfg i. refl) (λ cfg i. refl) (λ cfg i. refl) (λ cfg i. refl) (λ cfg i. refl) (λ cfg i. refl) (λ cfg i. refl) (λ cfg i. refl) (λ cfg i. refl)
 
 -- its number has 32 bits: a time is at most an hour, and the initial of a variable fits by its type
 time-fits : (n : ℕ) → isTime n ≡ true → n < 2 ^ 32
@@ -98,35 +99,46 @@ part-fits cfg v =
     (λ i h. period-fits (entryOf cfg 0x17 i) h)
     (λ i h. omega arith)
     (λ i h. omega arith)
+    (λ i h. omega arith)
+    (λ i h. omega arith)
 
 -- the frame of a field leads to it
-pub frame-head : (t : List ℕ) (last tag size : ℕ) → Framed t last tag size → headOf t last ≡ Field tag size
+pub frame-head : (v : ℕ) (t : List ℕ) (last tag size : ℕ) → Framed v t last tag size → headOf v t last ≡ Field tag size
 unfolding headOf
-frame-head t last tag size f =
+frame-head v t last tag size f =
     let l : ltb (length t) 3 ≡ false = le-ltb (length t) 3 (omega (arith, f .room)) in
-    let s : eqb (lengthOf (getD t 1 0) (getD t 2 0)) (sizeOf tag) ≡ true = eq-eqb (lengthOf (getD t 1 0) (getD t 2 0)) (sizeOf tag) (f .said ∙ sym (f .kind)) in
-    let r : leb (sizeOf tag) (length t - 3) ≡ true = le-leb (sizeOf tag) (length t - 3) (omega (arith, f .room, f .kind)) in
+    let s : eqb (lengthOf (getD t 1 0) (getD t 2 0)) (sizeIn v tag) ≡ true = eq-eqb (lengthOf (getD t 1 0) (getD t 2 0)) (sizeIn v tag) (f .said ∙ sym (f .kind)) in
+    let r : leb (sizeIn v tag) (length t - 3) ≡ true = le-leb (sizeIn v tag) (length t - 3) (omega (arith, f .room, f .kind)) in
     rw (l, f .first, s, r, f .order, f .more) (ap (Field tag) (f .kind))
 
--- an entry's field at the front: its frame, and what is behind it
-pub record Leads (tag : ℕ) (e : Entry) (rest : List ℕ) (last : ℕ) : Type 0 where
-  pub frame : Framed (entryBytes tag e ++ rest) last tag (sizeOf tag)
+-- an entry's field at the front: its tag, its length, and what is behind it
+pub record Leads (tag : ℕ) (e : Entry) (rest : List ℕ) : Type 0 where
+  pub room : 3 + sizeOf tag ≤ length (entryBytes tag e ++ rest)
+  pub first : getD (entryBytes tag e ++ rest) 0 0 ≡ tag
+  pub said : lengthOf (getD (entryBytes tag e ++ rest) 1 0) (getD (entryBytes tag e ++ rest) 2 0) ≡ sizeOf tag
+  pub more : eqb tag 0x7f ≡ false
   pub behind : drop (3 + sizeOf tag) (entryBytes tag e ++ rest) ≡ rest
 
-pub entry-leads : (tag : ℕ) → 0x10 ≤ tag → tag ≤ lastTag → (e : Entry) (rest : List ℕ) (last : ℕ) → inOrder last tag ≡ true → Leads tag e rest last
+pub entry-leads : (tag : ℕ) → 0x10 ≤ tag → tag ≤ lastTag → (e : Entry) (rest : List ℕ) → Leads tag e rest
 unfolding entryBytes sizeOf
 entry-leads =
-    each-kind (λ tag. (e : Entry) (rest : List ℕ) (last : ℕ) → inOrder last tag ≡ true → Leads tag e rest last)
-    (λ e rest last o. record { frame = record { room = omega arith; first = refl; said = refl; kind = refl; order = o; more = refl }; behind = refl })
-    (λ e rest last o. record { frame = record { room = omega arith; first = refl; said = refl; kind = refl; order = o; more = refl }; behind = refl })
-    (λ e rest last o. record { frame = record { room = omega arith; first = refl; said = refl; kind = refl; order = o; more = refl }; behind = refl })
-    (λ e rest last o. record { frame = record { room = omega arith; first = refl; said = refl; kind = refl; order = o; more = refl }; behind = refl })
-    (λ e rest last o. record { frame = record { room = omega arith; first = refl; said = refl; kind = refl; order = o; more = refl }; behind = refl })
-    (λ e rest last o. record { frame = record { room = omega arith; first = refl; said = refl; kind = refl; order = o; more = refl }; behind = refl })
-    (λ e rest last o. record { frame = record { room = omega arith; first = refl; said = refl; kind = refl; order = o; more = refl }; behind = refl })
-    (λ e rest last o. record { frame = record { room = omega arith; first = refl; said = refl; kind = refl; order = o; more = refl }; behind = refl })
-    (λ e rest last o. record { frame = record { room = omega arith; first = refl; said = refl; kind = refl; order = o; more = refl }; behind = refl })
-    (λ e rest last o. record { frame = record { room = omega arith; first = refl; said = refl; kind = refl; order = o; more = refl }; behind = refl })
+    each-kind (λ tag. (e : Entry) (rest : List ℕ) → Leads tag e rest)
+    (λ e rest. record { room = omega arith; first = refl; said = refl; more = refl; behind = refl })
+    (λ e rest. record { room = omega arith; first = refl; said = refl; more = refl; behind = refl })
+    (λ e rest. record { room = omega arith; first = refl; said = refl; more = refl; behind = refl })
+    (λ e rest. record { room = omega arith; first = refl; said = refl; more = refl; behind = refl })
+    (λ e rest. record { room = omega arith; first = refl; said = refl; more = refl; behind = refl })
+    (λ e rest. record { room = omega arith; first = refl; said = refl; more = refl; behind = refl })
+    (λ e rest. record { room = omega arith; first = refl; said = refl; more = refl; behind = refl })
+    (λ e rest. record { room = omega arith; first = refl; said = refl; more = refl; behind = refl })
+    (λ e rest. record { room = omega arith; first = refl; said = refl; more = refl; behind = refl })
+    (λ e rest. record { room = omega arith; first = refl; said = refl; more = refl; behind = refl })
+    (λ e rest. record { room = omega arith; first = refl; said = refl; more = refl; behind = refl })
+    (λ e rest. record { room = omega arith; first = refl; said = refl; more = refl; behind = refl })
+
+-- its frame, in an edition that has such fields (W-211)
+pub leads-frame : (v tag : ℕ) (e : Entry) (rest : List ℕ) (last : ℕ) → Leads tag e rest → hasField v tag ≡ true → inOrder last tag ≡ true → Framed v (entryBytes tag e ++ rest) last tag (sizeOf tag)
+leads-frame v tag e rest last l h o = record { room = l .room; first = l .first; said = l .said; kind = size-there v tag h; order = o; more = l .more }
 
 -- ---- read, then written
 
@@ -175,4 +187,4 @@ module _ (t : List ℕ) (h : Bytes t) where
   unfolding entryRead entryBytes sizeOf
   entry-front =
       each-kind (λ tag. getD t 0 0 ≡ tag → lengthOf (getD t 1 0) (getD t 2 0) ≡ sizeOf tag → 3 + sizeOf tag ≤ length t → t ≡ entryBytes tag (entryRead tag t) ++ drop (3 + sizeOf tag) t)
-      runnable-front variable-front area-front (pair-front 0x13) (pair-front 0x14) (pair-front 0x15) operation-front timer-front (pair-front 0x18) (pair-front 0x19)
+      runnable-front variable-front area-front (pair-front 0x13) (pair-front 0x14) (pair-front 0x15) operation-front timer-front (pair-front 0x18) (pair-front 0x19) (pair-front 0x1a) (pair-front 0x1b)

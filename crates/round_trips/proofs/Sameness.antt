@@ -33,10 +33,12 @@ use Rattle.config.specs.declared.DataEvent.{DataEvent}
 use Rattle.config.specs.declared.DataEvents.{DataEvents}
 use Rattle.config.specs.declared.ReturnEvent.{ReturnEvent}
 use Rattle.config.specs.declared.ReturnEvents.{ReturnEvents}
+use Rattle.config.specs.declared.Listed.{Listed}
+use Rattle.config.specs.declared.Lists.{Lists}
 use Rattle.config.specs.declared.Config.{Config}
-use Rattle.config.specs.Tables.{runnableConfIn, noRunnableConf, variableConfIn, noVariableConf, areaConfIn, noAreaConf, requiredConfIn, noRequiredConf, providedConfIn, noProvidedConf, linkIn, noLink, operationConfIn, noOperationConf, timerConfIn, noTimerConf, dataEventIn, noDataEvent, returnEventIn, noReturnEvent}
+use Rattle.config.specs.Tables.{runnableConfIn, noRunnableConf, variableConfIn, noVariableConf, areaConfIn, noAreaConf, requiredConfIn, noRequiredConf, providedConfIn, noProvidedConf, linkIn, noLink, operationConfIn, noOperationConf, timerConfIn, noTimerConf, dataEventIn, noDataEvent, returnEventIn, noReturnEvent, listedIn, noListed}
 use Rattle.entries.specs.declared.Entry.{Entry}
-use Rattle.entries.specs.Entries.{noEntry, maxOf, countOf, placesOf, entryOf, runnableEntry, runnablePart, variableEntry, variablePart, areaEntry, areaPart, requiredEntry, requiredPart, providedEntry, providedPart, linkEntry, linkPart, operationEntry, operationPart, timerEntry, timerPart, dataEventEntry, dataEventPart, returnEventEntry, returnEventPart}
+use Rattle.entries.specs.Entries.{noEntry, maxOf, countOf, placesOf, entryOf, runnableEntry, runnablePart, variableEntry, variablePart, areaEntry, areaPart, requiredEntry, requiredPart, providedEntry, providedPart, linkEntry, linkPart, operationEntry, operationPart, timerEntry, timerPart, dataEventEntry, dataEventPart, returnEventEntry, returnEventPart, listedEntry, listedPart}
 use Rattle.entries.specs.Faults.{isNoEntry, configSound}
 use Rattle.entries.proofs.Kind.{blank-told, config-told}
 use Rattle.reading.proofs.Adding.{each-kind}
@@ -131,14 +133,24 @@ module _ (p q : Config) where
   same-return-events a =
       ap₂ (λ (n : ℕ) (l : List ReturnEvent). record { n = n; at = l }) (a .counts) (same-rows returnEventEntry returnEventPart (λ x. refl) noReturnEvent (p .revents .at) (q .revents .at) (a .places) (a .entries))
 
--- a configuration of its edition and its ten tables
-configOfTables : ℕ → RunnableConfs → VariableConfs → AreaConfs → RequiredConfs → ProvidedConfs → Links → OperationConfs → TimerConfs → DataEvents → ReturnEvents → Config
-configOfTables n a b c d e f g h i j =
-    record { edition = n; runnables = a; variables = b; areas = c; required = d; provided = e; links = f; operations = g; timers = h; devents = i; revents = j }
+  same-incoming : Agree p q 0x1a → p .incoming ≡ q .incoming
+  unfolding countOf placesOf entryOf listedIn
+  same-incoming a =
+      ap₂ (λ (n : ℕ) (l : List Listed). record { n = n; at = l }) (a .counts) (same-rows listedEntry listedPart (λ x. refl) noListed (p .incoming .at) (q .incoming .at) (a .places) (a .entries))
+
+  same-outgoing : Agree p q 0x1b → p .outgoing ≡ q .outgoing
+  unfolding countOf placesOf entryOf listedIn
+  same-outgoing a =
+      ap₂ (λ (n : ℕ) (l : List Listed). record { n = n; at = l }) (a .counts) (same-rows listedEntry listedPart (λ x. refl) noListed (p .outgoing .at) (q .outgoing .at) (a .places) (a .entries))
+
+-- a configuration of its edition and its tables
+configOfTables : ℕ → RunnableConfs → VariableConfs → AreaConfs → RequiredConfs → ProvidedConfs → Links → OperationConfs → TimerConfs → DataEvents → ReturnEvents → Lists → Lists → Config
+configOfTables n a b c d e f g h i j k l =
+    record { edition = n; runnables = a; variables = b; areas = c; required = d; provided = e; links = f; operations = g; timers = h; devents = i; revents = j; incoming = k; outgoing = l }
 
 -- an edition and tables that are the same make the same configuration
-joined : (p q : Config) → p .edition ≡ q .edition → p .runnables ≡ q .runnables → p .variables ≡ q .variables → p .areas ≡ q .areas → p .required ≡ q .required → p .provided ≡ q .provided → p .links ≡ q .links → p .operations ≡ q .operations → p .timers ≡ q .timers → p .devents ≡ q .devents → p .revents ≡ q .revents → configOfTables (p .edition) (p .runnables) (p .variables) (p .areas) (p .required) (p .provided) (p .links) (p .operations) (p .timers) (p .devents) (p .revents) ≡ configOfTables (q .edition) (q .runnables) (q .variables) (q .areas) (q .required) (q .provided) (q .links) (q .operations) (q .timers) (q .devents) (q .revents)
-joined p q n a b c d e f g h i j = rw (n, a, b, c, d, e, f, g, h, i, j)
+joined : (p q : Config) → p .edition ≡ q .edition → p .runnables ≡ q .runnables → p .variables ≡ q .variables → p .areas ≡ q .areas → p .required ≡ q .required → p .provided ≡ q .provided → p .links ≡ q .links → p .operations ≡ q .operations → p .timers ≡ q .timers → p .devents ≡ q .devents → p .revents ≡ q .revents → p .incoming ≡ q .incoming → p .outgoing ≡ q .outgoing → configOfTables (p .edition) (p .runnables) (p .variables) (p .areas) (p .required) (p .provided) (p .links) (p .operations) (p .timers) (p .devents) (p .revents) (p .incoming) (p .outgoing) ≡ configOfTables (q .edition) (q .runnables) (q .variables) (q .areas) (q .required) (q .provided) (q .links) (q .operations) (q .timers) (q .devents) (q .revents) (q .incoming) (q .outgoing)
+joined p q n a b c d e f g h i j k l = rw (n, a, b, c, d, e, f, g, h, i, j, k, l)
 
 pub same-config : (p q : Config) → p .edition ≡ q .edition → ((k : ℕ) → 0x10 ≤ k → k ≤ lastTag → Agree p q k) → p ≡ q
 unfolding configOfTables
@@ -154,6 +166,8 @@ same-config p q n f =
     (same-timers p q (f 0x17 (omega arith) (omega arith)))
     (same-data-events p q (f 0x18 (omega arith) (omega arith)))
     (same-return-events p q (f 0x19 (omega arith) (omega arith)))
+    (same-incoming p q (f 0x1a (omega arith) (omega arith)))
+    (same-outgoing p q (f 0x1b (omega arith) (omega arith)))
 
 -- ---- places that are not in use
 
@@ -161,7 +175,7 @@ is-blank : (e : Entry) → isNoEntry e ≡ true → e ≡ noEntry
 is-blank e h = let z = blank-told e h in λ i. record { first = z .first i; second = z .second i; third = z .third i; number = z .number i }
 
 past-places : (cfg : Config) (k : ℕ) → 0x10 ≤ k → k ≤ lastTag → (n : ℕ) → placesOf cfg k ≤ n → entryOf cfg k n ≡ noEntry
-unfolding placesOf entryOf runnableConfIn variableConfIn areaConfIn requiredConfIn providedConfIn linkIn operationConfIn timerConfIn dataEventIn returnEventIn
+unfolding placesOf entryOf runnableConfIn variableConfIn areaConfIn requiredConfIn providedConfIn linkIn operationConfIn timerConfIn dataEventIn returnEventIn listedIn
 past-places cfg =
     each-kind (λ k. (n : ℕ) → placesOf cfg k ≤ n → entryOf cfg k n ≡ noEntry)
     (λ n h. ap runnableEntry (past (cfg .runnables .at) n (length (cfg .runnables .at)) noRunnableConf refl h))
@@ -174,6 +188,8 @@ past-places cfg =
     (λ n h. ap timerEntry (past (cfg .timers .at) n (length (cfg .timers .at)) noTimerConf refl h))
     (λ n h. ap dataEventEntry (past (cfg .devents .at) n (length (cfg .devents .at)) noDataEvent refl h))
     (λ n h. ap returnEventEntry (past (cfg .revents .at) n (length (cfg .revents .at)) noReturnEvent refl h))
+    (λ n h. ap listedEntry (past (cfg .incoming .at) n (length (cfg .incoming .at)) noListed refl h))
+    (λ n h. ap listedEntry (past (cfg .outgoing .at) n (length (cfg .outgoing .at)) noListed refl h))
 
 -- no entry stands behind those in use
 pub no-more : (cfg : Config) → configSound cfg ≡ true → (k : ℕ) → 0x10 ≤ k → k ≤ lastTag → (n : ℕ) → countOf cfg k ≤ n → entryOf cfg k n ≡ noEntry

@@ -88,8 +88,8 @@ stands-next cfg p tag s low high f = record {
         ∙ sym (ap (λ (x : ℕ). entryOf cfg x n) q ∙ no-more cfg s tag low high n (omega (arith, b)))
     entry k n h (no d) b = f .lower k n (omega (arith, h, d))
 
--- all ten stand: it is the configuration
-pub stands-all : (cfg p : Config) → configSound cfg ≡ true → Stands cfg p 0x1a 0 → p ≡ cfg
+-- all kinds stand: it is the configuration
+pub stands-all : (cfg p : Config) → configSound cfg ≡ true → Stands cfg p 0x1c 0 → p ≡ cfg
 stands-all cfg p s f =
     same-config p cfg (f .edition) (λ k l h. record {
       counts = f .counts k (omega arith);

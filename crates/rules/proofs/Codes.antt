@@ -6,7 +6,7 @@ use mathlib.Core.Path.{_≡_, refl}
 use native.Mathlib.Omega.{arith}
 use lib.Dec.{ltb, eqb}
 use borrow.Author.Tests.{le-ltb, eqb-true}
-use Rattle.numbers.specs.Codes.{readVariableCode, endCode, spawnCode, waitCode, failCode, giveUpCode}
+use Rattle.numbers.specs.Codes.{readVariableCode, endCode, spawnCode, waitCode, failCode, writeCopyCode}
 use Rattle.laws.specs.Choice.{either}
 use Rattle.laws.specs.Loop.{allBelow}
 use Rattle.laws.proofs.Choosing.{either-right}
@@ -30,9 +30,9 @@ unfolding allBelow rowOf rows
 scheduler-codes n l m = ranged scheduler 15 19 refl n l (omega arith)
 
 -- the codes of a slot that were added
-pub added-codes : (n : ℕ) → failCode ≤ n → n ≤ giveUpCode → rowOf n .who ≡ aSlot
+pub added-codes : (n : ℕ) → failCode ≤ n → n ≤ writeCopyCode → rowOf n .who ≡ aSlot
 unfolding allBelow rowOf rows
-added-codes n l m = ranged aSlot 19 22 refl n l (omega arith)
+added-codes n l m = ranged aSlot 19 24 refl n l (omega arith)
 
 -- no code below is a step's
 pub low-codes : (n : ℕ) → n < readVariableCode → rowOf n .who ≡ nobody
@@ -40,6 +40,6 @@ unfolding allBelow rowOf rows
 low-codes n m = ranged nobody 0 1 refl n (omega arith) m
 
 -- and none above
-pub high-codes : (n : ℕ) → giveUpCode < n → rowOf n .who ≡ nobody
+pub high-codes : (n : ℕ) → writeCopyCode < n → rowOf n .who ≡ nobody
 unfolding rowOf rows
-high-codes n l = rw (past rows n 22 noRow refl (omega arith))
+high-codes n l = rw (past rows n 24 noRow refl (omega arith))

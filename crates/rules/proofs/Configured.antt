@@ -5,16 +5,16 @@ use mathlib.Core.Bool.{Bool, true, false, not}
 use mathlib.Core.Path.{_≡_, refl, ap}
 use native.Mathlib.Decide.{decLt}
 use native.Mathlib.Omega.{arith}
-use lib.Dec.{ltb, leb}
+use lib.Dec.{ltb, leb, eqb}
 use borrow.Author.Tests.{ltb-true, leb-true, eqb-true, not-true, lt-leb}
 use Rattle.numbers.specs.Tags.{partKinds}
 use Rattle.laws.specs.Choice.{alike, bit}
 use Rattle.laws.proofs.Choosing.{clash, both-left, both-right, either-right, alike-is}
 use Rattle.laws.proofs.Places.{past}
 use Rattle.faces.specs.Types.{Config, RunnableConf, RequiredConf}
-use Rattle.config.specs.Tables.{noRunnableConf, noRequiredConf, runnableConfIn, requiredConfIn, providedConfIn, linkIn, operationConfIn, timerConfIn, dataEventIn, returnEventIn}
+use Rattle.config.specs.Tables.{noRunnableConf, noRequiredConf, runnableConfIn, requiredConfIn, providedConfIn, linkIn, operationConfIn, timerConfIn, dataEventIn, returnEventIn, listedIn}
 use Rattle.entries.specs.Entries.{maxOf, countOf, placesOf, entryOf, flagsOf}
-use Rattle.entries.specs.Faults.{inRange, namesThere, isServer, isQueued, pairsWell, configSound}
+use Rattle.entries.specs.Faults.{listsWell, inRange, namesThere, isServer, isQueued, pairsWell, configSound}
 use Rattle.entries.proofs.Kind.{Well, fault-told, Blank, blank-told, Kind, config-told}
 
 -- ---- any kind, by its tag
@@ -162,3 +162,25 @@ module _ (cfg : Config) (h : configSound cfg ≡ true) where
   pub revent-plain : (e : ℕ) → e < cfg .revents .n → isServer cfg (returnEventIn (cfg .revents) e .runnable) ≡ false
   unfolding pairsWell entryOf countOf
   revent-plain e b = not-true _ (both-left (not (isServer cfg (returnEventIn (cfg .revents) e .runnable))) _ (used 9 (omega arith) e b .pairs))
+
+  -- ---- listed elements: each is there, unqueued, and of its runnable's component
+
+  pub incoming-there : (k : ℕ) → k < cfg .incoming .n → listedIn (cfg .incoming) k .element < cfg .required .n
+  unfolding namesThere entryOf countOf
+  incoming-there k b = ltb-true _ _ (both-right (ltb (listedIn (cfg .incoming) k .runnable) (cfg .runnables .n)) _ (used 10 (omega arith) k b .names))
+
+  pub incoming-unqueued : (k : ℕ) → k < cfg .incoming .n → requiredConfIn (cfg .required) (listedIn (cfg .incoming) k .element) .capacity ≡ 0
+  unfolding pairsWell listsWell entryOf countOf
+  incoming-unqueued k b =
+      let w = both-left (listsWell cfg (listedIn (cfg .incoming) k .runnable) (entryOf cfg 0x13 (listedIn (cfg .incoming) k .element))) _ (used 10 (omega arith) k b .pairs) in
+      eqb-true _ 0 (both-right (eqb (requiredConfIn (cfg .required) (listedIn (cfg .incoming) k .element) .component) _) _ (both-right (not (isServer cfg (listedIn (cfg .incoming) k .runnable))) _ w))
+
+  pub outgoing-unqueued : (k : ℕ) → k < cfg .outgoing .n → providedConfIn (cfg .provided) (listedIn (cfg .outgoing) k .element) .queued ≡ false
+  unfolding pairsWell listsWell entryOf countOf
+  outgoing-unqueued k b =
+      let w = both-left (listsWell cfg (listedIn (cfg .outgoing) k .runnable) (entryOf cfg 0x14 (listedIn (cfg .outgoing) k .element))) _ (used 11 (omega arith) k b .pairs) in
+      none (providedConfIn (cfg .provided) (listedIn (cfg .outgoing) k .element) .queued) (eqb-true _ 0 (both-right (eqb (providedConfIn (cfg .provided) (listedIn (cfg .outgoing) k .element) .component) _) _ (both-right (not (isServer cfg (listedIn (cfg .outgoing) k .runnable))) _ w)))
+    where
+      none : (b : Bool) → bit b ≡ 0 → b ≡ false
+      none true h = absurd (omega (arith, h))
+      none false h = refl

@@ -6,17 +6,19 @@ use mathlib.Core.List.{[], _∷_}
 use lib.Dec.{ltb, eqb}
 use Rattle.numbers.specs.Refusals.{malformed, notThere, notOwn, barred, stepGone}
 use Rattle.numbers.specs.Codes.{exitCode, resultCode, handBackCode, endCode, receiveCode, giveUpCode}
+use Rattle.numbers.specs.Tags.{requiredTag}
 use Rattle.laws.specs.Choice.{pick, both, either, alike, allOf}
 use Rattle.values.specs.Values.{isVoid, isNumber, isPayload}
-use Rattle.faces.specs.Types.{Value, Step, Config, Life, Slots}
+use Rattle.faces.specs.Types.{Value, Step, Lists, Config, Life, Slots}
 use Rattle.config.specs.Editions.{hasStep}
 use Rattle.config.specs.Tables.{operationConfIn}
+use Rattle.config.specs.Lists.{isListed}
 use Rattle.entries.specs.Entries.{countOf, entryOf}
 use Rattle.entries.specs.Faults.{isTime}
 use Rattle.state.specs.Tables.{slotIn}
 use Rattle.rules.specs.declared.Row.{Row}
 use Rattle.rules.specs.Sound.{componentOf, isWaiting, isCaller}
-use Rattle.rules.specs.Rows.{aSlot, scheduler, noPart, anyhow, queued, nothing, aPayload, aTime, rowOf}
+use Rattle.rules.specs.Rows.{aSlot, scheduler, noPart, anyhow, queued, copied, nothing, aPayload, aTime, rowOf}
 
 -- ---- 2: an entry that the code leaves empty is filled, or the argument is of a kind that it does not take, as every bad value is
 
@@ -37,6 +39,18 @@ formed r what v = both (either (ltb noPart (r .part)) (eqb what 0)) (argues (r .
 -- the part that is named is there, if one is ("Numbers of refusal", 3)
 unfoldable pub partThere : Config → ℕ → ℕ → Bool
 partThere cfg tag n = either (eqb tag noPart) (ltb n (countOf cfg tag))
+
+-- the list in which elements of a kind are named: required ones to be copied, provided ones to be written (W-211)
+unfoldable pub listsOf : Config → ℕ → Lists
+listsOf cfg tag = pick (eqb tag requiredTag) (cfg .incoming) (cfg .outgoing)
+
+-- an element of which the row asks that the runnable r lists it is listed by it (W-211)
+unfoldable pub listedThere : Config → ℕ → Row → ℕ → Bool
+listedThere cfg r w n = either (not (eqb (w .queueing) copied)) (isListed (listsOf cfg (w .part)) r n)
+
+-- what a step by an instance of the runnable r names is there: the part, if one is named, and in the runnable's list, if the row asks that ("Numbers of refusal", 3; W-211)
+unfoldable pub namedThere : Config → ℕ → Row → ℕ → Bool
+namedThere cfg r w n = both (partThere cfg (w .part) n) (listedThere cfg r w n)
 
 -- ---- 4: the part is another component's, or an element is queued that should not be, or the other way round
 
@@ -99,7 +113,7 @@ unfoldable pub instanceRefusal : Config → Slots → Row → Step → ℕ
 instanceRefusal cfg ss r s =
     pick (formed r (s .what) (s .argument))
     (pick (hasStep (cfg .edition) (s .code))
-    (pick (both (slotIn ss (s .who) .used) (partThere cfg (r .part) (s .what)))
+    (pick (both (slotIn ss (s .who) .used) (namedThere cfg (slotIn ss (s .who) .life .runnable) r (s .what)))
     (ownedRefusal cfg (slotIn ss (s .who) .life) r (s .code) (s .what))
     notThere)
     stepGone)

@@ -40,6 +40,10 @@ unqueued = 1
 abbrev pub queued : ℕ
 queued = 2
 
+-- an unqueued element that the instance's runnable lists (W-211)
+abbrev pub copied : ℕ
+copied = 3
+
 -- ---- its argument
 
 -- none: Void ("The eighteen steps", the column of arguments)
@@ -68,7 +72,7 @@ row who part queueing argument = record { who = who; part = part; queueing = que
 abbrev pub noRow : Row
 noRow = row nobody noPart anyhow nothing
 
--- the rows of codes from 0 on: 1 to 14 are steps of a slot, 15 to 18 of the scheduler, 19 to 21 of a slot again ("The eighteen steps", the table; W-205, W-210)
+-- the rows of codes from 0 on: 1 to 14 are steps of a slot, 15 to 18 of the scheduler, 19 to 23 of a slot again ("The eighteen steps", the table; W-205, W-210, W-211)
 unfoldable pub rows : List Row
 rows =
     noRow
@@ -93,6 +97,8 @@ rows =
     ∷ row aSlot noPart anyhow nothing  -- 19 fail
     ∷ row aSlot requiredTag queued aTime  -- 20 hold
     ∷ row aSlot noPart anyhow nothing  -- 21 give up
+    ∷ row aSlot requiredTag copied nothing  -- 22 read copy
+    ∷ row aSlot providedTag copied aPayload  -- 23 write copy
     ∷ []
 
 -- the row of a code ("The eighteen steps", the table)

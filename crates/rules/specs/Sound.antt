@@ -11,12 +11,13 @@ use Rattle.laws.specs.Choice.{pick, both, either, alike, bit, allOf}
 use Rattle.laws.specs.Loop.{allBelow, sumBelow, countBelow}
 use Rattle.laws.specs.Row.{filled}
 use Rattle.values.specs.Values.{voidV, timeoutV, serverErrV, neverReceivedV, invalidV, isVoid, isPayload}
-use Rattle.faces.specs.Types.{Value, Config, Client, Requests, Runnable, Runnables, Variable, Variables, Areas, Element, Elements, Operation, Operations, Timer, Timers, Life, Owed, Stack, Slot, Slots, State, Awaited}
+use Rattle.faces.specs.Types.{Value, Lists, Config, Client, Requests, Runnable, Runnables, Variable, Variables, Areas, Element, Elements, Operation, Operations, Timer, Timers, Life, Owed, Stack, Slot, Slots, Copies, Copied, State, Awaited}
 use Rattle.config.specs.Editions.{marksInvalid}
-use Rattle.config.specs.Tables.{maxRunnableConfs, maxVariableConfs, maxAreaConfs, maxRequiredConfs, maxOperationConfs, maxTimerConfs, runnableConfIn, areaConfIn, requiredConfIn, operationConfIn, timerConfIn, topOf}
+use Rattle.config.specs.Tables.{maxRunnableConfs, maxVariableConfs, maxAreaConfs, maxRequiredConfs, maxOperationConfs, maxTimerConfs, maxListed, runnableConfIn, areaConfIn, requiredConfIn, operationConfIn, timerConfIn, topOf}
+use Rattle.config.specs.Lists.{listsAt}
 use Rattle.entries.specs.Faults.{isServer, configSound, maxTime, isQueued}
 use Rattle.state.specs.Parts.{lastNumber, noClient, maxRequests, maxValues}
-use Rattle.state.specs.Tables.{maxSlots, runnableIn, variableIn, areaIn, elementIn, operationIn, timerIn, slotIn}
+use Rattle.state.specs.Tables.{maxSlots, runnableIn, variableIn, areaIn, elementIn, operationIn, timerIn, slotIn, copyIn, copiesIn}
 use Rattle.rules.specs.Rows.{noPart}
 
 -- the component of a runnable ("The parts, and how many")
@@ -194,6 +195,24 @@ unfoldable pub slotSound : Config → Slot → Bool
 slotSound cfg x =
     pick (x .used) (allOf (lifeSound cfg (x .life) ∷ owedSound cfg (x .life) (x .owed) ∷ stackSound cfg (x .life) (x .stack) ∷ [])) (isNoSlot x)
 
+-- ---- copies: an instance has one of each element that its runnable lists
+
+-- the instance of a slot has a copy at place j: its runnable lists an element there (W-211)
+unfoldable pub hasCopy : Lists → Slot → ℕ → Bool
+hasCopy t x j = both (x .used) (listsAt t (x .life .runnable) j)
+
+-- nothing came, and nothing was set (W-211)
+unfoldable pub isNoCopy : Value → Bool
+isNoCopy v = both (eqb (v .kind) (neverReceivedV .kind)) (eqb (v .number) 0)
+
+-- a place for a copy: it holds what an unqueued element may hold if the instance has one there, else it is blank (W-211)
+unfoldable pub copySound : ℕ → Lists → Slot → Copies → ℕ → Bool
+copySound e t x c j = pick (hasCopy t x j) (isStored e (copyIn c j)) (isNoCopy (copyIn c j))
+
+-- the copies of a slot: four places, each sound (W-211)
+unfoldable pub copiesSound : ℕ → Lists → Slot → Copies → Bool
+copiesSound e t x c = both (eqb (length (c .at)) maxListed) (allBelow (copySound e t x c) maxListed)
+
 -- ---- counts: each runnable counts as many instances as slots are in use by it
 
 -- the slot is in use by an instance of the runnable r ("A sound state", counts)
@@ -323,7 +342,11 @@ clientsSound os rs ss =
 unfoldable pub waitersSound : Config → Operations → Slots → Bool
 waitersSound cfg os ss = allBelow (waiterSound cfg os ss) maxOperationConfs
 
--- the seven tables have their lengths ("The parts, and how many")
+-- the copies of every slot are sound, by one list (W-211)
+unfoldable pub copiedSound : ℕ → Lists → Slots → Copied → Bool
+copiedSound e t ss cs = allBelow (λ (k : ℕ). copiesSound e t (slotIn ss k) (copiesIn cs k)) maxSlots
+
+-- the nine tables have their lengths ("The parts, and how many")
 unfoldable pub shaped : State → Bool
 shaped st =
     allOf
@@ -334,6 +357,8 @@ shaped st =
     ∷ eqb (length (st .operations .at)) maxOperationConfs
     ∷ eqb (length (st .timers .at)) maxTimerConfs
     ∷ eqb (length (st .slots .at)) maxSlots
+    ∷ eqb (length (st .incoming .at)) maxSlots
+    ∷ eqb (length (st .outgoing .at)) maxSlots
     ∷ [])
 
 -- a sound state of a sound configuration ("A sound state")
@@ -352,4 +377,6 @@ soundOf cfg st =
     ∷ areasSound cfg (st .areas) (st .slots)
     ∷ clientsSound (st .operations) (st .runnables) (st .slots)
     ∷ waitersSound cfg (st .operations) (st .slots)
+    ∷ copiedSound (cfg .edition) (cfg .incoming) (st .slots) (st .incoming)
+    ∷ copiedSound (cfg .edition) (cfg .outgoing) (st .slots) (st .outgoing)
     ∷ [])

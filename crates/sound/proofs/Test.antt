@@ -13,20 +13,20 @@ use borrow.Author.Tests.{eq-eqb, ne-eqb, eqb-true, ltb-true, leb-true}
 use Rattle.laws.specs.Choice.{pick, both, either, alike, bit, allOf}
 use Rattle.laws.specs.Loop.{allBelow, sumBelow}
 use Rattle.laws.proofs.Choosing.{clash, both-left, both-right, both-make, all-told, all-made}
-use Rattle.laws.proofs.Looping.{all-at, all-of, sum-zero, sum-term, sum-find}
+use Rattle.laws.proofs.Looping.{all-at, all-of, all-both, sum-zero, sum-term, sum-find}
 use Rattle.laws.proofs.Places.{filled-good}
 use Rattle.values.specs.Values.{voidV}
-use Rattle.faces.specs.Types.{Config, Client, Owed, Slot, State}
+use Rattle.faces.specs.Types.{Config, Client, Owed, Slot, Slots, Copied, State}
 use Rattle.config.specs.Tables.{runnableConfIn, operationConfIn}
 use Rattle.entries.specs.Faults.{isServer, configSound}
 use Rattle.state.specs.Parts.{noClient, noRequests}
-use Rattle.state.specs.Tables.{runnableIn, areaIn, operationIn, slotIn}
-use Rattle.rules.specs.Sound.{clientFits, isNoClient, requestsSound, runnableSound, operationSound, callingSound, doneSound, lifeSound, owedSound, stackSound, isNoOwed, isNoSlot, slotSound, slotsOf, countSound, holders, areaSound, isClient, queuedAs, servedAs, clientsAs, clientSound, queuedSound, servedSound, calledSound, waitersOf, waiterSound, runnablesSound, operationsSound, slotsSound, countsSound, areasSound, clientsSound, waitersSound, shaped, soundOf}
+use Rattle.state.specs.Tables.{runnableIn, areaIn, operationIn, slotIn, copiesIn}
+use Rattle.rules.specs.Sound.{clientFits, isNoClient, requestsSound, runnableSound, operationSound, callingSound, doneSound, lifeSound, owedSound, stackSound, isNoOwed, isNoSlot, slotSound, slotsOf, countSound, holders, areaSound, isClient, queuedAs, servedAs, clientsAs, clientSound, queuedSound, servedSound, calledSound, waitersOf, waiterSound, runnablesSound, operationsSound, slotsSound, countsSound, areasSound, clientsSound, waitersSound, copiesSound, copiedSound, shaped, soundOf}
 use Rattle.rules.proofs.Configured.{runnables-most, capacity-most, operation-there}
 use Rattle.sound.specs.declared.Tally.{Tally}
 use Rattle.sound.specs.declared.Walked.{Walked}
 use Rattle.sound.specs.Tally.{noTally, tallyOf, notedAs, Tallies}
-use Rattle.sound.specs.Walk.{clientsWith, clientAlone, queueAlone, queueOf, notedAlone, runnableTallied, waiterTallied, operationTallied, areaTallied, runnablesTallied, operationsTallied, areasTallied, restTests, walkOf, wholeTest}
+use Rattle.sound.specs.Walk.{clientsWith, clientAlone, queueAlone, queueOf, notedAlone, runnableTallied, waiterTallied, operationTallied, areaTallied, runnablesTallied, operationsTallied, areasTallied, restTests, slotWalked, slotsWalked, walkOf, wholeTest}
 use Rattle.sound.proofs.Tallying.{all-same, tally-tallies, tally-all}
 
 -- a sum of which one term counts
@@ -188,13 +188,27 @@ alike-both true b f g = sym (f refl)
 alike-both false true f g = g refl
 alike-both false false f g = refl
 
+-- the walk tests the slots and the copies of both kinds
+walked-is : (cfg : Config) (ss : Slots) (is os : Copied) → slotsWalked cfg ss is os ≡ both (slotsSound cfg ss) (both (copiedSound (cfg .edition) (cfg .incoming) ss is) (copiedSound (cfg .edition) (cfg .outgoing) ss os))
+unfolding slotsWalked slotWalked slotsSound copiedSound
+walked-is cfg ss is os =
+    all-both (λ (k : ℕ). slotSound cfg (slotIn ss k)) (λ (k : ℕ). both (copiesSound (cfg .edition) (cfg .incoming) (slotIn ss k) (copiesIn is k)) (copiesSound (cfg .edition) (cfg .outgoing) (slotIn ss k) (copiesIn os k))) 32
+    ∙ ap (both (allBelow (λ (k : ℕ). slotSound cfg (slotIn ss k)) 32)) (all-both (λ (k : ℕ). copiesSound (cfg .edition) (cfg .incoming) (slotIn ss k) (copiesIn is k)) (λ (k : ℕ). copiesSound (cfg .edition) (cfg .outgoing) (slotIn ss k) (copiesIn os k)) 32)
+
 module _ (cfg : Config) (st : State) (config : configSound cfg ≡ true) (long : shaped st ≡ true) where
+  abbrev walked : Bool
+  walked = slotsWalked cfg (st .slots) (st .incoming) (st .outgoing)
+
   -- what passes the walk is sound
   walk-sound : wholeTest cfg st ≡ true → soundOf cfg st ≡ true
   unfolding wholeTest soundOf runnablesTallied runnableTallied operationsTallied operationTallied areasTallied runnablesSound operationsSound countsSound areasSound clientsSound waitersSound
   walk-sound h =
-      let slots : slotsSound cfg (st .slots) ≡ true = both-left (slotsSound cfg (st .slots)) _ h in
-      let t = all-told (restTests cfg st (tallyOf (st .slots) 32)) (both-right (slotsSound cfg (st .slots)) _ h) in
+      let all : both (slotsSound cfg (st .slots)) (both (copiedSound (cfg .edition) (cfg .incoming) (st .slots) (st .incoming)) (copiedSound (cfg .edition) (cfg .outgoing) (st .slots) (st .outgoing))) ≡ true = sym (walked-is cfg (st .slots) (st .incoming) (st .outgoing)) ∙ both-left walked _ h in
+      let slots : slotsSound cfg (st .slots) ≡ true = both-left (slotsSound cfg (st .slots)) _ all in
+      let copied = both-right (slotsSound cfg (st .slots)) _ all in
+      let incoming = both-left (copiedSound (cfg .edition) (cfg .incoming) (st .slots) (st .incoming)) _ copied in
+      let outgoing = both-right (copiedSound (cfg .edition) (cfg .incoming) (st .slots) (st .incoming)) _ copied in
+      let t = all-told (restTests cfg st (tallyOf (st .slots) 32)) (both-right walked _ h) in
       let y = tallyOf (st .slots) 32 in
       let each : (r : ℕ) → r < 16 → runnableTallied cfg (y .noted) (getD (y .instances) r 0) r (runnableIn (st .runnables) r) ≡ true = all-at _ 16 (t .0) in
       let calls : (o : ℕ) → o < 8 → operationTallied cfg (st .runnables) (y .noted) (getD (y .waiters) o 0) o (operationIn (st .operations) o) ≡ true = all-at _ 8 (t .1 .1 .1 .0) in
@@ -208,7 +222,7 @@ module _ (cfg : Config) (st : State) (config : configSound cfg ≡ true) (long :
       let waits : (o : ℕ) → o < 8 → both (waiterTallied cfg (getD (y .waiters) o 0) o (operationIn (st .operations) o)) (either (not (operationIn (st .operations) o .calling)) (eqb (clientsWith (queueOf cfg (st .runnables) o) (y .noted) o (operationIn (st .operations) o .number)) 1)) ≡ true = λ o b. both-right (operationSound cfg o (operationIn (st .operations) o)) _ (calls o b) in
       let called : allBelow (calledSound (st .operations) (st .runnables) (st .slots)) 8 ≡ true = all-of _ 8 (λ o b. sym (called-is cfg st config slots runnables o (operations o b)) ∙ both-right (waiterTallied cfg (getD (y .waiters) o 0) o (operationIn (st .operations) o)) _ (waits o b)) in
       let waiters : waitersSound cfg (st .operations) (st .slots) ≡ true = all-of _ 8 (λ o b. sym (waiter-is cfg st config slots runnables o b) ∙ both-left (waiterTallied cfg (getD (y .waiters) o 0) o (operationIn (st .operations) o)) _ (waits o b)) in
-      all-made _ (config, (long, (runnables, (t .1 .0, (t .1 .1 .0, (all-of _ 8 operations, (t .1 .1 .1 .1 .0, (slots, (counts, (areas, (both-make _ _ queued (both-make _ _ served called), (waiters, tt))))))))))))
+      all-made _ (config, (long, (runnables, (t .1 .0, (t .1 .1 .0, (all-of _ 8 operations, (t .1 .1 .1 .1 .0, (slots, (counts, (areas, (both-make _ _ queued (both-make _ _ served called), (waiters, (incoming, (outgoing, tt))))))))))))))
 
   -- and what is sound passes it
   sound-walks : soundOf cfg st ≡ true → wholeTest cfg st ≡ true
@@ -219,6 +233,8 @@ module _ (cfg : Config) (st : State) (config : configSound cfg ≡ true) (long :
       let runnables : runnablesSound cfg (st .runnables) ≡ true = t .1 .1 .0 in
       let operations : operationsSound cfg (st .operations) ≡ true = t .1 .1 .1 .1 .1 .0 in
       let slots : slotsSound cfg (st .slots) ≡ true = t .1 .1 .1 .1 .1 .1 .1 .0 in
+      let copies = t .1 .1 .1 .1 .1 .1 .1 .1 .1 .1 .1 .1 in
+      let slots-walked : walked ≡ true = walked-is cfg (st .slots) (st .incoming) (st .outgoing) ∙ both-make _ _ slots (both-make _ _ (copies .0) (copies .1 .0)) in
       let clients : clientsSound (st .operations) (st .runnables) (st .slots) ≡ true = t .1 .1 .1 .1 .1 .1 .1 .1 .1 .1 .0 in
       let queued = both-left (allBelow (queuedSound (st .runnables) (st .slots)) 16) _ clients in
       let served = both-left (allBelow (servedSound (st .runnables) (st .slots)) 32) _ (both-right (allBelow (queuedSound (st .runnables) (st .slots)) 16) _ clients) in
@@ -226,21 +242,21 @@ module _ (cfg : Config) (st : State) (config : configSound cfg ≡ true) (long :
       let each : (r : ℕ) → r < 16 → runnableTallied cfg (y .noted) (getD (y .instances) r 0) r (runnableIn (st .runnables) r) ≡ true = λ r b. both-make _ _ (all-at _ 16 runnables r b) (both-make _ _ (count-is cfg st config slots runnables r b ∙ all-at _ 16 (t .1 .1 .1 .1 .1 .1 .1 .1 .0) r b) (queue-is cfg st config slots runnables r b ∙ all-at _ 16 queued r b)) in
       let calls : (o : ℕ) → o < 8 → operationTallied cfg (st .runnables) (y .noted) (getD (y .waiters) o 0) o (operationIn (st .operations) o) ≡ true = λ o b. both-make _ _ (all-at _ 8 operations o b) (both-make _ _ (waiter-is cfg st config slots runnables o b ∙ all-at _ 8 (t .1 .1 .1 .1 .1 .1 .1 .1 .1 .1 .1 .0) o b) (called-is cfg st config slots runnables o (all-at _ 8 operations o b) ∙ all-at _ 8 called o b)) in
       let areas : areasTallied (cfg .areas .n) (y .held) (st .areas) ≡ true = all-of _ 16 (λ a b. area-is cfg st config slots runnables a b ∙ all-at _ 16 (t .1 .1 .1 .1 .1 .1 .1 .1 .1 .0) a b) in
-      both-make _ _ slots (all-made _ (all-of _ 16 each, (t .1 .1 .1 .0, (t .1 .1 .1 .1 .0, (all-of _ 8 calls, (t .1 .1 .1 .1 .1 .1 .0, (areas, (noted-is cfg st config slots runnables queued ∙ served, tt))))))))
+      both-make _ _ slots-walked (all-made _ (all-of _ 16 each, (t .1 .1 .1 .0, (t .1 .1 .1 .1 .0, (all-of _ 8 calls, (t .1 .1 .1 .1 .1 .1 .0, (areas, (noted-is cfg st config slots runnables queued ∙ served, tt))))))))
 
   whole-is : wholeTest cfg st ≡ soundOf cfg st
   whole-is = alike-both (wholeTest cfg st) (soundOf cfg st) walk-sound sound-walks
 
   -- from what the walk comes to: the rest decides, or a slot has
-  pub rest-is : (w : Walked) → w ≡ walkOf cfg (st .slots) → w .sound ≡ true → allOf (restTests cfg st (w .tally)) ≡ soundOf cfg st
+  pub rest-is : (w : Walked) → w ≡ walkOf cfg (st .slots) (st .incoming) (st .outgoing) → w .sound ≡ true → allOf (restTests cfg st (w .tally)) ≡ soundOf cfg st
   unfolding walkOf wholeTest
   rest-is w e s =
-      let h : slotsSound cfg (st .slots) ≡ true = sym (ap (λ (x : Walked). x .sound) e) ∙ s in
+      let h : walked ≡ true = sym (ap (λ (x : Walked). x .sound) e) ∙ s in
       let t : w .tally ≡ tallyOf (st .slots) 32 = ap (λ (x : Walked). x .tally) e ∙ ap (λ (b : Bool). pick b (tallyOf (st .slots) 32) noTally) h in
       ap (λ (y : Tally). allOf (restTests cfg st y)) t ∙ (rw h at whole-is)
 
-  pub slot-fails : (w : Walked) → w ≡ walkOf cfg (st .slots) → w .sound ≡ false → soundOf cfg st ≡ false
+  pub slot-fails : (w : Walked) → w ≡ walkOf cfg (st .slots) (st .incoming) (st .outgoing) → w .sound ≡ false → soundOf cfg st ≡ false
   unfolding walkOf wholeTest
   slot-fails w e s =
-      let h : slotsSound cfg (st .slots) ≡ false = sym (ap (λ (x : Walked). x .sound) e) ∙ s in
+      let h : walked ≡ false = sym (ap (λ (x : Walked). x .sound) e) ∙ s in
       sym whole-is ∙ rw h

@@ -7,11 +7,11 @@ use lib.Dec.{ltb, leb, eqb}
 use lib.ListN.{getD}
 use Rattle.laws.specs.Choice.{pick, both, either, bit, allOf}
 use Rattle.laws.specs.Loop.{allBelow}
-use Rattle.faces.specs.Types.{Config, Client, Requests, Runnable, Runnables, Area, Areas, Operation, Operations, Slots, State}
+use Rattle.faces.specs.Types.{Config, Client, Requests, Runnable, Runnables, Area, Areas, Operation, Operations, Slot, Slots, Copies, Copied, State}
 use Rattle.config.specs.Tables.{maxRunnableConfs, maxAreaConfs, maxOperationConfs, operationConfIn}
 use Rattle.state.specs.Parts.{noClient, noRequests}
-use Rattle.state.specs.Tables.{maxSlots, runnableIn, areaIn, operationIn}
-use Rattle.rules.specs.Sound.{runnableSound, operationSound, queuedAs, variablesSound, elementsSound, timersSound, slotsSound}
+use Rattle.state.specs.Tables.{maxSlots, runnableIn, areaIn, operationIn, slotIn, copiesIn}
+use Rattle.rules.specs.Sound.{runnableSound, operationSound, queuedAs, variablesSound, elementsSound, timersSound, slotSound, copiesSound}
 use Rattle.sound.specs.declared.Held.{Held}
 use Rattle.sound.specs.declared.Noted.{Noted}
 use Rattle.sound.specs.declared.Tally.{Tally}
@@ -78,10 +78,18 @@ restTests cfg st y =
     ∷ notedAlone (y .noted)
     ∷ []
 
--- what the walk over the slots comes to: whether each of them is sound, and the tally of all if so (ours)
-unfoldable pub walkOf : Config → Slots → Walked
-walkOf cfg ss = record { sound = slotsSound cfg ss; tally = pick (slotsSound cfg ss) (tallyOf ss maxSlots) noTally }
+-- one slot of the walk: it by itself, and the copies of its instance, by the one list and the other (ours)
+unfoldable pub slotWalked : Config → Slot → Copies → Copies → Bool
+slotWalked cfg x i o = both (slotSound cfg x) (both (copiesSound (cfg .edition) (cfg .incoming) x i) (copiesSound (cfg .edition) (cfg .outgoing) x o))
+
+-- every slot of the walk (ours)
+unfoldable pub slotsWalked : Config → Slots → Copied → Copied → Bool
+slotsWalked cfg ss is os = allBelow (λ (k : ℕ). slotWalked cfg (slotIn ss k) (copiesIn is k) (copiesIn os k)) maxSlots
+
+-- what the walk over the slots comes to: whether each of them is sound, with its copies, and the tally of all if so (ours)
+unfoldable pub walkOf : Config → Slots → Copied → Copied → Walked
+walkOf cfg ss is os = record { sound = slotsWalked cfg ss is os; tally = pick (slotsWalked cfg ss is os) (tallyOf ss maxSlots) noTally }
 
 -- the slots, and the rest by their tally (ours)
 unfoldable pub wholeTest : Config → State → Bool
-wholeTest cfg st = both (slotsSound cfg (st .slots)) (allOf (restTests cfg st (tallyOf (st .slots) maxSlots)))
+wholeTest cfg st = both (slotsWalked cfg (st .slots) (st .incoming) (st .outgoing)) (allOf (restTests cfg st (tallyOf (st .slots) maxSlots)))

@@ -11,12 +11,13 @@ ghost use Rattle.values.specs.Values.{voidV, timeoutV, serverErrV, isVoid, isPa
 ghost use Rattle.config.specs.Tables.{maxAreaConfs, requiredConfIn};
 ghost use Rattle.entries.specs.Faults.{isServer};
 ghost use Rattle.state.specs.Parts.{noClient, maxRequests, maxValues};
-ghost use Rattle.rules.specs.Sound.{isNoClient, clientFits, requestsSound, valuesSound, mostPending, runnableSound, variableSound, isStored, elementSound, isOutcome, callingSound, doneSound, operationSound, timerSound, waitsWell, lifeSound, owedSound, areaFits, isZero, stackSound, isNoSlot, slotSound, isClient, queuedAs, variablesSound, elementsSound, timersSound, soundOf, isNoAwaited, awaitsWell, isNoLife, isNoOwed, isNoStack, heldWell};
+ghost use Rattle.rules.specs.Sound.{isNoClient, clientFits, requestsSound, valuesSound, mostPending, runnableSound, variableSound, isStored, elementSound, isOutcome, callingSound, doneSound, operationSound, timerSound, waitsWell, lifeSound, owedSound, areaFits, isZero, stackSound, isNoSlot, slotSound, hasCopy, isNoCopy, copySound, copiesSound, isClient, queuedAs, variablesSound, elementsSound, timersSound, soundOf, isNoAwaited, awaitsWell, isNoLife, isNoOwed, isNoStack, heldWell};
 ghost use Rattle.sound.specs.Only.{onlyVariables, onlyAreas, onlyRequired, onlyOperations, onlyTimers};
 ghost use Rattle.sound.specs.Tally.{counted, entered, heldBelow, noting, tallied, notedAt, notedAs};
-ghost use Rattle.sound.specs.Walk.{clientsWith, clientAlone, queueAlone, queueOf, notedAlone, runnableTallied, waiterTallied, operationTallied, areaTallied, runnablesTallied, operationsTallied, areasTallied, restTests, walkOf};
+ghost use Rattle.sound.specs.Walk.{clientsWith, clientAlone, queueAlone, queueOf, notedAlone, runnableTallied, waiterTallied, operationTallied, areaTallied, runnablesTallied, operationsTallied, areasTallied, restTests, slotWalked, walkOf};
 use config::AreaConfs;
 use config::Config;
+use config::Lists;
 use config::OperationConfs;
 use config::RequiredConfs;
 use config::RunnableConfs;
@@ -27,6 +28,8 @@ use state::Area;
 use state::Areas;
 use state::Awaited;
 use state::Client;
+use state::Copied;
+use state::Copies;
 use state::Element;
 use state::Elements;
 use state::Life;
@@ -599,6 +602,65 @@ fn slot_sound(cfg: Config, x: Slot) -> bool
     is_no_slot(x)
 }
 
+// ---- the copies of one slot
+
+// The instance of a slot has a copy at place j: its runnable lists an element there.
+fn has_copy(t: Lists, x: Slot, j: u8) -> bool
+    ensures { λ b. ⌜ b ≡ hasCopy t x j ⌝ }
+{
+    if x.used {
+        let l = x.life;
+        return t.lists_at(l.runnable, j);
+    }
+    false
+}
+
+// Nothing came, and nothing was set.
+fn is_no_copy(v: Value) -> bool
+    ensures { λ b. ⌜ b ≡ isNoCopy v ⌝ }
+{
+    v.kind == Value::NEVER_RECEIVED.kind && v.number == 0
+}
+
+// A place for a copy holds what an unqueued element may hold, or is blank if the instance has no copy there.
+fn copy_sound(e: u8, t: Lists, x: Slot, c: Copies, j: u8) -> bool
+    ensures { λ b. ⌜ b ≡ copySound e t x c j ⌝ }
+{
+    let v = c.get(j);
+    if has_copy(t, x, j) {
+        return is_stored(e, v);
+    }
+    is_no_copy(v)
+}
+
+// Every place for a copy of a slot, by one list.
+fn copies_sound(e: u8, t: Lists, x: Slot, c: Copies) -> bool
+    ensures { λ b. ⌜ b ≡ copiesSound e t x c ⌝ }
+{
+    let mut j: u8 = 0;
+    while j < Lists::MAX_LISTED {
+        if copy_sound(e, t, x, c, j) {
+            j = j + 1;
+        } else {
+            return false;
+        }
+    }
+    true
+}
+
+// One slot of the walk: it by itself, and the copies of its instance, by the one list and the other.
+fn slot_walked(cfg: Config, x: Slot, i: Copies, o: Copies) -> bool
+    ensures { λ b. ⌜ b ≡ slotWalked cfg x i o ⌝ }
+{
+    if !slot_sound(cfg, x) {
+        return false;
+    }
+    if !copies_sound(cfg.edition, cfg.incoming, x, i) {
+        return false;
+    }
+    copies_sound(cfg.edition, cfg.outgoing, x, o)
+}
+
 // ---- the tally of the slots
 
 // The clients that instances serve, by operation and number, in the order of the slots; the first `n` places are in use.
@@ -636,7 +698,7 @@ impl Tally {
     };
 }
 
-// What the walk comes to: whether every slot is sound, and if so the tally of all.
+// What the walk comes to: whether every slot is sound, with its copies, and if so the tally of all.
 struct Walked {
     sound: bool,
     tally: Tally,
@@ -1049,15 +1111,17 @@ fn rest_sound(cfg: Config, st: State, y: Tally) -> bool
     noted_alone(l)
 }
 
-// The one walk over the slots: each by itself, and its part of the tally.
-fn walk(cfg: Config, slots: Slots) -> Walked
-    ensures { λ r. ⌜ r ≡ walkOf cfg slots ⌝ }
+// The one walk over the slots: each by itself with its copies, and its part of the tally.
+fn walk(cfg: Config, slots: Slots, incoming: Copied, outgoing: Copied) -> Walked
+    ensures { λ r. ⌜ r ≡ walkOf cfg slots incoming outgoing ⌝ }
 {
     let mut t = Tally::BLANK;
     let mut k: usize = 0;
     while k < Slots::MAX {
         let x = slots.at[k];
-        if slot_sound(cfg, x) {
+        let i = incoming.at[k];
+        let o = outgoing.at[k];
+        if slot_walked(cfg, x, i, o) {
             t = tallied(t, x);
             k = k + 1;
         } else {
@@ -1081,7 +1145,7 @@ pub fn is_sound(cfg: Config, st: State) -> bool
         return false;
     }
     let slots = st.slots;
-    let w = walk(cfg, slots);
+    let w = walk(cfg, slots, st.incoming, st.outgoing);
     if w.sound {
         let y = w.tally;
         return rest_sound(cfg, st, y);

@@ -3,8 +3,8 @@
 use Prim.Native.Nat.{ℕ}
 use mathlib.Core.Bool.{false}
 use lib.ListN.{replicate}
-use Rattle.config.specs.Tables.{maxAreaConfs, maxCapacity}
-use Rattle.values.specs.Values.{voidV}
+use Rattle.config.specs.Tables.{maxAreaConfs, maxCapacity, maxListed}
+use Rattle.values.specs.Values.{voidV, neverReceivedV}
 use Rattle.state.specs.declared.Client.{Client}
 use Rattle.state.specs.declared.Requests.{Requests}
 use Rattle.state.specs.declared.Runnable.{Runnable}
@@ -19,6 +19,7 @@ use Rattle.state.specs.declared.Life.{Life}
 use Rattle.state.specs.declared.Owed.{Owed}
 use Rattle.state.specs.declared.Stack.{Stack}
 use Rattle.state.specs.declared.Slot.{Slot}
+use Rattle.state.specs.declared.Copies.{Copies}
 
 -- the client that stands where there is none ("A sound state", unused places)
 abbrev pub noClient : Client
@@ -87,3 +88,7 @@ noStack = record { held = 0; at = replicate maxAreaConfs 0 }
 -- the blank slot has no instance ("A sound state", unused places)
 unfoldable pub noSlot : Slot
 noSlot = record { used = false; life = noLife; owed = noOwed; stack = noStack }
+
+-- the copies of no instance: nothing came, and nothing was set (W-211)
+unfoldable pub noCopies : Copies
+noCopies = record { at = replicate maxListed neverReceivedV }

@@ -15,7 +15,7 @@ use Rattle.config.specs.declared.VariableConfs.{VariableConfs}
 use Rattle.config.specs.declared.RequiredConf.{RequiredConf}
 use Rattle.config.specs.declared.RequiredConfs.{RequiredConfs}
 use Rattle.state.specs.Parts.{noRequests, noRunnable, noVariable, noValues, noElement}
-use Rattle.state.specs.Tables.{noRunnables, noVariables, noAreas, noElements, noOperations, noTimers, noSlots}
+use Rattle.state.specs.Tables.{noRunnables, noVariables, noAreas, noElements, noOperations, noTimers, noSlots, noCopied}
 use Rattle.state.specs.declared.Runnable.{Runnable}
 use Rattle.state.specs.declared.Runnables.{Runnables}
 use Rattle.state.specs.declared.Variable.{Variable}
@@ -48,7 +48,7 @@ startVariables t = record { at = eachBelow (λ (k : ℕ) (x : Variable). startVa
 unfoldable pub startElements : RequiredConfs → Elements
 startElements t = record { at = eachBelow (λ (k : ℕ) (x : Element). startElement (requiredConfIn t k)) noElement (t .n) (noElements .at) }
 
--- all slots empty, all areas free, intervals and timers at 0, each operation Done(Void) under number 0, and the rest as its kind starts ("The parts, and how many", start state)
+-- all slots empty and without copies, all areas free, intervals and timers at 0, each operation Done(Void) under number 0, and the rest as its kind starts ("The parts, and how many", start state; W-211)
 unfoldable pub startOf : Config → State
 startOf cfg = record {
   runnables = startRunnables (cfg .runnables);
@@ -58,4 +58,6 @@ startOf cfg = record {
   operations = noOperations;
   timers = noTimers;
   slots = noSlots;
+  incoming = noCopied;
+  outgoing = noCopied;
 }

@@ -1,10 +1,11 @@
--- The seven tables of a state: what stands at a place, and one place changed ("The parts, and how many").
+-- The nine tables of a state: what stands at a place, and one place changed ("The parts, and how many").
 -- Past its end a table gives the blank part, and a change there changes nothing.
 -- Assumes nothing.
 use Prim.Native.Nat.{ℕ}
 use lib.ListN.{replicate, getD, set}
 use Rattle.config.specs.Tables.{maxRunnableConfs, maxVariableConfs, maxAreaConfs, maxRequiredConfs, maxOperationConfs, maxTimerConfs}
-use Rattle.state.specs.Parts.{noRunnable, noVariable, noArea, noElement, noOperation, noTimer, noSlot}
+use Rattle.values.specs.Values.{neverReceivedV}
+use Rattle.state.specs.Parts.{noRunnable, noVariable, noArea, noElement, noOperation, noTimer, noSlot, noCopies}
 use Rattle.state.specs.declared.Runnable.{Runnable}
 use Rattle.state.specs.declared.Runnables.{Runnables}
 use Rattle.state.specs.declared.Variable.{Variable}
@@ -19,6 +20,9 @@ use Rattle.state.specs.declared.Timer.{Timer}
 use Rattle.state.specs.declared.Timers.{Timers}
 use Rattle.state.specs.declared.Slot.{Slot}
 use Rattle.state.specs.declared.Slots.{Slots}
+use Rattle.values.specs.declared.Value.{Value}
+use Rattle.state.specs.declared.Copies.{Copies}
+use Rattle.state.specs.declared.Copied.{Copied}
 use Rattle.state.specs.declared.State.{State}
 
 -- how many slots there are for instances ("The parts, and how many")
@@ -41,7 +45,7 @@ withRunnable t i x = record { at = set (t .at) i x }
 
 -- the state with another table of runnables ("The parts, and how many")
 abbrev pub withRunnables : State → Runnables → State
-withRunnables st t = record { runnables = t; variables = st .variables; areas = st .areas; elements = st .elements; operations = st .operations; timers = st .timers; slots = st .slots }
+withRunnables st t = record { runnables = t; variables = st .variables; areas = st .areas; elements = st .elements; operations = st .operations; timers = st .timers; slots = st .slots; incoming = st .incoming; outgoing = st .outgoing }
 
 -- ---- variables
 
@@ -59,7 +63,7 @@ withVariable t i x = record { at = set (t .at) i x }
 
 -- the state with another table of variables ("The parts, and how many")
 abbrev pub withVariables : State → Variables → State
-withVariables st t = record { runnables = st .runnables; variables = t; areas = st .areas; elements = st .elements; operations = st .operations; timers = st .timers; slots = st .slots }
+withVariables st t = record { runnables = st .runnables; variables = t; areas = st .areas; elements = st .elements; operations = st .operations; timers = st .timers; slots = st .slots; incoming = st .incoming; outgoing = st .outgoing }
 
 -- ---- exclusive areas
 
@@ -77,7 +81,7 @@ withArea t i x = record { at = set (t .at) i x }
 
 -- the state with another table of areas ("The parts, and how many")
 abbrev pub withAreas : State → Areas → State
-withAreas st t = record { runnables = st .runnables; variables = st .variables; areas = t; elements = st .elements; operations = st .operations; timers = st .timers; slots = st .slots }
+withAreas st t = record { runnables = st .runnables; variables = st .variables; areas = t; elements = st .elements; operations = st .operations; timers = st .timers; slots = st .slots; incoming = st .incoming; outgoing = st .outgoing }
 
 -- ---- required elements
 
@@ -95,7 +99,7 @@ withElement t i x = record { at = set (t .at) i x }
 
 -- the state with another table of required elements ("The parts, and how many")
 abbrev pub withElements : State → Elements → State
-withElements st t = record { runnables = st .runnables; variables = st .variables; areas = st .areas; elements = t; operations = st .operations; timers = st .timers; slots = st .slots }
+withElements st t = record { runnables = st .runnables; variables = st .variables; areas = st .areas; elements = t; operations = st .operations; timers = st .timers; slots = st .slots; incoming = st .incoming; outgoing = st .outgoing }
 
 -- ---- operations
 
@@ -113,7 +117,7 @@ withOperation t i x = record { at = set (t .at) i x }
 
 -- the state with another table of operations ("The parts, and how many")
 abbrev pub withOperations : State → Operations → State
-withOperations st t = record { runnables = st .runnables; variables = st .variables; areas = st .areas; elements = st .elements; operations = t; timers = st .timers; slots = st .slots }
+withOperations st t = record { runnables = st .runnables; variables = st .variables; areas = st .areas; elements = st .elements; operations = t; timers = st .timers; slots = st .slots; incoming = st .incoming; outgoing = st .outgoing }
 
 -- ---- timers
 
@@ -131,7 +135,7 @@ withTimer t i x = record { at = set (t .at) i x }
 
 -- the state with another table of timers ("The parts, and how many")
 abbrev pub withTimers : State → Timers → State
-withTimers st t = record { runnables = st .runnables; variables = st .variables; areas = st .areas; elements = st .elements; operations = st .operations; timers = t; slots = st .slots }
+withTimers st t = record { runnables = st .runnables; variables = st .variables; areas = st .areas; elements = st .elements; operations = st .operations; timers = t; slots = st .slots; incoming = st .incoming; outgoing = st .outgoing }
 
 -- ---- instance slots
 
@@ -149,4 +153,34 @@ withSlot t i x = record { at = set (t .at) i x }
 
 -- the state with another table of slots ("The parts, and how many")
 abbrev pub withSlots : State → Slots → State
-withSlots st t = record { runnables = st .runnables; variables = st .variables; areas = st .areas; elements = st .elements; operations = st .operations; timers = st .timers; slots = t }
+withSlots st t = record { runnables = st .runnables; variables = st .variables; areas = st .areas; elements = st .elements; operations = st .operations; timers = st .timers; slots = t; incoming = st .incoming; outgoing = st .outgoing }
+
+-- ---- the copies of instances
+
+-- the copy at place j of an instance's (W-211)
+unfoldable pub copyIn : Copies → ℕ → Value
+copyIn c j = getD (c .at) j neverReceivedV
+
+-- the copies of an instance with v at place j (W-211)
+unfoldable pub withCopy : Copies → ℕ → Value → Copies
+withCopy c j v = record { at = set (c .at) j v }
+
+-- a table of blank copies (W-211)
+unfoldable pub noCopied : Copied
+noCopied = record { at = replicate maxSlots noCopies }
+
+-- the copies of the instance in the slot i (W-211)
+unfoldable pub copiesIn : Copied → ℕ → Copies
+copiesIn t i = getD (t .at) i noCopies
+
+-- the table with the copies c for the slot i (W-211)
+unfoldable pub withCopies : Copied → ℕ → Copies → Copied
+withCopies t i c = record { at = set (t .at) i c }
+
+-- the state with another table of what instances have copied at their spawn (W-211)
+abbrev pub withIncoming : State → Copied → State
+withIncoming st t = record { runnables = st .runnables; variables = st .variables; areas = st .areas; elements = st .elements; operations = st .operations; timers = st .timers; slots = st .slots; incoming = t; outgoing = st .outgoing }
+
+-- the state with another table of what instances have set to be written at their end (W-211)
+abbrev pub withOutgoing : State → Copied → State
+withOutgoing st t = record { runnables = st .runnables; variables = st .variables; areas = st .areas; elements = st .elements; operations = st .operations; timers = st .timers; slots = st .slots; incoming = st .incoming; outgoing = t }

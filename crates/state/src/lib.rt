@@ -1,8 +1,8 @@
-// The state of a control unit at its real size: seven tables, and the queues and stacks inside their parts.
+// The state of a control unit at its real size: nine tables, and the queues and stacks inside their parts.
 // A table is read by `get`, which gives the blank part past its end, and changed by `with`, which changes nothing there.
 ghost use mathlib.Core.Path.{_≡_};
 ghost use lib.ListN.{getD};
-ghost use Rattle.state.specs.Tables.{runnableIn, variableIn, areaIn, elementIn, operationIn, timerIn, slotIn, withRunnable, withVariable, withArea, withElement, withOperation, withTimer, withSlot};
+ghost use Rattle.state.specs.Tables.{runnableIn, variableIn, areaIn, elementIn, operationIn, timerIn, slotIn, copyIn, copiesIn, withCopy, withCopies, withRunnable, withVariable, withArea, withElement, withOperation, withTimer, withSlot};
 ghost use Rattle.state.specs.Queues.{upOne, pushRequest, firstRequest, restRequests, pushValue, firstValue, restValues, pushArea, topArea, popArea};
 ghost use Rattle.state.specs.Start.{startRunnable, startVariable, startElement, startRunnables, startVariables, startElements, startOf};
 ghost use Rattle.laws.specs.Row.{shifted};
@@ -11,6 +11,7 @@ ghost use Rattle.values.specs.Values.{voidV};
 ghost use Prim.Native.Nat.{_-_};
 use config::AreaConfs;
 use config::Config;
+use config::Lists;
 use config::OperationConfs;
 use config::RequiredConf;
 use config::RequiredConfs;
@@ -554,6 +555,74 @@ impl Slots {
     }
 }
 
+// What one instance has copied of the elements that its runnable lists, or has set: in the places of the list, and NeverReceived where there is none, or where none was set.
+pub struct Copies {
+    pub at: [Value; Copies::MAX],
+}
+
+impl Copies {
+    pub const MAX: usize = Lists::MAX_LISTED as usize;
+
+    pub const BLANK: Copies = Copies {
+        at: [Value::NEVER_RECEIVED; Copies::MAX],
+    };
+
+    // What stands at place j, or the blank copy past the last place.
+    pub fn get(self, j: u8) -> Value
+        ensures { λ r. ⌜ r ≡ copyIn self j ⌝ }
+    {
+        let k = j as usize;
+        if k < Copies::MAX {
+            return self.at[k];
+        }
+        Value::NEVER_RECEIVED
+    }
+
+    // The copies with v at place j; nothing changes past the last place.
+    pub fn with(self, j: u8, v: Value) -> Copies
+        ensures { λ r. ⌜ r ≡ withCopy self j v ⌝ }
+    {
+        let k = j as usize;
+        if k < Copies::MAX {
+            let mut t = self;
+            t.at[k] = v;
+            return t;
+        }
+        self
+    }
+}
+
+// The copies of all instances, by their slots.
+pub struct Copied {
+    pub at: [Copies; Slots::MAX],
+}
+
+impl Copied {
+    // What stands at place i, or blank copies past the last place.
+    pub fn get(self, i: u8) -> Copies
+        ensures { λ r. ⌜ r ≡ copiesIn self i ⌝ }
+    {
+        let k = i as usize;
+        if k < Slots::MAX {
+            return self.at[k];
+        }
+        Copies::BLANK
+    }
+
+    // The table with c at place i; nothing changes past the last place.
+    pub fn with(self, i: u8, c: Copies) -> Copied
+        ensures { λ r. ⌜ r ≡ withCopies self i c ⌝ }
+    {
+        let k = i as usize;
+        if k < Slots::MAX {
+            let mut t = self;
+            t.at[k] = c;
+            return t;
+        }
+        self
+    }
+}
+
 pub struct State {
     pub runnables: Runnables,
     pub variables: Variables,
@@ -562,6 +631,8 @@ pub struct State {
     pub operations: Operations,
     pub timers: Timers,
     pub slots: Slots,
+    pub incoming: Copied,
+    pub outgoing: Copied,
 }
 
 // What a step came to: its answer, and the state after it, which is the state before it where it was refused.
@@ -590,6 +661,12 @@ impl State {
             },
             slots: Slots {
                 at: [Slot::BLANK; Slots::MAX],
+            },
+            incoming: Copied {
+                at: [Copies::BLANK; Slots::MAX],
+            },
+            outgoing: Copied {
+                at: [Copies::BLANK; Slots::MAX],
             },
         }
     }

@@ -21,11 +21,11 @@ use Rattle.state.specs.Queues.{pushRequest, firstRequest, restRequests}
 use Rattle.state.specs.Fields.{withPending, withRequests}
 use Rattle.state.specs.Tables.{maxSlots, runnableIn, operationIn, slotIn, withRunnable, withOperation, withSlot}
 use Rattle.rules.specs.Sound.{isNoClient, clientFits, requestsSound, runnableSound, runnablesSound, isNoOwed, isNoSlot, slotSound, slotsSound, isClient, queuedAs, servedAs, clientsAs}
-use Rattle.effects.specs.Steps.{entering, exiting, entered, exited, fed, asking, called, awaiting, awaited, closing, returnedRunnables, closed, answers, finishing, failing, failed, clientOf, finished, handedBack, answered, emptied, isDue, begun, starting, fresh, instanceOf, lowestEmpty, spawned, ticked, waited}
+use Rattle.effects.specs.Steps.{handedOn, entering, exiting, entered, exited, fed, asking, called, awaiting, awaited, closing, returnedRunnables, closed, answers, finishing, failing, failed, clientOf, finished, handedBack, answered, emptied, isDue, begun, starting, fresh, instanceOf, lowestEmpty, spawned, ticked, waited}
 use Rattle.stays_sound.specs.Facts.{Clients, Sound, CanEnter, CanExit, CanFeed, CanCall, CanHandBack, CanEnd, CanSpawn, CanTimeout, CanTick, CanWait, CanFail, ClientsIn}
 use Rattle.rules.proofs.Configured.{runnables-most, operations-most, capacity-most, operation-there}
 use Rattle.stays_sound.proofs.Told.{runnables-length, operations-length, slots-length}
-use Rattle.stays_sound.proofs.Kept.{here, lowest-empty, runnable-kept, slot-kept, fed-kept, returned-kept, after-kept, waited-kept, slots-after-kept, caller-kept}
+use Rattle.stays_sound.proofs.Kept.{here, lowest-empty, runnable-kept, slot-kept, fed-kept, handed-kept, returned-kept, after-kept, waited-kept, slots-after-kept, caller-kept}
 use Rattle.stays_sound.proofs.Tallies.{other-operation, other-number, tally-same, tally-less, tally-close, tally-open, served-put, queued-put, asked, taken, idle, busy, clients-kept, clients-slot, clients-runnables}
 
 -- ---- what a sound state tells of a queue, an open call and an empty slot
@@ -63,6 +63,10 @@ pub feed-keeps-clients : (cfg : Config) (st : State) (i p : ℕ) (v : Value) →
 unfolding fed
 feed-keeps-clients cfg st i p v s z =
     clients-runnables (st .operations) (st .runnables) _ (st .slots) (fed-kept (λ x. x .requests) (λ c x. refl) cfg (st .elements) p (st .runnables)) (s .clients)
+
+-- what an instance has set is written
+pub hand-on-keeps-clients : (cfg : Config) (st : State) (i : ℕ) → Sound cfg st → ClientsIn (handedOn cfg st i)
+hand-on-keeps-clients cfg st i s = clients-runnables (st .operations) (st .runnables) _ (st .slots) (handed-kept (λ x. x .requests) (λ c x. refl) cfg st i) (s .clients)
 
 pub call-keeps-clients : (cfg : Config) (st : State) (i o : ℕ) (v : Value) → Sound cfg st → CanCall cfg st i o v → ClientsIn (called cfg st i o v)
 unfolding called

@@ -20,10 +20,10 @@ use Rattle.state.specs.Parts.{noRunnable, noSlot}
 use Rattle.state.specs.Queues.{upOne}
 use Rattle.state.specs.Tables.{maxSlots, runnableIn, slotIn, withRunnable, withSlot}
 use Rattle.rules.specs.Sound.{ofRunnable, slotsOf}
-use Rattle.effects.specs.Steps.{entering, exiting, entered, exited, fed, callerAfter, called, awaiting, awaited, closed, finishing, failing, failed, finished, handedBack, answered, emptied, starting, instanceOf, lowestEmpty, spawned, ticked, waited}
+use Rattle.effects.specs.Steps.{entering, exiting, entered, exited, fed, handedOn, callerAfter, called, awaiting, awaited, closed, finishing, failing, failed, finished, handedBack, answered, emptied, starting, instanceOf, lowestEmpty, spawned, ticked, waited}
 use Rattle.stays_sound.specs.Facts.{Counted, Sound, CanEnter, CanExit, CanFeed, CanCall, CanHandBack, CanEnd, CanSpawn, CanTimeout, CanTick, CanWait, CanFail, CountedIn}
 use Rattle.stays_sound.proofs.Told.{runnables-length, slots-length}
-use Rattle.stays_sound.proofs.Kept.{here, lowest-empty, runnable-kept, slot-kept, fed-kept, returned-kept, after-kept, slots-after-kept, caller-kept}
+use Rattle.stays_sound.proofs.Kept.{here, lowest-empty, runnable-kept, slot-kept, fed-kept, handed-kept, returned-kept, after-kept, slots-after-kept, caller-kept}
 
 -- ---- what each kind of change does
 
@@ -77,6 +77,10 @@ pub feed-keeps-counts : (cfg : Config) (st : State) (i p : ℕ) (v : Value) → 
 unfolding fed
 feed-keeps-counts cfg st i p v s z =
     counted-runnables (st .runnables) _ (st .slots) (fed-kept (λ x. x .instances) (λ c x. refl) cfg (st .elements) p (st .runnables)) (s .counts)
+
+-- what an instance has set is written
+pub hand-on-keeps-counts : (cfg : Config) (st : State) (i : ℕ) → Sound cfg st → CountedIn (handedOn cfg st i)
+hand-on-keeps-counts cfg st i s = counted-runnables (st .runnables) _ (st .slots) (handed-kept (λ x. x .instances) (λ c x. refl) cfg st i) (s .counts)
 
 pub call-keeps-counts : (cfg : Config) (st : State) (i o : ℕ) (v : Value) → Sound cfg st → CanCall cfg st i o v → CountedIn (called cfg st i o v)
 unfolding called

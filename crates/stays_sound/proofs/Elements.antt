@@ -1,6 +1,6 @@
 -- Every required element stays sound: an unqueued one holds what it may, a queued one keeps to its capacity and holds payloads.
 -- Assumes nothing.
-use Prim.Native.Nat.{ℕ, _+_, _-_, _≤_, _<_}
+use Prim.Native.Nat.{ℕ, zero, suc, _+_, _-_, _≤_, _<_}
 use mathlib.Core.Bool.{Bool, true, false, not}
 use mathlib.Core.Path.{_≡_, refl, sym, _∙_, ap}
 use native.Mathlib.Nat.{mod-eq-of-lt}
@@ -14,15 +14,16 @@ use Rattle.laws.proofs.Choosing.{clash, both-left, both-right, both-make, eithe
 use Rattle.laws.proofs.Looping.{all-at, any-find}
 use Rattle.laws.proofs.Places.{all-put, all-each, filled-push, filled-shift}
 use Rattle.values.specs.Values.{voidV, invalidV, isVoid, isPayload}
-use Rattle.faces.specs.Types.{Value, Config, Values, Element, Elements, State}
+use Rattle.faces.specs.Types.{Value, Config, Values, Element, Elements, Copies, State}
 use Rattle.config.specs.Editions.{marksInvalid}
 use Rattle.config.specs.Tables.{maxRequiredConfs, requiredConfIn, providedConfIn, linkIn}
+use Rattle.config.specs.Lists.{listsAt, elementAt, isListed}
 use Rattle.entries.specs.Faults.{isQueued, configSound}
 use Rattle.state.specs.Parts.{noElement, maxValues}
 use Rattle.state.specs.Queues.{upOne, pushValue, restValues}
-use Rattle.state.specs.Tables.{elementIn, withElement}
+use Rattle.state.specs.Tables.{elementIn, withElement, copyIn}
 use Rattle.rules.specs.Sound.{valuesSound, isStored, elementSound, elementsSound}
-use Rattle.effects.specs.Steps.{seen, looked, joins, linked, accepts, storing, queueing, fedElement, fedElements, fed, invalidated, receiving, dequeued}
+use Rattle.effects.specs.Steps.{seen, looked, joins, linked, accepts, storing, queueing, fedElement, fedElements, fed, invalidated, receiving, dequeued, isGiven, givenElements, handsOn, handedElements, seenElements, copiedElements}
 use Rattle.stays_sound.specs.Facts.{Sound, CanRead, CanFeed, CanInvalidate, CanReceive}
 use Rattle.rules.proofs.Configured.{required-most, length-most, link-alike}
 
@@ -165,3 +166,34 @@ module _ (cfg : Config) (st : State) where
       let t = stands-told cfg q x (element-at cfg st s q (z .inside)) in
       elements-put cfg (st .elements) q (receiving x) (s .elements)
       (stands-made cfg q (receiving x) (record { value = t .value; queue = rest-sound (requiredConfIn (cfg .required) q .capacity) (x .queue) (length-most cfg (s .config) q) (t .queue) (z .some) }))
+
+-- ---- what an instance has set, and what a new one copies
+
+-- each that is written was set to a payload
+given-sound : (cfg : Config) → configSound cfg ≡ true → (r : ℕ) (c : Copies) (n : ℕ) (t : Elements) → elementsSound cfg t ≡ true → elementsSound cfg (givenElements cfg r c n t) ≡ true
+unfolding givenElements isGiven
+given-sound cfg k r c zero t h = h
+given-sound cfg k r c (suc n) t h =
+    let rest = givenElements cfg r c n t in
+    let v = copyIn c n in
+    pick-has (λ (y : Elements). elementsSound cfg y ≡ true) (both (listsAt (cfg .outgoing) r n) (isPayload v)) _ rest
+    (λ e. let p = both-right (listsAt (cfg .outgoing) r n) (isPayload v) e in
+    fed-sound cfg k (elementAt (cfg .outgoing) r n) v (payload-stored (cfg .edition) v p) (λ q l i. p) rest (given-sound cfg k r c n t h))
+    (λ e. given-sound cfg k r c n t h)
+
+module _ (cfg : Config) (st : State) where
+  pub hand-on-keeps-elements : (i : ℕ) → Sound cfg st → elementsSound cfg (handedElements cfg st i) ≡ true
+  unfolding handedElements
+  hand-on-keeps-elements i s = pick-has (λ (y : Elements). elementsSound cfg y ≡ true) (handsOn cfg st i) _ (st .elements) (λ _. given-sound cfg (s .config) _ _ 4 (st .elements) (s .elements)) (λ _. s .elements)
+
+  pub copy-keeps-elements : (r : ℕ) → Sound cfg st → elementsSound cfg (copiedElements cfg r (st .elements)) ≡ true
+  unfolding copiedElements seenElements elementsSound elementIn
+  copy-keeps-elements r s =
+      pick-has (λ (y : Elements). elementsSound cfg y ≡ true) (listsAt (cfg .incoming) r 0) _ (st .elements)
+      (λ _. all-each (λ (q : ℕ) (x : Element). pick (isListed (cfg .incoming) r q) (seen x) x) noElement (λ q y. elementSound cfg q y) (cfg .required .n) maxRequiredConfs (st .elements .at) (s .elements)
+      (λ q b c e. pick-has (λ y. elementSound cfg q y ≡ true) (isListed (cfg .incoming) r q) _ _ (λ _. seen-sound cfg q (getD (st .elements .at) q noElement) e) (λ _. e)))
+      (λ _. s .elements)
+
+  -- what an unqueued element that is there holds is stored
+  pub element-stored : (q : ℕ) → Sound cfg st → q < cfg .required .n → requiredConfIn (cfg .required) q .capacity ≡ 0 → isStored (cfg .edition) (elementIn (st .elements) q .value) ≡ true
+  element-stored q s b z = rw (lt-ltb q (cfg .required .n) b, eq-eqb (requiredConfIn (cfg .required) q .capacity) 0 z) at (stands-told cfg q (elementIn (st .elements) q) (element-at cfg st s q b) .value)

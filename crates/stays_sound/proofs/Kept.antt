@@ -11,12 +11,12 @@ use Rattle.laws.specs.Row.{eachBelow}
 use Rattle.laws.proofs.Choosing.{clash, pick-has}
 use Rattle.laws.proofs.Looping.{first-is}
 use Rattle.laws.proofs.Places.{inside-of, put-each, each-has}
-use Rattle.faces.specs.Types.{Config, RunnableConf, Runnable, Runnables, Elements, Operation, Operations, Slot, Slots, State}
+use Rattle.faces.specs.Types.{Config, RunnableConf, Runnable, Runnables, Elements, Operation, Operations, Slot, Slots, Copies, State}
 use Rattle.config.specs.Tables.{runnableConfIn, operationConfIn}
 use Rattle.state.specs.Parts.{noRunnable, noOperation, noSlot}
 use Rattle.state.specs.Fields.{withCount}
 use Rattle.state.specs.Tables.{maxSlots, runnableIn, operationIn, slotIn, withRunnable, withSlot}
-use Rattle.effects.specs.Steps.{woken, isFed, fedRunnables, isReturned, returnedRunnables, runnableAfter, runnablesAfter, operationAfter, operationsAfter, slotAfter, slotsAfter, callerAfter, waitingOn, isEmptyAt, lowestEmpty}
+use Rattle.effects.specs.Steps.{woken, isFed, fedRunnables, isGivenTo, givenRunnables, handsOn, handedRunnables, isReturned, returnedRunnables, runnableAfter, runnablesAfter, operationAfter, operationsAfter, slotAfter, slotsAfter, callerAfter, waitingOn, isEmptyAt, lowestEmpty}
 use Rattle.stays_sound.specs.Facts.{Sound, There}
 use Rattle.stays_sound.proofs.Told.{slots-length}
 
@@ -42,6 +42,14 @@ module _ {B : Type 0} where
   pub fed-kept : (g : Runnable → B) → ((c : RunnableConf) (x : Runnable) → g (woken c x) ≡ g x) → (cfg : Config) (t : Elements) (p : ℕ) (rs : Runnables) (j : ℕ) → g (runnableIn (fedRunnables cfg t p rs) j) ≡ g (runnableIn rs j)
   unfolding fedRunnables
   fed-kept g w cfg t p rs j = runnables-kept g (λ (r : ℕ) (x : Runnable). pick (isFed cfg t p r) (woken (runnableConfIn (cfg .runnables) r) x) x) (cfg .runnables .n) rs (λ r x. pick-has (λ y. g y ≡ g x) (isFed cfg t p r) (woken (runnableConfIn (cfg .runnables) r) x) x (λ e. w (runnableConfIn (cfg .runnables) r) x) (λ e. refl)) j
+
+  given-kept : (g : Runnable → B) → ((c : RunnableConf) (x : Runnable) → g (woken c x) ≡ g x) → (cfg : Config) (t : Elements) (r : ℕ) (c : Copies) (rs : Runnables) (j : ℕ) → g (runnableIn (givenRunnables cfg t r c rs) j) ≡ g (runnableIn rs j)
+  unfolding givenRunnables
+  given-kept g w cfg t r c rs j = runnables-kept g (λ (k : ℕ) (x : Runnable). pick (isGivenTo cfg t r c k) (woken (runnableConfIn (cfg .runnables) k) x) x) (cfg .runnables .n) rs (λ k x. pick-has (λ y. g y ≡ g x) (isGivenTo cfg t r c k) (woken (runnableConfIn (cfg .runnables) k) x) x (λ e. w (runnableConfIn (cfg .runnables) k) x) (λ e. refl)) j
+
+  pub handed-kept : (g : Runnable → B) → ((c : RunnableConf) (x : Runnable) → g (woken c x) ≡ g x) → (cfg : Config) (st : State) (i j : ℕ) → g (runnableIn (handedRunnables cfg st i) j) ≡ g (runnableIn (st .runnables) j)
+  unfolding handedRunnables
+  handed-kept g w cfg st i j = pick-has (λ (y : Runnables). g (runnableIn y j) ≡ g (runnableIn (st .runnables) j)) (handsOn cfg st i) _ (st .runnables) (λ _. given-kept g w cfg (st .elements) _ _ (st .runnables) j) (λ _. refl)
 
   pub returned-kept : (g : Runnable → B) → ((c : RunnableConf) (x : Runnable) → g (woken c x) ≡ g x) → (cfg : Config) (o : ℕ) (rs : Runnables) (j : ℕ) → g (runnableIn (returnedRunnables cfg o rs) j) ≡ g (runnableIn rs j)
   unfolding returnedRunnables

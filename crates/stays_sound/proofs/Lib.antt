@@ -10,6 +10,7 @@ pub mod Instances
 pub mod Runnables
 pub mod Slots
 pub mod Elements
+pub mod Copies
 pub mod Operations
 pub mod Tables
 pub mod Shapes

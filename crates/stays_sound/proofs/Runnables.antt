@@ -8,21 +8,22 @@ use native.Mathlib.Omega.{arith}
 use lib.Dec.{leb, eqb}
 use lib.ListN.{getD}
 use borrow.Author.Tests.{ltb-true, leb-true, eqb-true, lt-ltb, le-leb, eq-eqb}
-use Rattle.laws.specs.Choice.{pick, either}
+use Rattle.laws.specs.Choice.{pick, both, either}
 use Rattle.laws.specs.Row.{eachBelow, filled}
 use Rattle.laws.proofs.Choosing.{clash, both-left, both-right, both-make, all-told, all-made, pick-has}
 use Rattle.laws.proofs.Looping.{all-at, any-find}
 use Rattle.laws.proofs.Places.{all-put, all-each, filled-good, filled-push, filled-shift}
 use Rattle.values.specs.Values.{timeoutV, isVoid}
-use Rattle.faces.specs.Types.{Value, Config, RunnableConf, Client, Requests, Runnable, Runnables, Elements, State}
+use Rattle.faces.specs.Types.{Value, Config, RunnableConf, Client, Requests, Runnable, Runnables, Elements, Copies, State}
 use Rattle.config.specs.Tables.{maxRunnableConfs, runnableConfIn, operationConfIn, timerConfIn, dataEventIn, returnEventIn, topOf}
+use Rattle.config.specs.Lists.{elementAt}
 use Rattle.entries.specs.Faults.{isServer, configSound}
 use Rattle.state.specs.Parts.{noClient, noRunnable, maxRequests}
 use Rattle.state.specs.Queues.{upOne, pushRequest, firstRequest, restRequests}
 use Rattle.state.specs.Fields.{withPending, withRequests}
 use Rattle.state.specs.Tables.{runnableIn, operationIn, slotIn, withRunnable}
 use Rattle.rules.specs.Sound.{isNoClient, clientFits, requestsSound, mostPending, runnableSound, runnablesSound}
-use Rattle.effects.specs.Steps.{oneMore, woken, feeds, isFed, fedRunnables, fed, asking, called, returns, isReturned, returnedRunnables, closed, handedBack, answered, leaving, emptied, isDue, begun, starting, lowestEmpty, spawned, ticked, runnableAfter, runnablesAfter, waited}
+use Rattle.effects.specs.Steps.{isGiven, isGivenTo, givenRunnables, handsOn, handedRunnables, oneMore, woken, feeds, isFed, fedRunnables, fed, asking, called, returns, isReturned, returnedRunnables, closed, handedBack, answered, leaving, emptied, isDue, begun, starting, lowestEmpty, spawned, ticked, runnableAfter, runnablesAfter, waited}
 use Rattle.effects.proofs.Pending.{more-fits}
 use Rattle.stays_sound.specs.Facts.{Sound, CanFeed, CanCall, CanHandBack, CanEnd, CanSpawn, CanTimeout, CanTick, CanWait}
 use Rattle.stays_sound.proofs.Instances.{instance-at, life-there}
@@ -136,6 +137,19 @@ module _ (cfg : Config) (h : configSound cfg ≡ true) where
       runnables-each cfg (λ (r : ℕ) (x : Runnable). pick (isFed cfg t p r) (woken (runnableConfIn (cfg .runnables) r) x) x) rs
       (λ r x b q. pick-has (λ y. runnableSound cfg r y ≡ true) (isFed cfg t p r) (woken (runnableConfIn (cfg .runnables) r) x) x (λ e. woken-sound cfg r x b (fed-plain t p r e) q) (λ e. q)) g
 
+  -- data events of what an instance has set
+  given-plain : (t : Elements) (r : ℕ) (c : Copies) (k : ℕ) → isGivenTo cfg t r c k ≡ true → isServer cfg k ≡ false
+  unfolding isGivenTo
+  given-plain t r c k e =
+      let f = any-find (λ (j : ℕ). both (isGiven (cfg .outgoing) r c j) (isFed cfg t (elementAt (cfg .outgoing) r j) k)) 4 e in
+      fed-plain t (elementAt (cfg .outgoing) r (f .0)) k (both-right (isGiven (cfg .outgoing) r c (f .0)) _ (f .2))
+
+  pub given-sound : (t : Elements) (r : ℕ) (c : Copies) (rs : Runnables) → runnablesSound cfg rs ≡ true → runnablesSound cfg (givenRunnables cfg t r c rs) ≡ true
+  unfolding givenRunnables
+  given-sound t r c rs g =
+      runnables-each cfg (λ (k : ℕ) (x : Runnable). pick (isGivenTo cfg t r c k) (woken (runnableConfIn (cfg .runnables) k) x) x) rs
+      (λ k x b q. pick-has (λ y. runnableSound cfg k y ≡ true) (isGivenTo cfg t r c k) (woken (runnableConfIn (cfg .runnables) k) x) x (λ e. woken-sound cfg k x b (given-plain t r c k e) q) (λ e. q)) g
+
   -- return events
   pub returned-sound : (o : ℕ) (rs : Runnables) → runnablesSound cfg rs ≡ true → runnablesSound cfg (returnedRunnables cfg o rs) ≡ true
   unfolding returnedRunnables
@@ -154,6 +168,10 @@ module _ (cfg : Config) (st : State) where
   pub feed-keeps-runnables : (i p : ℕ) (v : Value) → Sound cfg st → CanFeed cfg st i p v → runnablesSound cfg (fed cfg st p v .runnables) ≡ true
   unfolding fed
   feed-keeps-runnables i p v s z = fed-sound cfg (s .config) (st .elements) p (st .runnables) (s .runnables)
+
+  pub hand-on-keeps-runnables : (i : ℕ) → Sound cfg st → runnablesSound cfg (handedRunnables cfg st i) ≡ true
+  unfolding handedRunnables
+  hand-on-keeps-runnables i s = pick-has (λ (y : Runnables). runnablesSound cfg y ≡ true) (handsOn cfg st i) _ (st .runnables) (λ _. given-sound cfg (s .config) (st .elements) _ _ (st .runnables) (s .runnables)) (λ _. s .runnables)
 
   pub call-keeps-runnables : (i o : ℕ) (v : Value) → Sound cfg st → CanCall cfg st i o v → runnablesSound cfg (called cfg st i o v .runnables) ≡ true
   unfolding called clientFits

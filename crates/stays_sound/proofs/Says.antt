@@ -7,7 +7,7 @@ use native.Mathlib.Omega.{arith}
 use lib.Dec.{ltb, eqb}
 use borrow.Author.Tests.{ltb-true, ltb-false, leb-false, eqb-true, eqb-false, eq-eqb, ne-eqb, leb-true, lt-ltb}
 use Rattle.numbers.specs.Refusals.{malformed, notThere, notOwn, barred, stepGone}
-use Rattle.numbers.specs.Codes.{writeVariableCode, enterCode, exitCode, readCode, writeCode, invalidateCode, receiveCode, sendCode, callCode, resultCode, handBackCode, endCode, spawnCode, timeoutCode, tickCode, failCode, holdCode, giveUpCode}
+use Rattle.numbers.specs.Codes.{writeVariableCode, enterCode, exitCode, readCode, writeCode, invalidateCode, receiveCode, sendCode, callCode, resultCode, handBackCode, endCode, spawnCode, timeoutCode, tickCode, failCode, holdCode, giveUpCode, readCopyCode, writeCopyCode}
 use Rattle.laws.specs.Choice.{both, either, bit, pick}
 use Rattle.laws.proofs.Choosing.{clash, both-left, both-right, both-no, alike-is, all-told, pick-on, pick-alike}
 use Rattle.faces.specs.Types.{Value, Step, Config, State, Life}
@@ -20,9 +20,9 @@ use Rattle.entries.specs.Faults.{isQueued}
 use Rattle.state.specs.Tables.{maxSlots, runnableIn, elementIn, operationIn, slotIn}
 use Rattle.rules.specs.Sound.{componentOf, isWaiting, isCaller, clientsAs, waitersOf}
 use Rattle.rules.specs.Rows.{noPart, aSlot, scheduler, rows, rowOf}
-use Rattle.rules.specs.Refusals.{argues, formed, partThere, queuesAs, partOwn, asksSynchronous, asksWaiting, finishedLets, failedLets, endsWaiting, waitingLets, lifeLets, ownedRefusal, instanceRefusal, schedulerRefusal, refusalBy, refusalOf}
+use Rattle.rules.specs.Refusals.{argues, formed, partThere, listsOf, listedThere, namedThere, queuesAs, partOwn, asksSynchronous, asksWaiting, finishedLets, failedLets, endsWaiting, waitingLets, lifeLets, ownedRefusal, instanceRefusal, schedulerRefusal, refusalBy, refusalOf}
 use Rattle.effects.specs.Steps.{isTaken, onTop, isBare, isOpen, isBorne, isBusy, requestsFull, serves, hasFailed, handsNumber, holds, isOver, maySpawn, lowestEmpty, isUp, operationsLet, timersLet, allLet, isSpent}
-use Rattle.stays_sound.specs.Facts.{Acts, CanWriteVariable, CanEnter, CanExit, CanRead, CanFeed, CanInvalidate, CanReceive, CanCall, CanCollect, CanHandBack, CanEnd, CanSpawn, CanTimeout, CanTick, CanWait, CanFail, CanHold, CanGiveUp}
+use Rattle.stays_sound.specs.Facts.{Acts, CanWriteVariable, CanEnter, CanExit, CanRead, CanFeed, CanInvalidate, CanReceive, CanCall, CanCollect, CanHandBack, CanEnd, CanSpawn, CanTimeout, CanTick, CanWait, CanFail, CanHold, CanGiveUp, CanReadCopy, CanWriteCopy}
 
 -- ---- refusals 2 to 5, and 2 and 3
 
@@ -32,6 +32,7 @@ pub record Let (cfg : Config) (st : State) (code i k : ℕ) (v : Value) : Type 0
   pub has : hasStep (cfg .edition) code ≡ true
   pub used : slotIn (st .slots) i .used ≡ true
   pub part : partThere cfg (rowOf code .part) k ≡ true
+  pub listed : listedThere cfg (slotIn (st .slots) i .life .runnable) (rowOf code) k ≡ true
   pub own : partOwn cfg (componentOf cfg (slotIn (st .slots) i .life .runnable)) (rowOf code) k ≡ true
   pub life : lifeLets cfg (slotIn (st .slots) i .life) code k ≡ true
 
@@ -43,16 +44,17 @@ pub record LetRun (cfg : Config) (code i k : ℕ) (v : Value) : Type 0 where
 
 module _ (cfg : Config) (st : State) (s : Step) {n : ℕ} (c : s .code ≡ n) (h : refusalOf cfg (st .slots) s ≡ 0) where
   pub let-told : rowOf n .who ≡ aSlot → Let cfg st n (s .who) (s .what) (s .argument)
-  unfolding refusalOf refusalBy instanceRefusal ownedRefusal
+  unfolding refusalOf refusalBy instanceRefusal ownedRefusal namedThere
   let-told w =
       let x = slotIn (st .slots) (s .who) in
       let r = rowOf n in
       let a = pick-on (formed r (s .what) (s .argument)) _ malformed 0 (rw (c, eq-eqb (r .who) aSlot w) at h) (λ q. omega (arith, q)) in
       let e = pick-on (hasStep (cfg .edition) n) _ stepGone 0 (a .1) (λ q. omega (arith, q)) in
-      let b = pick-on (both (x .used) (partThere cfg (r .part) (s .what))) _ notThere 0 (e .1) (λ q. omega (arith, q)) in
+      let b = pick-on (both (x .used) (namedThere cfg (x .life .runnable) r (s .what))) _ notThere 0 (e .1) (λ q. omega (arith, q)) in
+      let p = both-right (x .used) _ (b .0) in
       let c = pick-on (partOwn cfg (componentOf cfg (x .life .runnable)) r (s .what)) _ notOwn 0 (b .1) (λ q. omega (arith, q)) in
       let d = pick-on (lifeLets cfg (x .life) n (s .what)) _ barred 0 (c .1) (λ q. omega (arith, q)) in
-      record { form = a .0; has = e .0; used = both-left (x .used) _ (b .0); part = both-right (x .used) _ (b .0); own = c .0; life = d .0 }
+      record { form = a .0; has = e .0; used = both-left (x .used) _ (b .0); part = both-left (partThere cfg (r .part) (s .what)) _ p; listed = both-right (partThere cfg (r .part) (s .what)) _ p; own = c .0; life = d .0 }
 
   pub run-told : rowOf n .who ≡ scheduler → LetRun cfg n (s .who) (s .what) (s .argument)
   unfolding refusalOf refusalBy schedulerRefusal
@@ -250,6 +252,14 @@ module _ (cfg : Config) (st : State) (i k : ℕ) (v : Value) where
       let l = slotIn (st .slots) i .life in
       let t = all-told _ (z .life) in
       record { there = record { used = z .used }; waiting = t .1 .1 .1 .0; free = spent-free l k (t .0); spent = e }
+
+  pub says-read-copy : Let cfg st readCopyCode i k v → CanReadCopy cfg st i k
+  unfolding rowOf rows listedThere listsOf lifeLets failedLets
+  says-read-copy z = record { who = acts cfg st readCopyCode i k v z refl refl refl refl refl; fine = rests (hasFailed st i) false refl (all-told _ (z .life) .1 .1 .0); listed = z .listed }
+
+  pub says-write-copy : Let cfg st writeCopyCode i k v → CanWriteCopy cfg st i k v
+  unfolding formed argues rowOf rows listedThere listsOf lifeLets failedLets
+  says-write-copy z = record { who = acts cfg st writeCopyCode i k v z refl refl refl refl refl; fine = rests (hasFailed st i) false refl (all-told _ (z .life) .1 .1 .0); listed = z .listed; payload = z .form }
 
 module _ (cfg : Config) (st : State) (i k : ℕ) (v : Value) where
   pub says-spawn : LetRun cfg spawnCode i k v → maySpawn (runnableConfIn (cfg .runnables) k) (runnableIn (st .runnables) k) ≡ true → ltb (lowestEmpty (st .slots)) maxSlots ≡ true → CanSpawn cfg st k

@@ -1,18 +1,20 @@
 -- Every table keeps its length.
 -- Assumes nothing.
-use Prim.Native.Nat.{ℕ}
+use Prim.Native.Nat.{ℕ, zero, suc}
 use mathlib.Core.Bool.{true, false}
-use mathlib.Core.Path.{_≡_, _∙_}
+use mathlib.Core.Path.{_≡_, refl, _∙_}
 use lib.ListN.{length, length-set}
 use Rattle.laws.specs.Choice.{pick}
+use Rattle.laws.proofs.Choosing.{pick-has}
 use Rattle.laws.proofs.Places.{each-length}
 use Rattle.values.specs.Values.{invalidV, timeoutV}
-use Rattle.faces.specs.Types.{Value, Config, Runnable, Runnables, Variable, Variables, Area, Areas, Element, Elements, Operation, Operations, Timer, Timers, Slot, Slots, State, Awaited}
+use Rattle.faces.specs.Types.{Value, Lists, Config, Runnable, Runnables, Variable, Variables, Area, Areas, Element, Elements, Operation, Operations, Timer, Timers, Slot, Slots, Copies, Copied, State, Awaited}
 use Rattle.config.specs.Tables.{runnableConfIn, operationConfIn, timerConfIn}
-use Rattle.state.specs.Parts.{noSlot, noRunnable, noElement, noOperation, noTimer}
-use Rattle.state.specs.Tables.{maxSlots, runnableIn, elementIn, operationIn, slotIn, withRunnables, withVariables, withAreas, withElements, withOperations, withTimers, withSlots, withRunnable, withVariable, withArea, withElement, withOperation, withTimer, withSlot}
+use Rattle.config.specs.Lists.{listsAt, elementAt, isListed}
+use Rattle.state.specs.Parts.{noCopies, noSlot, noRunnable, noElement, noOperation, noTimer}
+use Rattle.state.specs.Tables.{maxSlots, runnableIn, elementIn, operationIn, slotIn, withRunnables, withVariables, withAreas, withElements, withOperations, withTimers, withSlots, withIncoming, withOutgoing, withCopies, copyIn, withRunnable, withVariable, withArea, withElement, withOperation, withTimer, withSlot}
 use Rattle.rules.specs.Sound.{shaped}
-use Rattle.effects.specs.Steps.{stored, entering, exiting, entered, exited, seen, looked, fedElement, fedElements, woken, isFed, fedRunnables, fed, invalidated, receiving, opening, asking, callerAfter, called, closing, isReturned, returnedRunnables, closed, finishing, failing, failed, clientOf, finished, answered, emptied, lowestEmpty, spawned, ticked, operationAfter, timerAfter, runnableAfter, operationsAfter, timersAfter, runnablesAfter, waited, dequeued, awaiting, awaited, slotAfter, slotsAfter}
+use Rattle.effects.specs.Steps.{stored, entering, exiting, entered, exited, seen, looked, fedElement, fedElements, woken, isFed, fedRunnables, fed, invalidated, receiving, opening, asking, callerAfter, called, closing, isReturned, returnedRunnables, closed, finishing, failing, failed, clientOf, finished, answered, emptied, lowestEmpty, spawned, ticked, operationAfter, timerAfter, runnableAfter, operationsAfter, timersAfter, runnablesAfter, waited, dequeued, awaiting, awaited, slotAfter, slotsAfter, isGiven, givenElements, isGivenTo, givenRunnables, handsOn, handedElements, handedRunnables, handedOn, cleared, uncopied, copiesOf, seenElements, copiedElements, copiedInto, copiedTo, setting}
 use Rattle.stays_sound.proofs.Told.{Shape, shape-told, shape-made}
 use Rattle.stays_sound.specs.Facts.{Sound}
 
@@ -46,6 +48,14 @@ pub slot-length : (t : Slots) (i : ℕ) (x : Slot) → length (withSlot t i x .a
 unfolding withSlot
 slot-length t i x = length-set (t .at) i x
 
+pub copies-length : (t : Copied) (i : ℕ) (x : Copies) → length (withCopies t i x .at) ≡ length (t .at)
+unfolding withCopies
+copies-length t i x = length-set (t .at) i x
+
+pub cleared-length : (l : Lists) (r : ℕ) (t : Copied) (i : ℕ) → length (cleared l r t i .at) ≡ length (t .at)
+unfolding cleared
+cleared-length l r t i = pick-has (λ (y : Copied). length (y .at) ≡ length (t .at)) (listsAt l r 0) (withCopies t i noCopies) t (λ _. copies-length t i noCopies) (λ _. refl)
+
 module _ (cfg : Config) where
   pub fed-elements-length : (p : ℕ) (v : Value) (t : Elements) → length (fedElements cfg p v t .at) ≡ length (t .at)
   unfolding fedElements
@@ -54,6 +64,35 @@ module _ (cfg : Config) where
   pub fed-runnables-length : (t : Elements) (p : ℕ) (rs : Runnables) → length (fedRunnables cfg t p rs .at) ≡ length (rs .at)
   unfolding fedRunnables
   fed-runnables-length t p rs = each-length (λ (r : ℕ) (x : Runnable). pick (isFed cfg t p r) (woken (runnableConfIn (cfg .runnables) r) x) x) noRunnable (cfg .runnables .n) (rs .at)
+
+  pub given-elements-length : (r : ℕ) (c : Copies) (n : ℕ) (t : Elements) → length (givenElements cfg r c n t .at) ≡ length (t .at)
+  unfolding givenElements
+  given-elements-length r c zero t = refl
+  given-elements-length r c (suc n) t =
+      let rest = givenElements cfg r c n t in
+      pick-has (λ (y : Elements). length (y .at) ≡ length (t .at)) (isGiven (cfg .outgoing) r c n) _ rest (λ _. fed-elements-length (elementAt (cfg .outgoing) r n) (copyIn c n) rest ∙ given-elements-length r c n t) (λ _. given-elements-length r c n t)
+
+  pub given-runnables-length : (t : Elements) (r : ℕ) (c : Copies) (rs : Runnables) → length (givenRunnables cfg t r c rs .at) ≡ length (rs .at)
+  unfolding givenRunnables
+  given-runnables-length t r c rs = each-length (λ (k : ℕ) (x : Runnable). pick (isGivenTo cfg t r c k) (woken (runnableConfIn (cfg .runnables) k) x) x) noRunnable (cfg .runnables .n) (rs .at)
+
+  pub handed-elements-length : (st : State) (i : ℕ) → length (handedElements cfg st i .at) ≡ length (st .elements .at)
+  unfolding handedElements
+  handed-elements-length st i = pick-has (λ (y : Elements). length (y .at) ≡ length (st .elements .at)) (handsOn cfg st i) _ (st .elements) (λ _. given-elements-length _ _ 4 (st .elements)) (λ _. refl)
+
+  pub handed-runnables-length : (st : State) (i : ℕ) → length (handedRunnables cfg st i .at) ≡ length (st .runnables .at)
+  unfolding handedRunnables
+  handed-runnables-length st i = pick-has (λ (y : Runnables). length (y .at) ≡ length (st .runnables .at)) (handsOn cfg st i) _ (st .runnables) (λ _. given-runnables-length (st .elements) _ _ (st .runnables)) (λ _. refl)
+
+  pub copied-elements-length : (r : ℕ) (t : Elements) → length (copiedElements cfg r t .at) ≡ length (t .at)
+  unfolding copiedElements seenElements
+  copied-elements-length r t =
+      pick-has (λ (y : Elements). length (y .at) ≡ length (t .at)) (listsAt (cfg .incoming) r 0) _ t
+      (λ _. each-length (λ (q : ℕ) (x : Element). pick (isListed (cfg .incoming) r q) (seen x) x) noElement (cfg .required .n) (t .at)) (λ _. refl)
+
+  pub copied-into-length : (r : ℕ) (es : Elements) (t : Copied) (k : ℕ) → length (copiedInto cfg r es t k .at) ≡ length (t .at)
+  unfolding copiedInto
+  copied-into-length r es t k = pick-has (λ (y : Copied). length (y .at) ≡ length (t .at)) (listsAt (cfg .incoming) r 0) _ t (λ _. copies-length t k (copiesOf (cfg .incoming) r es)) (λ _. refl)
 
   pub returned-length : (o : ℕ) (rs : Runnables) → length (returnedRunnables cfg o rs .at) ≡ length (rs .at)
   unfolding returnedRunnables
@@ -79,25 +118,31 @@ slots-after-length ss t = each-length (λ (i : ℕ) (x : Slot). slotAfter t x) n
 
 module _ (st : State) (h : Shape st) where
   in-runnables : (t : Runnables) → length (t .at) ≡ length (st .runnables .at) → Shape (withRunnables st t)
-  in-runnables t e = record { runnables = e ∙ h .runnables; variables = h .variables; areas = h .areas; elements = h .elements; operations = h .operations; timers = h .timers; slots = h .slots }
+  in-runnables t e = record { runnables = e ∙ h .runnables; variables = h .variables; areas = h .areas; elements = h .elements; operations = h .operations; timers = h .timers; slots = h .slots; incoming = h .incoming; outgoing = h .outgoing }
 
   in-variables : (t : Variables) → length (t .at) ≡ length (st .variables .at) → Shape (withVariables st t)
-  in-variables t e = record { runnables = h .runnables; variables = e ∙ h .variables; areas = h .areas; elements = h .elements; operations = h .operations; timers = h .timers; slots = h .slots }
+  in-variables t e = record { runnables = h .runnables; variables = e ∙ h .variables; areas = h .areas; elements = h .elements; operations = h .operations; timers = h .timers; slots = h .slots; incoming = h .incoming; outgoing = h .outgoing }
 
   in-areas : (t : Areas) → length (t .at) ≡ length (st .areas .at) → Shape (withAreas st t)
-  in-areas t e = record { runnables = h .runnables; variables = h .variables; areas = e ∙ h .areas; elements = h .elements; operations = h .operations; timers = h .timers; slots = h .slots }
+  in-areas t e = record { runnables = h .runnables; variables = h .variables; areas = e ∙ h .areas; elements = h .elements; operations = h .operations; timers = h .timers; slots = h .slots; incoming = h .incoming; outgoing = h .outgoing }
 
   in-elements : (t : Elements) → length (t .at) ≡ length (st .elements .at) → Shape (withElements st t)
-  in-elements t e = record { runnables = h .runnables; variables = h .variables; areas = h .areas; elements = e ∙ h .elements; operations = h .operations; timers = h .timers; slots = h .slots }
+  in-elements t e = record { runnables = h .runnables; variables = h .variables; areas = h .areas; elements = e ∙ h .elements; operations = h .operations; timers = h .timers; slots = h .slots; incoming = h .incoming; outgoing = h .outgoing }
 
   in-operations : (t : Operations) → length (t .at) ≡ length (st .operations .at) → Shape (withOperations st t)
-  in-operations t e = record { runnables = h .runnables; variables = h .variables; areas = h .areas; elements = h .elements; operations = e ∙ h .operations; timers = h .timers; slots = h .slots }
+  in-operations t e = record { runnables = h .runnables; variables = h .variables; areas = h .areas; elements = h .elements; operations = e ∙ h .operations; timers = h .timers; slots = h .slots; incoming = h .incoming; outgoing = h .outgoing }
 
   in-timers : (t : Timers) → length (t .at) ≡ length (st .timers .at) → Shape (withTimers st t)
-  in-timers t e = record { runnables = h .runnables; variables = h .variables; areas = h .areas; elements = h .elements; operations = h .operations; timers = e ∙ h .timers; slots = h .slots }
+  in-timers t e = record { runnables = h .runnables; variables = h .variables; areas = h .areas; elements = h .elements; operations = h .operations; timers = e ∙ h .timers; slots = h .slots; incoming = h .incoming; outgoing = h .outgoing }
 
   in-slots : (t : Slots) → length (t .at) ≡ length (st .slots .at) → Shape (withSlots st t)
-  in-slots t e = record { runnables = h .runnables; variables = h .variables; areas = h .areas; elements = h .elements; operations = h .operations; timers = h .timers; slots = e ∙ h .slots }
+  in-slots t e = record { runnables = h .runnables; variables = h .variables; areas = h .areas; elements = h .elements; operations = h .operations; timers = h .timers; slots = e ∙ h .slots; incoming = h .incoming; outgoing = h .outgoing }
+
+  in-incoming : (t : Copied) → length (t .at) ≡ length (st .incoming .at) → Shape (withIncoming st t)
+  in-incoming t e = record { runnables = h .runnables; variables = h .variables; areas = h .areas; elements = h .elements; operations = h .operations; timers = h .timers; slots = h .slots; incoming = e ∙ h .incoming; outgoing = h .outgoing }
+
+  in-outgoing : (t : Copied) → length (t .at) ≡ length (st .outgoing .at) → Shape (withOutgoing st t)
+  in-outgoing t e = record { runnables = h .runnables; variables = h .variables; areas = h .areas; elements = h .elements; operations = h .operations; timers = h .timers; slots = h .slots; incoming = h .incoming; outgoing = e ∙ h .outgoing }
 
 -- ---- step by step
 
@@ -188,3 +233,16 @@ module _ (cfg : Config) (st : State) where
       (in-timers _ (in-operations st (now cfg st s) _ (operations-after-length cfg (st .operations) t)) _ (timers-after-length cfg (st .timers) t))
       _ (runnables-after-length cfg (st .runnables) t))
       _ (slots-after-length (st .slots) t))
+
+  -- what an instance has set is written; its copies go; those of a new one come; and one is set
+  pub hand-on-keeps-shape : (i : ℕ) → Sound cfg st → shaped (handedOn cfg st i) ≡ true
+  hand-on-keeps-shape i s = shape-made _ (in-runnables _ (in-elements st (now cfg st s) _ (handed-elements-length cfg st i)) _ (handed-runnables-length cfg st i))
+
+  pub uncopy-keeps-shape : (r i : ℕ) → Sound cfg st → shaped (uncopied cfg st r i) ≡ true
+  uncopy-keeps-shape r i s = shape-made _ (in-outgoing _ (in-incoming st (now cfg st s) _ (cleared-length (cfg .incoming) r (st .incoming) i)) _ (cleared-length (cfg .outgoing) r (st .outgoing) i))
+
+  pub copy-keeps-shape : (r k : ℕ) → Sound cfg st → shaped (copiedTo cfg st r k) ≡ true
+  copy-keeps-shape r k s = shape-made _ (in-incoming _ (in-elements st (now cfg st s) _ (copied-elements-length cfg r (st .elements))) _ (copied-into-length cfg r (st .elements) (st .incoming) k))
+
+  pub write-copy-keeps-shape : (i p : ℕ) (v : Value) → Sound cfg st → shaped (withOutgoing st (withCopies (st .outgoing) i (setting cfg st i p v))) ≡ true
+  write-copy-keeps-shape i p v s = shape-made _ (in-outgoing st (now cfg st s) _ (copies-length (st .outgoing) i (setting cfg st i p v)))

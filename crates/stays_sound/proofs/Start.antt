@@ -14,19 +14,20 @@ use Rattle.laws.proofs.Choosing.{clash, both-make, either-more, pick-has}
 use Rattle.laws.proofs.Looping.{all-of, sum-none, sum-zero}
 use Rattle.laws.proofs.Places.{each-length, each-has, all-each}
 use Rattle.values.specs.Values.{numberV, neverReceivedV, isVoid, isPayload}
-use Rattle.faces.specs.Types.{Config, Runnable, Variable, Element, Slot}
+use Rattle.faces.specs.Types.{Lists, Config, Runnable, Variable, Element, Slot}
 use Rattle.config.specs.Tables.{maxRunnableConfs, maxVariableConfs, maxAreaConfs, maxRequiredConfs, maxOperationConfs, maxTimerConfs, runnableConfIn, variableConfIn, requiredConfIn, timerConfIn, topOf}
 use Rattle.entries.specs.Faults.{configSound}
-use Rattle.state.specs.Parts.{noClient, noRequests, noRunnable, noVariable, noArea, noValues, noElement, noOperation, noTimer, noStack, noSlot, maxRequests}
-use Rattle.state.specs.Tables.{maxSlots, noRunnables, noVariables, noAreas, noElements, noOperations, noTimers, noSlots, runnableIn, variableIn, areaIn, elementIn, operationIn, timerIn, slotIn}
+use Rattle.state.specs.Parts.{noClient, noRequests, noRunnable, noVariable, noArea, noValues, noElement, noOperation, noTimer, noStack, noSlot, noCopies, maxRequests}
+use Rattle.state.specs.Tables.{maxSlots, noRunnables, noVariables, noAreas, noElements, noOperations, noTimers, noSlots, noCopied, copiesIn, runnableIn, variableIn, areaIn, elementIn, operationIn, timerIn, slotIn}
 use Rattle.state.specs.Start.{startRunnable, startVariable, startElement, startRunnables, startVariables, startElements, startOf}
-use Rattle.rules.specs.Sound.{isNoClient, requestsSound, valuesSound, mostPending, runnableSound, variableSound, isStored, elementSound, isOutcome, doneSound, operationSound, timerSound, slotSound, ofRunnable, slotsOf, timesIn, holders, isClient, queuedAs, servedAs, clientsAs, waitsOn, waitersOf, runnablesSound, variablesSound, elementsSound, operationsSound, timersSound, slotsSound, shaped, soundOf}
+use Rattle.rules.specs.Sound.{isNoClient, requestsSound, valuesSound, mostPending, runnableSound, variableSound, isStored, elementSound, isOutcome, doneSound, operationSound, timerSound, slotSound, ofRunnable, slotsOf, timesIn, holders, isClient, queuedAs, servedAs, clientsAs, waitsOn, waitersOf, runnablesSound, variablesSound, elementsSound, operationsSound, timersSound, slotsSound, copiesSound, copiedSound, shaped, soundOf}
 use Rattle.stays_sound.specs.Facts.{Counted, Held, Clients, Waiters, Sound}
 use Rattle.rules.proofs.Configured.{init-there, init-plain}
 use Rattle.effects.proofs.Pending.{top-some}
 use Rattle.stays_sound.proofs.Told.{made, shape-made}
 use Rattle.stays_sound.proofs.Runnables.{sits-made, most-plain}
 use Rattle.stays_sound.proofs.Slots.{blank-slot}
+use Rattle.stays_sound.proofs.Copies.{no-copies-blank, blank-sound}
 
 -- a row of one part all along
 same-all : {A : Type 0} (p : ℕ → A → Bool) (m : ℕ) (x : A) → ((k : ℕ) → p k x ≡ true) → allBelow (λ (k : ℕ). p k (getD (replicate m x) k x)) m ≡ true
@@ -191,10 +192,16 @@ module _ (cfg : Config) (h : configSound cfg ≡ true) where
     bound = λ o l e a. absurd (clash (operationIn noOperations o .calling) e (rw (shut o l)));
   }
 
+  -- ---- no copies
+
+  start-copies : (t : Lists) → copiedSound (cfg .edition) t noSlots noCopied ≡ true
+  unfolding copiedSound copiesIn noCopied
+  start-copies t = same-all (λ k y. copiesSound (cfg .edition) t (slotIn noSlots k) y) maxSlots noCopies (λ k. blank-sound (cfg .edition) t (slotIn noSlots k) noCopies no-copies-blank)
+
   -- ---- the whole
 
   start-shape : shaped (startOf cfg) ≡ true
-  unfolding startOf startRunnables startVariables startElements noRunnables noVariables noAreas noElements noOperations noTimers noSlots
+  unfolding startOf startRunnables startVariables startElements noRunnables noVariables noAreas noElements noOperations noTimers noSlots noCopied
   start-shape =
       shape-made _
       (record {
@@ -205,6 +212,8 @@ module _ (cfg : Config) (h : configSound cfg ≡ true) where
         operations = refl;
         timers = refl;
         slots = refl;
+        incoming = refl;
+        outgoing = refl;
       })
 
   pub start-told : Sound cfg (startOf cfg)
@@ -222,6 +231,7 @@ module _ (cfg : Config) (h : configSound cfg ≡ true) where
     areas = start-areas;
     clients = start-clients;
     waiters = start-waiters;
+    copies = record { incoming = start-copies (cfg .incoming); outgoing = start-copies (cfg .outgoing) };
   }
 
   pub start-sound : soundOf cfg (startOf cfg) ≡ true

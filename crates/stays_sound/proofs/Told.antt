@@ -1,4 +1,4 @@
--- The test of a sound state and the facts that it stands for, both ways; and the lengths of the seven tables.
+-- The test of a sound state and the facts that it stands for, both ways; and the lengths of the nine tables.
 -- Assumes nothing.
 use Prim.Native.Nat.{ℕ, _≤_, _<_}
 use mathlib.Core.Bool.{Bool, true, false, not}
@@ -30,6 +30,8 @@ pub record Shape (st : State) : Type 0 where
   pub operations : length (st .operations .at) ≡ 8
   pub timers : length (st .timers .at) ≡ 8
   pub slots : length (st .slots .at) ≡ 32
+  pub incoming : length (st .incoming .at) ≡ 32
+  pub outgoing : length (st .outgoing .at) ≡ 32
 
 pub shape-told : (st : State) → shaped st ≡ true → Shape st
 unfolding shaped
@@ -43,13 +45,15 @@ shape-told st h =
       operations = eqb-true _ _ (t .1 .1 .1 .1 .0);
       timers = eqb-true _ _ (t .1 .1 .1 .1 .1 .0);
       slots = eqb-true _ _ (t .1 .1 .1 .1 .1 .1 .0);
+      incoming = eqb-true _ _ (t .1 .1 .1 .1 .1 .1 .1 .0);
+      outgoing = eqb-true _ _ (t .1 .1 .1 .1 .1 .1 .1 .1 .0);
     }
 
 pub shape-made : (st : State) → Shape st → shaped st ≡ true
 unfolding shaped
 shape-made st h =
     all-made _
-    (eq-eqb _ _ (h .runnables), (eq-eqb _ _ (h .variables), (eq-eqb _ _ (h .areas), (eq-eqb _ _ (h .elements), (eq-eqb _ _ (h .operations), (eq-eqb _ _ (h .timers), (eq-eqb _ _ (h .slots), tt)))))))
+    (eq-eqb _ _ (h .runnables), (eq-eqb _ _ (h .variables), (eq-eqb _ _ (h .areas), (eq-eqb _ _ (h .elements), (eq-eqb _ _ (h .operations), (eq-eqb _ _ (h .timers), (eq-eqb _ _ (h .slots), (eq-eqb _ _ (h .incoming), (eq-eqb _ _ (h .outgoing), tt)))))))))
 
 module _ (cfg : Config) (st : State) (s : Sound cfg st) where
   pub runnables-length : length (st .runnables .at) ≡ 16
@@ -251,6 +255,7 @@ told cfg st h =
       areas = areas-told cfg (st .areas) (st .slots) (t .1 .1 .1 .1 .1 .1 .1 .1 .1 .0);
       clients = clients-told (st .operations) (st .runnables) (st .slots) (t .1 .1 .1 .1 .1 .1 .1 .1 .1 .1 .0);
       waiters = waiters-told cfg (st .operations) (st .slots) (t .1 .1 .1 .1 .1 .1 .1 .1 .1 .1 .1 .0);
+      copies = record { incoming = t .1 .1 .1 .1 .1 .1 .1 .1 .1 .1 .1 .1 .0; outgoing = t .1 .1 .1 .1 .1 .1 .1 .1 .1 .1 .1 .1 .1 .0 };
     }
 
 pub made : (cfg : Config) (st : State) → Sound cfg st → soundOf cfg st ≡ true
@@ -260,4 +265,4 @@ made cfg st h =
     let a = areas-made cfg (st .areas) (st .slots) (h .areas) in
     let k = clients-made (st .operations) (st .runnables) (st .slots) (h .clients) in
     let w = waiters-made cfg (st .operations) (st .slots) (h .waiters) in
-    all-made _ (h .config, (h .shape, (h .runnables, (h .variables, (h .elements, (h .operations, (h .timers, (h .slots, (c, (a, (k, (w, tt))))))))))))
+    all-made _ (h .config, (h .shape, (h .runnables, (h .variables, (h .elements, (h .operations, (h .timers, (h .slots, (c, (a, (k, (w, (h .copies .incoming, (h .copies .outgoing, tt))))))))))))))

@@ -7,22 +7,23 @@ use mathlib.Core.Path.{_≡_, refl}
 use native.Mathlib.Decide.{ℕ-discrete}
 use lib.Dec.{ltb}
 use Rattle.numbers.specs.Refusals.{malformed, areaTaken, notOnTop, queueFull, numberBorne, stillWaits, notDue, noSlotFree, tooFar, notOver, areasHeld, wrongClient}
-use Rattle.numbers.specs.Codes.{readVariableCode, writeVariableCode, enterCode, exitCode, readCode, writeCode, updatedCode, invalidateCode, receiveCode, sendCode, callCode, resultCode, handBackCode, endCode, spawnCode, timeoutCode, tickCode, waitCode, failCode, holdCode, giveUpCode}
+use Rattle.numbers.specs.Codes.{readVariableCode, writeVariableCode, enterCode, exitCode, readCode, writeCode, updatedCode, invalidateCode, receiveCode, sendCode, callCode, resultCode, handBackCode, endCode, spawnCode, timeoutCode, tickCode, waitCode, failCode, holdCode, giveUpCode, readCopyCode, writeCopyCode}
 use Rattle.laws.specs.Choice.{bit}
 use Rattle.laws.proofs.Choosing.{pick-has}
 use Rattle.values.specs.Values.{voidV, numberV, okV, limitV, noDataV, timeoutV}
 use Rattle.faces.specs.Types.{Value, Step, Config, State, Stepped}
 use Rattle.config.specs.Tables.{runnableConfIn, operationConfIn}
+use Rattle.config.specs.Lists.{placeOf}
 use Rattle.state.specs.Queues.{firstValue}
-use Rattle.state.specs.Tables.{maxSlots, runnableIn, variableIn, elementIn, operationIn, slotIn}
+use Rattle.state.specs.Tables.{maxSlots, runnableIn, variableIn, elementIn, operationIn, slotIn, copyIn, copiesIn, withCopies, withOutgoing}
 use Rattle.rules.specs.Rows.{rows, rowOf}
 use Rattle.rules.specs.Refusals.{refusalOf}
-use Rattle.effects.specs.Steps.{refused, took, stored, isTaken, entered, onTop, exited, looked, fed, invalidated, fullMask, sentOf, waits, isBare, received, isOpen, isBorne, isBusy, requestsFull, called, goneOn, closed, answers, serves, clientOf, finished, answered, handsNumber, handedBack, failed, isOver, holds, emptied, maySpawn, lowestEmpty, spawned, isUp, ticked, allLet, waited, readVariableOf, writeVariableOf, enterOf, exitOf, readOf, writeOf, updatedOf, invalidateOf, receiveOf, sendOf, callOf, pollOf, collectOf, resultOf, handBackOf, endOf, spawnOf, timeoutOf, tickOf, waitOf, failOf, held, holdOf, isSpent, giveUpOf}
+use Rattle.effects.specs.Steps.{refused, took, stored, isTaken, entered, onTop, exited, looked, fed, invalidated, fullMask, sentOf, waits, isBare, received, isOpen, isBorne, isBusy, requestsFull, called, goneOn, closed, answers, serves, clientOf, finished, answered, handsNumber, handedBack, failed, isOver, holds, ended, maySpawn, lowestEmpty, begunIn, isUp, ticked, allLet, waited, readVariableOf, writeVariableOf, enterOf, exitOf, readOf, writeOf, updatedOf, invalidateOf, receiveOf, sendOf, callOf, pollOf, collectOf, resultOf, handBackOf, endOf, spawnOf, timeoutOf, tickOf, waitOf, failOf, held, holdOf, isSpent, giveUpOf, runnableOf, readCopyOf, setting, writeCopyOf}
 use Rattle.effects.specs.Step.{possibleOf}
 use Rattle.effects.proofs.Codes.{Code, coded, actBy, possible-by, possible-barred}
 use Rattle.effects.proofs.Codes as code
-use Rattle.stays_sound.specs.Facts.{CanWriteVariable, CanEnter, CanExit, CanRead, CanFeed, CanInvalidate, CanReceive, CanCall, CanCollect, CanHandBack, CanEnd, CanSpawn, CanTimeout, CanTick, CanWait, CanFail, CanHold, CanGiveUp}
-use Rattle.stays_sound.proofs.Says.{let-told, run-told, says-write-variable, says-enter, says-exit, says-read, says-write, says-invalidate, says-receive, says-send, says-call, says-collect, says-hand-back, says-end, says-spawn, says-timeout, says-tick, says-wait, says-fail, says-hold, says-give-up}
+use Rattle.stays_sound.specs.Facts.{CanWriteVariable, CanEnter, CanExit, CanRead, CanFeed, CanInvalidate, CanReceive, CanCall, CanCollect, CanHandBack, CanEnd, CanSpawn, CanTimeout, CanTick, CanWait, CanFail, CanHold, CanGiveUp, CanReadCopy, CanWriteCopy}
+use Rattle.stays_sound.proofs.Says.{let-told, run-told, says-write-variable, says-enter, says-exit, says-read, says-write, says-invalidate, says-receive, says-send, says-call, says-collect, says-hand-back, says-end, says-spawn, says-timeout, says-tick, says-wait, says-fail, says-hold, says-give-up, says-read-copy, says-write-copy}
 
 -- ---- the ways in which a step is taken: by its code, with its answer and the state after it
 
@@ -45,14 +46,16 @@ pub data Way (cfg : Config) (st : State) (s : Step) : ℕ → Value → State �
   collect : CanCollect cfg st (s .who) (s .what) → Way cfg st s resultCode (operationIn (st .operations) (s .what) .done) (goneOn st (s .who))
   answer : CanHandBack cfg st (s .who) (s .argument) → answers (st .operations) (clientOf st (s .who)) ≡ true → Way cfg st s handBackCode (numberV 1) (answered cfg st (s .who) (handedBack st (s .who) (s .argument)))
   late : CanHandBack cfg st (s .who) (s .argument) → answers (st .operations) (clientOf st (s .who)) ≡ false → Way cfg st s handBackCode (numberV 0) (finished st st (s .who))
-  end : CanEnd st (s .who) → Way cfg st s endCode voidV (emptied st (s .who))
-  spawn : CanSpawn cfg st (s .what) → Way cfg st s spawnCode (numberV (lowestEmpty (st .slots))) (spawned cfg st (s .what) (lowestEmpty (st .slots)))
+  end : CanEnd st (s .who) → Way cfg st s endCode voidV (ended cfg st (s .who))
+  spawn : CanSpawn cfg st (s .what) → Way cfg st s spawnCode (numberV (lowestEmpty (st .slots))) (begunIn cfg st (s .what) (lowestEmpty (st .slots)))
   timeout : CanTimeout cfg st (s .what) → Way cfg st s timeoutCode voidV (closed cfg st (s .what) timeoutV)
   tick : CanTick cfg st (s .what) → Way cfg st s tickCode voidV (ticked cfg st (s .what))
   wait : CanWait cfg st (s .argument .number) → Way cfg st s waitCode voidV (waited cfg st (s .argument .number))
   fail : CanFail st (s .who) → Way cfg st s failCode voidV (failed st (s .who))
   hold : CanHold cfg st (s .who) (s .what) (s .argument .number) → Way cfg st s holdCode voidV (held st (s .who) (s .what) (s .argument .number))
   giveUp : CanGiveUp st (s .who) → Way cfg st s giveUpCode timeoutV (goneOn st (s .who))
+  readCopy : CanReadCopy cfg st (s .who) (s .what) → Way cfg st s readCopyCode (copyIn (copiesIn (st .incoming) (s .who)) (placeOf (cfg .incoming) (runnableOf st (s .who)) (s .what))) st
+  writeCopy : CanWriteCopy cfg st (s .who) (s .what) (s .argument) → Way cfg st s writeCopyCode voidV (withOutgoing st (withCopies (st .outgoing) (s .who) (setting cfg st (s .who) (s .what) (s .argument))))
 
 -- ---- those in which it is refused: by its code, with its number
 
@@ -87,7 +90,7 @@ module _ (cfg : Config) (st : State) (s : Step) where
   W n r = Went cfg st s n r
 
   went-by : {n : ℕ} (c : Code n) → s .code ≡ n → refusalOf cfg (st .slots) s ≡ 0 → W n (actBy c cfg st (s .who) (s .what) (s .argument))
-  unfolding rowOf rows readVariableOf writeVariableOf enterOf exitOf readOf writeOf updatedOf invalidateOf receiveOf sendOf callOf resultOf pollOf collectOf handBackOf endOf spawnOf timeoutOf tickOf waitOf failOf holdOf giveUpOf
+  unfolding rowOf rows readVariableOf writeVariableOf enterOf exitOf readOf writeOf updatedOf invalidateOf receiveOf sendOf callOf resultOf pollOf collectOf handBackOf endOf spawnOf timeoutOf tickOf waitOf failOf holdOf giveUpOf readCopyOf writeCopyOf
   went-by code.readVariable c h = goes readVariable
   went-by code.writeVariable c h = goes (writeVariable (says-write-variable cfg st _ _ _ (let-told cfg st s c h refl)))
   went-by code.enter c h =
@@ -131,6 +134,8 @@ module _ (cfg : Config) (st : State) (s : Step) where
   went-by code.fail c h = goes (fail (says-fail cfg st _ _ _ (let-told cfg st s c h refl)))
   went-by code.hold c h = goes (hold (says-hold cfg st _ _ _ (let-told cfg st s c h refl)))
   went-by code.giveUp c h = pick-has (W giveUpCode) (isSpent st (s .who)) _ _ (λ e. goes (giveUp (says-give-up cfg st _ _ _ (let-told cfg st s c h refl) e))) (λ e. bars (giveUpEarly e))
+  went-by code.readCopy c h = goes (readCopy (says-read-copy cfg st _ _ _ (let-told cfg st s c h refl)))
+  went-by code.writeCopy c h = goes (writeCopy (says-write-copy cfg st _ _ _ (let-told cfg st s c h refl)))
 
   pub went : W (s .code) (possibleOf cfg st s)
   went = go (ℕ-discrete (refusalOf cfg (st .slots) s) 0)

@@ -6,15 +6,16 @@ use mathlib.Core.Path.{_≡_}
 use lib.Dec.{eqb}
 use Rattle.laws.specs.Choice.{either, bit}
 use Rattle.values.specs.Values.{isPayload}
-use Rattle.faces.specs.Types.{Value, Config, Runnables, Areas, Operations, Slots, State}
+use Rattle.faces.specs.Types.{Value, Lists, Config, Runnables, Areas, Operations, Slots, Copied, State}
 use Rattle.config.specs.Editions.{marksInvalid}
 use Rattle.config.specs.Tables.{maxRunnableConfs, maxAreaConfs, maxOperationConfs, runnableConfIn, areaConfIn, providedConfIn, operationConfIn, requiredConfIn}
+use Rattle.config.specs.Lists.{isListed}
 use Rattle.entries.specs.Faults.{isQueued, configSound, maxTime}
 use Rattle.state.specs.Tables.{maxSlots, runnableIn, areaIn, elementIn, operationIn, timerIn, slotIn}
 use Rattle.state.specs.Queues.{topArea}
 use Rattle.rules.specs.Rows.{noPart}
-use Rattle.rules.specs.Sound.{componentOf, isWaiting, isCaller, slotsOf, holders, clientsAs, waitersOf, shaped, runnablesSound, variablesSound, elementsSound, operationsSound, timersSound, slotsSound}
-use Rattle.effects.specs.Steps.{isTaken, isOpen, serves, hasFailed, handsNumber, isDue, lowestEmpty, operationsLet, timersLet, slotsLet, isSpent}
+use Rattle.rules.specs.Sound.{componentOf, isWaiting, isCaller, slotsOf, holders, clientsAs, waitersOf, shaped, runnablesSound, variablesSound, elementsSound, operationsSound, timersSound, slotsSound, copiedSound}
+use Rattle.effects.specs.Steps.{isTaken, isOpen, serves, hasFailed, handsNumber, isDue, lowestEmpty, operationsLet, timersLet, slotsLet, isSpent, runnableOf}
 
 -- ---- the clauses over two tables and more, at every place
 
@@ -41,6 +42,11 @@ pub record Waiters (cfg : Config) (os : Operations) (ss : Slots) : Type 0 where
   pub most : (o : ℕ) → o < maxOperationConfs → waitersOf ss o ≤ 1
   pub bound : (o : ℕ) → o < maxOperationConfs → operationIn os o .calling ≡ true → operationConfIn (cfg .operations) o .asynchronous ≡ false → 0 < waitersOf ss o
 
+-- the copies of every slot are sound, those that came at spawn and those to be written at end
+pub record Copying (e : ℕ) (a b : Lists) (ss : Slots) (i o : Copied) : Type 0 where
+  pub incoming : copiedSound e a ss i ≡ true
+  pub outgoing : copiedSound e b ss o ≡ true
+
 -- ---- the same of a state
 
 abbrev pub CountedIn : State → Type 0
@@ -54,6 +60,9 @@ ClientsIn st = Clients (st .operations) (st .runnables) (st .slots)
 
 abbrev pub WaitersIn : Config → State → Type 0
 WaitersIn cfg st = Waiters cfg (st .operations) (st .slots)
+
+abbrev pub CopiesIn : Config → State → Type 0
+CopiesIn cfg st = Copying (cfg .edition) (cfg .incoming) (cfg .outgoing) (st .slots) (st .incoming) (st .outgoing)
 
 -- ---- a sound state
 
@@ -71,6 +80,7 @@ pub record Sound (cfg : Config) (st : State) : Type 0 where
   pub areas : HeldIn cfg st
   pub clients : ClientsIn st
   pub waiters : WaitersIn cfg st
+  pub copies : CopiesIn cfg st
 
 -- ---- what a step may rely on
 
@@ -212,3 +222,16 @@ pub record CanGiveUp (st : State) (i : ℕ) : Type 0 where
   pub waiting : isWaiting (slotIn (st .slots) i .life) ≡ true
   pub free : isCaller (slotIn (st .slots) i .life) ≡ false
   pub spent : isSpent st i ≡ true
+
+-- an instance that acts, on a required element that its runnable lists
+pub record CanReadCopy (cfg : Config) (st : State) (i q : ℕ) : Type 0 where
+  pub who : Acts st i
+  pub fine : hasFailed st i ≡ false
+  pub listed : isListed (cfg .incoming) (runnableOf st i) q ≡ true
+
+-- an instance that acts, and has not failed, with a payload for a provided element that its runnable lists
+pub record CanWriteCopy (cfg : Config) (st : State) (i p : ℕ) (v : Value) : Type 0 where
+  pub who : Acts st i
+  pub fine : hasFailed st i ≡ false
+  pub listed : isListed (cfg .outgoing) (runnableOf st i) p ≡ true
+  pub payload : isPayload v ≡ true

@@ -8,7 +8,7 @@
 ghost use Prim.Native.Nat.{_≤_, _<_};
 ghost use lib.ListN.{length};
 
-pub(crate) const FORMS: [u8; 2282] = *b"vaVoid
+pub(crate) const FORMS: [u8; 2449] = *b"vaVoid
 vbNumber
 vcOk
 vdLimit
@@ -44,6 +44,8 @@ e-edition %b0
 7-timer #7 runnable %00 period %n1@7
 8-data event #8 runnable %00 required %31
 9-return event #9 runnable %00 operation %61
+a-incoming #a runnable %00 required %31
+b-outgoing #b runnable %00 provided %41
 z-end
 sbslot %b1 read variable %12 -> %v8
 scslot %b1 write variable %12 %v3 -> %v8
@@ -66,6 +68,8 @@ ssscheduler wait %w3 -> %v8
 stslot %b1 fail -> %v8
 suslot %b1 hold required %32 for %w3 -> %v8
 svslot %b1 give up -> %v8
+swslot %b1 read copy required %32 -> %v8
+sxslot %b1 write copy provided %42 %v3 -> %v8
 s-step %b0 who %b1 what %b2 %v3 -> %v8
 n-runnable !0
 n-variable !1
@@ -176,13 +180,19 @@ pub(crate) fn offset_of(c: u8) -> usize
     (c - b'0') as usize + 3
 }
 
-// The kind of part that a digit stands for; 10 is none.
+// The kind of part that a digit in hexadecimal stands for; 12 is none.
 pub(crate) fn kind_of(c: u8) -> u8 {
-    if c < b'0' {
+    if c == b'a' {
         return 10;
     }
+    if c == b'b' {
+        return 11;
+    }
+    if c < b'0' {
+        return 12;
+    }
     if b'9' < c {
-        return 10;
+        return 12;
     }
     c - b'0'
 }
@@ -196,7 +206,7 @@ pub(crate) fn tag_of(c: u8) -> u8 {
         b'n' => 0,
         _ => {
             let kind = kind_of(c);
-            if kind < 10 {
+            if kind < 12 {
                 return 0x10 + kind;
             }
             0
@@ -218,6 +228,8 @@ pub(crate) fn size_of(tag: u8) -> u8 {
         0x17 => 5,
         0x18 => 2,
         0x19 => 2,
+        0x1a => 2,
+        0x1b => 2,
         0x40 => 13,
         0x7f => 0,
         _ => 255,

@@ -1,4 +1,4 @@
-// What is known of the parts of a text: how many of each kind there were, and their names. All of it is a run of bytes: ten counts, six unused bytes, then
+// What is known of the parts of a text: how many of each kind there were, and their names. All of it is a run of bytes: twelve counts, four unused bytes, then
 // 16 places of 33 bytes for each of eight kinds, a name's length and the name.
 ghost use Prim.Native.Nat.{_≤_};
 use crate::forms::byte_at;
@@ -36,7 +36,7 @@ pub(crate) fn count_tag(known: &mut [u8], tag: u8) {
     if tag < 0x10 {
         return;
     }
-    if tag < 0x1a {
+    if tag < 0x1c {
         count_part(known, tag - 0x10);
     }
 }
@@ -44,7 +44,7 @@ pub(crate) fn count_tag(known: &mut [u8], tag: u8) {
 // The counts start again at 0, and the names stay.
 pub(crate) fn forget_counts(known: &mut [u8]) {
     let mut i: usize = 0;
-    while i < 10 {
+    while i < 12 {
         put_byte(known, i, 0);
         i = i + 1;
     }

@@ -213,6 +213,21 @@ fn show_field(forms: &[u8], field: &[u8], known: &mut [u8], out: &mut [u8], at: 
     put_byte(out, next, b'\n')
 }
 
+// Why a field whose frame holds is refused, by its tag and that of the first field.
+fn put_unfit(out: &mut [u8], at: usize, tag: u8, first: u8) -> usize {
+    if first == 0x40 {
+        if tag == 0x40 {
+            return put_bytes(out, at, b"a value is bad");
+        }
+        return put_bytes(out, at, b"this field is none of this file");
+    }
+    match tag {
+        0x1a => put_bytes(out, at, b"only edition 2 has this field"),
+        0x1b => put_bytes(out, at, b"only edition 2 has this field"),
+        _ => put_bytes(out, at, b"this field is none of this file"),
+    }
+}
+
 // Why a frame is refused.
 fn put_reason(out: &mut [u8], at: usize, bytes: &[u8], i: usize, ended: bool) -> usize {
     if bytes.len() <= i {
@@ -237,19 +252,23 @@ fn put_reason(out: &mut [u8], at: usize, bytes: &[u8], i: usize, ended: bool) ->
     if bytes.len() - i < size as usize + 3 {
         return put_bytes(out, at, b"the field is cut");
     }
-    if byte_at(bytes, i) == 0x40 {
-        if byte_at(bytes, 0) == 0x40 {
-            return put_bytes(out, at, b"a value is bad");
-        }
+    put_unfit(out, at, byte_at(bytes, i), byte_at(bytes, 0))
+}
+
+// Why a field is one too many.
+fn put_many(out: &mut [u8], at: usize, tag: u8) -> usize {
+    match tag {
+        0x1a => put_bytes(out, at, b"a runnable lists four such elements at most"),
+        0x1b => put_bytes(out, at, b"a runnable lists four such elements at most"),
+        _ => put_bytes(out, at, b"there are too many parts of this kind"),
     }
-    put_bytes(out, at, b"this field is none of this file")
 }
 
 // Why a field is refused.
 fn put_cause(out: &mut [u8], at: usize, bytes: &[u8], i: usize, ended: bool, number: u8) -> usize {
     match number {
         22 => put_bytes(out, at, b"the fields are out of order"),
-        23 => put_bytes(out, at, b"there are too many parts of this kind"),
+        23 => put_many(out, at, byte_at(bytes, i)),
         24 => put_bytes(out, at, b"a number is out of range"),
         25 => put_bytes(out, at, b"a part is named that is not there"),
         26 => put_bytes(out, at, b"these parts do not go together"),

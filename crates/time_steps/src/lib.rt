@@ -136,6 +136,9 @@ pub fn spawn(cfg: Config, st: State, r: u8) -> Stepped
         let mut next = st;
         next.runnables = runnables.with(r, starting(c, x));
         next.slots = slots;
+        if copies::lists_some(cfg.incoming, r) {
+            return shared_steps::take(Value::of(k as u32), copies::copied_to(cfg, next, r, k));
+        }
         return shared_steps::take(Value::of(k as u32), next);
     }
     shared_steps::refuse(numbers::NOT_DUE, st)

@@ -19,7 +19,7 @@ use Rattle.rules.specs.Sound.{componentOf, isCaller, isClient}
 use Rattle.rules.specs.Rows.{aSlot, scheduler, noPart, rowOf}
 use Rattle.rules.specs.Refusals.{formed, waitingLets}
 use Rattle.whys.specs.declared.Cause.{Cause}
-use Rattle.whys.specs.declared.Cause.the-variants.{NoCause, NoCode, HasWho, HasWhat, BadArgument, HandsNumber, StepGone, NoSlot, EmptySlot, NoPart, Foreign, IsQueued, NotQueued, WaitsOn, IsFinished, HasFailed, FailedBack, NotWaiting, HeldBy, NoneHeld, OnTop, QueueFull, StillServed, StillQueued, CallOpen, InInterval, Runs, NotPending, NoRequest, NoRoom, Stops, NotOpen, CallRuns, TimerRuns, StillHeld, NoClient, HasClient, Differs, HeldOn, QueueEmpty, HoldStops, HoldRuns}
+use Rattle.whys.specs.declared.Cause.the-variants.{NoCause, NoCode, HasWho, HasWhat, BadArgument, HandsNumber, StepGone, NoSlot, EmptySlot, NoPart, NotListed, Foreign, IsQueued, NotQueued, WaitsOn, IsFinished, HasFailed, FailedBack, NotWaiting, HeldBy, NoneHeld, OnTop, QueueFull, StillServed, StillQueued, CallOpen, InInterval, Runs, NotPending, NoRequest, NoRoom, Stops, NotOpen, CallRuns, TimerRuns, StillHeld, NoClient, HasClient, Differs, HeldOn, QueueEmpty, HoldStops, HoldRuns}
 use Rattle.passing.specs.Passing.{passesOf, operationStop, timerStop, slotStop}
 
 -- the number of refusal that a cause stands for; 0 for none ("Numbers of refusal")
@@ -34,6 +34,7 @@ causeRefusal (StepGone e) = stepGone
 causeRefusal NoSlot = notThere
 causeRefusal EmptySlot = notThere
 causeRefusal (NoPart n) = notThere
+causeRefusal (NotListed r tag k) = notThere
 causeRefusal (Foreign a b) = notOwn
 causeRefusal IsQueued = notOwn
 causeRefusal NotQueued = notOwn
@@ -89,12 +90,16 @@ codeCause r s =
 
 -- ---- 3
 
--- of a slot's step: no such slot, or nothing in it; else there are only so many parts ("Numbers of refusal", 3)
+-- by an instance of the runnable w: the part n is there, and so w does not list it; else there are only so many parts ("Numbers of refusal", 3; W-211)
+unfoldable pub partCause : Config → ℕ → Row → ℕ → Cause
+partCause cfg w r n = pick (ltb n (countOf cfg (r .part))) (NotListed w (r .part) n) (NoPart (countOf cfg (r .part)))
+
+-- of a slot's step: no such slot, or nothing in it, or its part; else there are only so many parts ("Numbers of refusal", 3)
 unfoldable pub thereCause : Config → Slots → Row → Step → Cause
 thereCause cfg ss r s =
     pick (eqb (r .who) aSlot)
     (pick (leb maxSlots (s .who)) NoSlot
-    (pick (slotIn ss (s .who) .used) (NoPart (countOf cfg (r .part)))
+    (pick (slotIn ss (s .who) .used) (partCause cfg (slotIn ss (s .who) .life .runnable) r (s .what))
     EmptySlot))
     (NoPart (countOf cfg (r .part)))
 

@@ -3,7 +3,7 @@ ghost use mathlib.Core.Path.{_≡_};
 ghost use lib.ListN.{getD};
 ghost use Rattle.config.specs.Tables.{runnableConfIn};
 ghost use Rattle.state.specs.Tables.{runnableIn, slotIn};
-ghost use Rattle.whys.specs.Whys.{formCause, slotCause, codeCause, thereCause, ownCause, lifeCause, holdsOf, holderOf, topCause, fullCause, servesAs, bearerOf, borneCause, openCause, dueCause, spawnCause, stopCause, earlyCause, stillCause, owedCause, whyOf};
+ghost use Rattle.whys.specs.Whys.{formCause, slotCause, codeCause, partCause, thereCause, ownCause, lifeCause, holdsOf, holderOf, topCause, fullCause, servesAs, bearerOf, borneCause, openCause, dueCause, spawnCause, stopCause, earlyCause, stillCause, owedCause, whyOf};
 use config::AreaConfs;
 use config::Config;
 use config::RunnableConf;
@@ -21,7 +21,7 @@ use values::Value;
 pub enum Cause {
     // it is not refused
     NoCause,
-    // (2) the code is none of 1 to 21; the scheduler has no slot; no part is named here; the argument is not of this kind: 0 none, 1 a payload, 2 a Number, 3 a time; an instance that has failed hands back a Number
+    // (2) the code is none of 1 to 23; the scheduler has no slot; no part is named here; the argument is not of this kind: 0 none, 1 a payload, 2 a Number, 3 a time; an instance that has failed hands back a Number
     NoCode,
     HasWho,
     HasWhat,
@@ -29,10 +29,11 @@ pub enum Cause {
     HandsNumber,
     // (30) the configuration is of this edition, which has no such step
     StepGone(u8),
-    // (3) there is no such slot; nothing is in it; there are only so many parts of the kind
+    // (3) there is no such slot; nothing is in it; there are only so many parts of the kind; this runnable does not list the element, by its tag and number
     NoSlot,
     EmptySlot,
     NoPart(u8),
+    NotListed(u8, u8, u8),
     // (4) the part is of the first component, the instance of the second; the element is queued; it is not
     Foreign(u8, u8),
     IsQueued,
@@ -128,7 +129,18 @@ fn code_cause(row: Row, s: Step) -> Cause
     Cause::NoCode
 }
 
-// 3: the slot or the part is not there.
+// 3 by an instance of the runnable r: the part is there, and so not in the runnable's list; else it is not there.
+fn part_cause(cfg: Config, r: u8, row: Row, n: u8) -> Cause
+    ensures { λ c. ⌜ c ≡ partCause cfg r row n ⌝ }
+{
+    let most = entries::count_of(cfg, row.part);
+    if n < most {
+        return Cause::NotListed(r, row.part, n);
+    }
+    Cause::NoPart(most)
+}
+
+// 3: the slot or the part is not there, or the part is not listed.
 fn there_cause(cfg: Config, slots: Slots, row: Row, s: Step) -> Cause
     ensures { λ r. ⌜ r ≡ thereCause cfg slots row s ⌝ }
 {
@@ -138,7 +150,8 @@ fn there_cause(cfg: Config, slots: Slots, row: Row, s: Step) -> Cause
         }
         let x = slots.get(s.who);
         if x.used {
-            return Cause::NoPart(entries::count_of(cfg, row.part));
+            let l = x.life;
+            return part_cause(cfg, l.runnable, row, s.what);
         }
         return Cause::EmptySlot;
     }

@@ -36,7 +36,7 @@ operationBytes e = operationTag ∷ 0 ∷ operationLength ∷ e .first ∷ e .se
 abbrev pub timerBytes : Entry → List ℕ
 timerBytes e = timerTag ∷ 0 ∷ timerLength ∷ e .first ∷ bytes32 (e .number)
 
--- two bytes: elements, links and events ("The files", tags 13, 14, 15, 18, 19)
+-- two bytes: elements, links, events and listed elements ("The files", tags 13, 14, 15, 18, 19; W-211)
 abbrev pub pairBytes : ℕ → Entry → List ℕ
 pairBytes tag e = tag ∷ 0 ∷ pairLength ∷ e .first ∷ e .second ∷ []
 
@@ -76,11 +76,11 @@ kindSize cfg tag = countOf cfg tag * fieldSize tag
 abbrev pub editionBytes : ℕ → List ℕ
 editionBytes e = editionTag ∷ 0 ∷ editionLength ∷ e ∷ []
 
--- the fields of the kind at place j among the ten, whose tags are 10 to 19 ("The files", the table)
+-- the fields of the kind at place j among all, whose tags go up from 10 ("The files", the table)
 unfoldable pub blockOf : Config → ℕ → List ℕ
 blockOf cfg j = kindBytes cfg (runnableTag + j)
 
--- the fields of all ten, no tag below the one before ("Numbers of refusal", 22)
+-- the fields of all of them, no tag below the one before ("Numbers of refusal", 22)
 unfoldable pub partsBytes : Config → List ℕ
 partsBytes cfg = build (blockOf cfg) partKinds
 

@@ -167,7 +167,7 @@ fn parts_size(cfg: Config) -> u32
 {
     let mut j: u8 = 0;
     let mut size: u32 = 0;
-    while j < 10 {
+    while j < numbers::PART_KINDS {
         size = size + kind_size(cfg, numbers::TAG_RUNNABLE + j) as u32;
         j = j + 1;
     }
@@ -182,7 +182,7 @@ fn write_parts(buf: &mut [u8], at: usize, cfg: Config) -> Wrote
     if has_room(room, at, parts_size(cfg) as usize) {
         let mut j: u8 = 0;
         let mut next = at;
-        while j < 10 {
+        while j < numbers::PART_KINDS {
             write_kind(buf, next, cfg, numbers::TAG_RUNNABLE + j);
             next = next + kind_size(cfg, numbers::TAG_RUNNABLE + j) as usize;
             j = j + 1;

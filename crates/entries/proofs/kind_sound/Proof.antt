@@ -58,6 +58,8 @@ full c =
       timers = rw length-map at (g .1 .1 .1 .1 .1 .1 .1 .0 .1 .1 .1 .0 .1 .0 .1);
       devents = rw length-map at (g .1 .1 .1 .1 .1 .1 .1 .1 .0 .1 .1 .1 .0 .1 .0 .1);
       revents = rw length-map at (g .1 .1 .1 .1 .1 .1 .1 .1 .1 .0 .1 .1 .1 .0 .1 .0 .1);
+      incoming = rw length-map at (g .1 .1 .1 .1 .1 .1 .1 .1 .1 .1 .0 .1 .1 .1 .0 .1 .0 .1);
+      outgoing = rw length-map at (g .1 .1 .1 .1 .1 .1 .1 .1 .1 .1 .1 .0 .1 .1 .1 .0 .1 .0 .1);
     }
 
 returns-3 : tie.Need-returns-3 Inv-loop μ-loop

@@ -27,8 +27,16 @@ returns-5 c = rw (c .pair-there3 .ensures, c .before .match .keys5)
 
 returns-6 : tie.Need-returns-6
 unfolding namesThere
-returns-6 c = let r = c .match .rest in rw (ne-eqb _ _ (r .0 .0 .0 .0 .1), ne-eqb _ _ (r .0 .0 .0 .1), ne-eqb _ _ (r .0 .0 .1), ne-eqb _ _ (r .0 .1), ne-eqb _ _ (r .1))
+returns-6 c = rw (c .pair-there4 .ensures, c .before .match .keys6)
+
+returns-7 : tie.Need-returns-7
+unfolding namesThere
+returns-7 c = rw (c .pair-there5 .ensures, c .before .match .keys7)
+
+returns-8 : tie.Need-returns-8
+unfolding namesThere
+returns-8 c = let r = c .match .rest in rw (ne-eqb _ _ (r .0 .0 .0 .0 .0 .0 .1), ne-eqb _ _ (r .0 .0 .0 .0 .0 .1), ne-eqb _ _ (r .0 .0 .0 .0 .1), ne-eqb _ _ (r .0 .0 .0 .1), ne-eqb _ _ (r .0 .0 .1), ne-eqb _ _ (r .0 .1), ne-eqb _ _ (r .1))
 
 pub names-there-spec : {M : Type 1} → statement M
 names-there-spec =
-    tie.close (tie.spec (λ c κs. tt) (λ c κs. tt) (λ c κs. tt) returns returns-2 returns-3 returns-4 returns-5 returns-6)
+    tie.close (tie.spec (λ c κs. tt) (λ c κs. tt) (λ c κs. tt) (λ c κs. tt) (λ c κs. tt) returns returns-2 returns-3 returns-4 returns-5 returns-6 returns-7 returns-8)

@@ -11,10 +11,10 @@ use Rattle.entries.proofs.parts_sound.Statement.{statement}
 use Rattle.entries.proofs.parts_sound.Tie as tie
 
 abbrev Inv-loop : tie.InvT-loop
-Inv-loop cfg j₀ j = (j ≤ 10) × (allBelow (λ (k : ℕ). kindSound cfg (0x10 + k)) j ≡ true)
+Inv-loop cfg j₀ j = (j ≤ 12) × (allBelow (λ (k : ℕ). kindSound cfg (0x10 + k)) j ≡ true)
 
 abbrev μ-loop : tie.MeasureT-loop
-μ-loop cfg j₀ j = 10 - j
+μ-loop cfg j₀ j = 12 - j
 
 loop-holds : tie.Need-loop-holds Inv-loop μ-loop
 loop-holds c = (omega arith, all-none _)
@@ -41,7 +41,7 @@ returns c =
 returns-2 : tie.Need-returns-2 Inv-loop μ-loop
 unfolding partsSound
 returns-2 c =
-    let e : c .before .loop .j ≡ 10 = omega (arith, c .loop-test .left, c .before .loop .inv .0) in
+    let e : c .before .loop .j ≡ 12 = omega (arith, c .loop-test .left, c .before .loop .inv .0) in
     sym (rw e at (c .before .loop .inv .1))
 
 pub parts-sound-spec : {M : Type 1} → statement M

@@ -12,7 +12,7 @@ returns c = rw (lt-ltb _ _ (c .if1 .taken))
 
 returns-2 : tie.Need-returns-2
 unfolding headOf
-returns-2 c = rw (c .head-with .ensures, c .before .in-order .ensures, c .before .before .size-of .ensures, c .before .before .before .length-of .ensures, le-ltb _ _ (c .before .before .before .before .before .before .before .if1 .left))
+returns-2 c = rw (c .head-with .ensures, c .before .in-order .ensures, c .before .before .size-in .ensures, c .before .before .before .length-of .ensures, le-ltb _ _ (c .before .before .before .before .before .before .before .if1 .left))
 
 pub head-of-spec : {M : Type 1} → statement M
 head-of-spec =

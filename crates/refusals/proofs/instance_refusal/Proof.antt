@@ -8,13 +8,13 @@ returns : tie.Need-returns
 unfolding instanceRefusal
 returns c =
     let f = c .before .before .before .before .before .before in
-    rw (c .owned-refusal .ensures, ← f .before .before .before .before .row-of .ensures, ← f .before .before .before .formed .ensures, f .before .before .if1 .taken, ← f .before .has-step .ensures, f .if2 .taken, ← c .before .before .before .before .before .get .ensures, c .before .before .before .if3 .taken, ← c .before .before .part-there .ensures, c .before .if4 .taken)
+    rw (c .owned-refusal .ensures, ← f .before .before .before .before .row-of .ensures, ← f .before .before .before .formed .ensures, f .before .before .if1 .taken, ← f .before .has-step .ensures, f .if2 .taken, ← c .before .before .before .before .before .get .ensures, c .before .before .before .if3 .taken, ← c .before .before .named-there .ensures, c .before .if4 .taken)
 
 returns-2 : tie.Need-returns-2
 unfolding instanceRefusal
 returns-2 c =
     let f = c .before .before .before .before .before in
-    rw (← f .before .before .before .before .row-of .ensures, ← f .before .before .before .formed .ensures, f .before .before .if1 .taken, ← f .before .has-step .ensures, f .if2 .taken, ← c .before .before .before .before .get .ensures, c .before .before .if3 .taken, ← c .before .part-there .ensures, c .if4 .left)
+    rw (← f .before .before .before .before .row-of .ensures, ← f .before .before .before .formed .ensures, f .before .before .if1 .taken, ← f .before .has-step .ensures, f .if2 .taken, ← c .before .before .before .before .get .ensures, c .before .before .if3 .taken, ← c .before .named-there .ensures, c .if4 .left)
 
 returns-3 : tie.Need-returns-3
 unfolding instanceRefusal

@@ -24,7 +24,7 @@ returns c = sym (List·getD-map lineRow (map rowLine rows) (c .before .before .a
 
 returns-2 : tie.Need-returns-2
 unfolding rowOf rows
-returns-2 c = sym (past rows (c .before .args .code) 22 noRow refl (c .if1 .left))
+returns-2 c = sym (past rows (c .before .args .code) 24 noRow refl (c .if1 .left))
 
 pub row-of-spec : {M : Type 1} → statement M
 row-of-spec = tie.close (tie.spec (λ c. search needs) (λ c. search needs) (λ c. search needs) (λ c. search needs) (λ c. search needs) (λ c. search needs) returns returns-2)

@@ -23,7 +23,9 @@ shape c =
     let operations : length (c .args .st .operations .at) ≡ 8 = search (length-mapped, known .1 .1 .1 .1 .0) in
     let timers : length (c .args .st .timers .at) ≡ 8 = search (length-mapped, known .1 .1 .1 .1 .1 .0) in
     let slots : length (c .args .st .slots .at) ≡ 32 = search (length-mapped, known .1 .1 .1 .1 .1 .1 .0) in
-    rw (eq-eqb _ _ runnables, eq-eqb _ _ variables, eq-eqb _ _ areas, eq-eqb _ _ elements, eq-eqb _ _ operations, eq-eqb _ _ timers, eq-eqb _ _ slots)
+    let incoming : length (c .args .st .incoming .at) ≡ 32 = search (length-mapped, known .1 .1 .1 .1 .1 .1 .1 .0) in
+    let outgoing : length (c .args .st .outgoing .at) ≡ 32 = search (length-mapped, known .1 .1 .1 .1 .1 .1 .1 .1 .0) in
+    rw (eq-eqb _ _ runnables, eq-eqb _ _ variables, eq-eqb _ _ areas, eq-eqb _ _ elements, eq-eqb _ _ operations, eq-eqb _ _ timers, eq-eqb _ _ slots, eq-eqb _ _ incoming, eq-eqb _ _ outgoing)
 
 returns : tie.Need-returns
 unfolding soundOf allOf

@@ -11,10 +11,10 @@ use Rattle.writing.proofs.parts_size.Statement.{statement}
 use Rattle.writing.proofs.parts_size.Tie as tie
 
 abbrev Inv-loop : tie.InvT-loop
-Inv-loop cfg j₀ size₀ j size = (j ≤ 10) × (size ≤ j * 65535) × (size ≡ sumBelow (λ (k : ℕ). kindSize cfg (0x10 + k)) j)
+Inv-loop cfg j₀ size₀ j size = (j ≤ 12) × (size ≤ j * 65535) × (size ≡ sumBelow (λ (k : ℕ). kindSize cfg (0x10 + k)) j)
 
 abbrev μ-loop : tie.MeasureT-loop
-μ-loop cfg j₀ size₀ j size = 10 - j
+μ-loop cfg j₀ size₀ j size = 12 - j
 
 loop-holds : tie.Need-loop-holds Inv-loop μ-loop
 loop-holds c = (omega arith, omega arith, sym (sum-none (λ (k : ℕ). kindSize (c .args .cfg) (0x10 + k))))
@@ -38,7 +38,7 @@ loop-again c =
 returns : tie.Need-returns Inv-loop μ-loop
 unfolding partsSize
 returns c =
-    let e : c .before .loop .j ≡ 10 = omega arith in
+    let e : c .before .loop .j ≡ 12 = omega arith in
     c .before .loop .inv .2 ∙ ap (sumBelow (λ (k : ℕ). kindSize (c .before .before .args .cfg) (0x10 + k))) e
 
 pub parts-size-spec : {M : Type 1} → statement M

@@ -13,15 +13,15 @@ use Rattle.writing.proofs.write_parts.Statement.{statement}
 use Rattle.writing.proofs.write_parts.Tie as tie
 
 abbrev Inv-loop : tie.InvT-loop
-Inv-loop buf₀ at cfg room j₀ next₀ buf j next = Putting buf₀ at (blockOf cfg) 10 j next buf
+Inv-loop buf₀ at cfg room j₀ next₀ buf j next = Putting buf₀ at (blockOf cfg) 12 j next buf
 
 abbrev μ-loop : tie.MeasureT-loop
-μ-loop buf₀ at cfg room j₀ next₀ buf j next = 10 - j
+μ-loop buf₀ at cfg room j₀ next₀ buf j next = 12 - j
 
 loop-holds : tie.Need-loop-holds Inv-loop μ-loop
 unfolding partsBytes
 loop-holds c =
-    putting-start (now (c .before .before .before .before .args .buf)) (c .before .before .before .before .args .at) (blockOf (c .before .before .before .before .args .cfg)) 10
+    putting-start (now (c .before .before .before .before .args .buf)) (c .before .before .before .before .args .at) (blockOf (c .before .before .before .before .args .cfg)) 12
     (run-room (now (c .before .before .before .before .args .buf)) (partsBytes (c .before .before .before .before .args .cfg)) (c .before .before .before .before .args .at) (c .before .before .parts-size .result) (parts-size (c .before .before .before .before .args .cfg) ∙ sym (c .before .before .parts-size .ensures)) (sym (c .before .has-room .ensures) ∙ c .if1 .taken))
 
 add-write-kind : tie.Need-add-write-kind Inv-loop μ-loop

@@ -8,10 +8,10 @@ use Rattle.text.proofs.names.forget_counts.Statement.{statement}
 use Rattle.text.proofs.names.forget_counts.Tie as tie
 
 abbrev Inv-loop : tie.InvT-loop
-Inv-loop known₀ i₀ known i = (i ≤ 10) × (length known ≡ length known₀)
+Inv-loop known₀ i₀ known i = (i ≤ 12) × (length known ≡ length known₀)
 
 abbrev μ-loop : tie.MeasureT-loop
-μ-loop known₀ i₀ known i = 10 - i
+μ-loop known₀ i₀ known i = 12 - i
 
 pub forget-counts-spec : {M : Type 1} → statement M
 forget-counts-spec =

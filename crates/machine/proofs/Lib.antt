@@ -1,0 +1,2 @@
+-- Laws that the proofs of the step cite.
+pub mod Last
