@@ -138,37 +138,6 @@ make_room() {
     trap 'exit 129' HUP INT TERM
 }
 
-# Moves a recording to the other form: prints the line, and puts the moved recording at OUT, whole or not at all.
-move_to() { # short|long IN OUT
-    if [ ! -r "$2" ] || [ -d "$2" ]; then die "$UNREADABLE" "$2: no file that can be read"; fi
-    need_output
-    have moves
-    make_room
-    new=''
-    trap 'rm -rf "$room" ${new:+"$new"}' EXIT
-    cat <"$2" >"$room/recording" || die "$UNREADABLE" "$2 could not be read"
-    line=$(cd "$room" && run "$1" <recording)
-    case $line in
-    'moved '*) ;;
-    'refused '*) put "$line"; hint "$1" "$2"; exit 1 ;;
-    'input too long') put "$line"; exit 4 ;;
-    *) exit "$UNREADABLE" ;;
-    esac
-    new=$(mktemp "$3.XXXXXX") || die "$UNWRITTEN" "$3 could not be written"
-    { cat <"$room/moved.rec" >"$new" && chmod 644 "$new" && mv "$new" "$3"; } || die "$UNWRITTEN" "$3 could not be written"
-    new=''
-    put "$line"
-    exit 0
-}
-
-# Says so if what was not moved has the form that was asked for: a header and then a step or the end, or a step or the end in front.
-hint() { # short|long IN
-    case $1:$(od -An -tx1 -N5 "$room/recording" | tr -d ' ') in
-    short:0100010241 | short:010001027f) say "$2 is already in the short form" ;;
-    long:40* | long:7f*) say "$2 is already in the old form" ;;
-    esac
-}
-
 # What the program text said on standard error: nothing, or the reason why there is no answer.
 said_of() { # FILE NAMES
     [ -s "$room/said" ] || return 0

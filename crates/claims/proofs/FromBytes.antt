@@ -4,34 +4,27 @@
 use Prim.Native.Nat.{ℕ, ◌<◌}
 use mathlib.Core.Bool.{true}
 use mathlib.Core.List.{List}
-use mathlib.Core.Path.{◌≡◌, refl, sym, ap, ◌∙◌, subst}
+use mathlib.Core.Path.{◌≡◌, refl, sym, ap, ◌∙◌}
 use native.Mathlib.Decide.{dec_lt}
 use native.Mathlib.Omega.{arith}
 use lib.Dec.{ltb}
-use lib.ListN.{length, take}
+use lib.ListN.{length}
 use borrow.Author.Tests.{lt-ltb, le-ltb}
 use Rattle.laws.specs.Choice.{pick, either}
-use Rattle.laws.proofs.Choosing.{clash}
 use Rattle.faces.specs.Types.{Config, State}
 use Rattle.entries.specs.Faults.{config_sound}
-use Rattle.state.specs.Start.{start_of}
 use Rattle.reading.specs.declared.Outcome.{Outcome}
-use Rattle.reading.specs.declared.Outcome.TheVariants.{Whole as IsRead, Refused as NotRead}
+use Rattle.reading.specs.declared.Outcome.TheVariants.{Whole, Refused as NotRead}
 use Rattle.reading.specs.Reading.{config_of, outcome_refusal, outcome_place}
 use Rattle.reading.proofs.Sound.{read-sound, read_number}
-use Rattle.recording.specs.Whole.{Whole}
-use Rattle.forms.specs.Short.{is_misheaded}
-use Rattle.moving.specs.Old.{old_of, steps_of}
-use Rattle.moving.proofs.Either.{bad-whole}
 use Rattle.judging.specs.declared.Verdict.{Verdict}
 use Rattle.judging.specs.declared.Verdict.TheVariants.{Accepted, Refused, Unfinished}
 use Rattle.judging.specs.declared.Judged.{Judged}
 use Rattle.judging.specs.declared.Line.TheVariants.{Configuration, TooLong}
-use Rattle.judging.specs.Judging.{verdict_refusal, verdict_place, verdict_form, judge_text_of}
+use Rattle.judging.specs.Judging.{verdict_refusal, verdict_place, verdict_form}
 use Rattle.judging.specs.Line.{max_config, max_recording, allowed, verdict_line, judged_line, read_line, line_of, line_form, line_count, line_place, line_refusal}
-use Rattle.history.specs.Promises.{Run}
-use Rattle.claims.specs.Claims.{Says, Fits, Readable, Refuses, at_header, behind, AcceptedIsRun, RefusedIsRun, UnfinishedIsRun, ConfigurationIsUnread, TooLongIsLong}
-use Rattle.claims.proofs.Verdicts.{Headed, bad, good, headed, either-is-whole, unfinished-so, so-unfinished, refused-so, so-refused}
+use Rattle.claims.specs.Claims.{Says, Fits, Readable, AcceptedIsRun, RefusedIsRun, UnfinishedIsRun, ConfigurationIsUnread, TooLongIsLong}
+use Rattle.claims.proofs.Verdicts.{from_start, judged_of, accepted-so, so-accepted, unfinished-so, so-unfinished, refused-so, so-refused}
 
 -- ---- the line
 
@@ -59,21 +52,17 @@ long-line c t n = go (dec_lt max_config (length c)) (dec_lt max_recording (lengt
     go (no x) (yes y) = rw (le-ltb max_config (length c) (omega (arith, x)), lt-ltb max_recording (length t) y)
     go (no x) (no y) = absurd (n (omega (arith, x), omega (arith, y)))
 
--- the judgment of a text of either form, by the program's allowance
-abbrev text_judged : List ℕ → List ℕ → Judged
-text_judged c t = judge_text_of (config_of c).config (start_of (config_of c).config) t allowed
-
 -- of a configuration that is read: sound, and its line is that of the verdict
 module _ (c t : List ℕ) (r : Readable c t) where
-  whole : (config_of c).outcome ≡ IsRead
+  whole : (config_of c).outcome ≡ Whole
   whole = read_number c r.1
 
   pub sound-config : config_sound (config_of c).config ≡ true
   sound-config = read-sound c whole
 
-  judged-line : line_of c t ≡ verdict_line (text_judged c t).verdict (text_judged c t).count
+  judged-line : line_of c t ≡ verdict_line (judged_of (config_of c).config t allowed).verdict (judged_of (config_of c).config t allowed).count
   unfolding read_line judged_line
-  judged-line = fit_line c t r.0 ∙ rw whole
+  judged-line = fit_line c t r.0 ∙ rw (whole, from_start (config_of c).config t allowed sound-config)
 
 -- the numbers of a verdict's line are those of the verdict
 form-same : (v : Verdict) (n : ℕ) → line_form (verdict_line v n) ≡ verdict_form v
@@ -112,7 +101,7 @@ files : (c t : List ℕ) → Files c t
 files c t = go (fits_or c t)
   where
     by : Fits c t → (o : Outcome) → (config_of c).outcome ≡ o → Files c t
-    by f IsRead e = readable (f, ap outcome_refusal e)
+    by f Whole e = readable (f, ap outcome_refusal e)
     by f (NotRead p k) e = unread p k f e (unread-line c t p k f e)
 
     go : Dec (Fits c t) → Files c t
@@ -133,7 +122,7 @@ module _ (c t : List ℕ) where
   cfg = (config_of c).config
 
   abbrev j : Judged
-  j = text_judged c t
+  j = judged_of (config_of c).config t allowed
 
   same-form : Readable c t → line_form (line_of c t) ≡ verdict_form j.verdict
   same-form r = ap line_form (judged-line c t r) ∙ form-same j.verdict j.count
@@ -157,80 +146,34 @@ module _ (c t : List ℕ) where
   says-line : (f n : ℕ) (st : State) → (f ≡ 1 → ⊥) → Readable c t → Says j f n st → (line_form (line_of c t) ≡ f) × (line_count (line_of c t) ≡ n)
   says-line f n st m r s = (same-form r ∙ s.0, same_count r (λ z. m (sym s.0 ∙ z)) ∙ s.1)
 
--- the header of a text, by a configuration that is read
-by-header : (c t : List ℕ) → Readable c t → Headed (config_of c).config t allowed
-by-header c t r = headed (config_of c).config t allowed (sound-config c t r)
-
 pub accepted-is-run : AcceptedIsRun
 accepted-is-run c t n = (
   λ h.
       let s = line-says c t 0 n (omega arith) (λ z. omega (arith, z)) h in
-      let w = (either-is-whole (cfg c t) t allowed n _ (sound-config c t s.0)).0 s.1 in
+      let w = accepted-so (cfg c t) t allowed n _ s.1 in
       (s.0, w.0, w.1, w.2, _, w.3),
-  λ w. says-line c t 0 n w.4 (λ z. omega (arith, z)) w.0 ((either-is-whole (cfg c t) t allowed n w.4 (sound-config c t w.0)).1 (w.1, w.2, w.3, w.5)),
+  λ w. says-line c t 0 n w.4 (λ z. omega (arith, z)) w.0 (so-accepted (cfg c t) t allowed n w.4 (w.1, w.2, w.3, w.5)),
 )
 
 pub unfinished-is-run : UnfinishedIsRun
-unfinished-is-run c t n = (to, from)
-  where
-    to : (line_form (line_of c t) ≡ 2) × (line_count (line_of c t) ≡ n) → Readable c t × (n ≡ allowed) × (n < length (steps_of t)) × (st : State) × Run (config_of c).config (take n (steps_of t)) st
-    to h = go (by-header c t s.0)
-      where
-        s : Readable c t × Says (j c t) 2 n (j c t).state
-        s = line-says c t 2 n (omega arith) (λ z. omega (arith, z)) h
-
-        go : Headed (config_of c).config t allowed → Readable c t × (n ≡ allowed) × (n < length (steps_of t)) × (st : State) × Run (config_of c).config (take n (steps_of t)) st
-        go (bad m e) = absurd (omega (arith, sym (ap (λ (x : Judged). verdict_form x.verdict) e) ∙ s.1.0))
-        go (good m e) =
-            let w = unfinished-so (cfg c t) (old_of t) allowed n _ (subst (λ (x : Judged). Says x 2 n (j c t).state) e s.1) in
-            (s.0, w.0, w.1, _, w.2)
-
-    from : Readable c t × (n ≡ allowed) × (n < length (steps_of t)) × (st : State) × Run (config_of c).config (take n (steps_of t)) st → (line_form (line_of c t) ≡ 2) × (line_count (line_of c t) ≡ n)
-    from w = go (by-header c t w.0)
-      where
-        go : Headed (config_of c).config t allowed → (line_form (line_of c t) ≡ 2) × (line_count (line_of c t) ≡ n)
-        go (bad m e) = absurd (omega (arith, w.2, ap (λ (x : Whole). length x.steps) (bad-whole t m)))
-        go (good m e) = says-line c t 2 n w.3 (λ z. omega (arith, z)) w.0 (subst (λ (x : Judged). Says x 2 n w.3) (sym e) (so-unfinished (cfg c t) (old_of t) allowed n w.3 (w.1, w.2, w.4)))
-
--- the line refuses at a place with a number, and so does the verdict
-abbrev LineRefuses : List ℕ → List ℕ → ℕ → ℕ → Type 0
-LineRefuses c t p k = (line_form (line_of c t) ≡ 1) × (line_place (line_of c t) ≡ p) × (line_refusal (line_of c t) ≡ k)
-
-abbrev VerdictRefuses : Judged → ℕ → ℕ → Type 0
-VerdictRefuses x p k = (verdict_form x.verdict ≡ 1) × (verdict_place x.verdict ≡ p) × (verdict_refusal x.verdict ≡ k)
+unfinished-is-run c t n = (
+  λ h.
+      let s = line-says c t 2 n (omega arith) (λ z. omega (arith, z)) h in
+      let w = unfinished-so (cfg c t) t allowed n _ s.1 in
+      (s.0, w.0, w.1, _, w.2),
+  λ w. says-line c t 2 n w.3 (λ z. omega (arith, z)) w.0 (so-unfinished (cfg c t) t allowed n w.3 (w.1, w.2, w.4)),
+)
 
 pub refused-is-run : RefusedIsRun
-refused-is-run c t p k = (to, from)
-  where
-    to : LineRefuses c t p k → Readable c t × Refuses (config_of c).config t p k
-    to h = (r, go (by-header c t r))
-      where
-        r : Readable c t
-        r = has-read c t 1 h.0 (omega arith)
-
-        v : VerdictRefuses (j c t) p k
-        v = (sym (same-form c t r) ∙ h.0, sym (same_place c t r) ∙ h.1, sym (same-refusal c t r) ∙ h.2)
-
-        go : Headed (config_of c).config t allowed → Refuses (config_of c).config t p k
-        go (bad m e) = at_header m (sym v.1 ∙ ap (λ (x : Judged). verdict_place x.verdict) e) (sym v.2 ∙ ap (λ (x : Judged). verdict_refusal x.verdict) e)
-        go (good m e) =
-            let u = subst (λ (x : Judged). VerdictRefuses x p k) e v in
-            let w = refused-so (cfg c t) (old_of t) allowed _ _ p k ((u.0, refl, refl), u.1, u.2) in
-            behind _ _ m w.0 w.1
-
-    from : Readable c t × Refuses (config_of c).config t p k → LineRefuses c t p k
-    from w = go w.1 (by-header c t w.0)
-      where
-        says : VerdictRefuses (j c t) p k → LineRefuses c t p k
-        says v = (same-form c t w.0 ∙ v.0, same_place c t w.0 ∙ v.1, same-refusal c t w.0 ∙ v.2)
-
-        go : Refuses (config_of c).config t p k → Headed (config_of c).config t allowed → LineRefuses c t p k
-        go (at_header m a b) (bad m' e) = says (ap (λ (x : Judged). verdict_form x.verdict) e, ap (λ (x : Judged). verdict_place x.verdict) e ∙ sym a, ap (λ (x : Judged). verdict_refusal x.verdict) e ∙ sym b)
-        go (at_header m a b) (good m' e) = absurd (clash (is_misheaded t) m m')
-        go (behind n st m f s) (bad m' e) = absurd (clash (is_misheaded t) m' m)
-        go (behind n st m f s) (good m' e) =
-            let v = so-refused (cfg c t) (old_of t) allowed n st p k (f, s) in
-            says (subst (λ (x : Judged). VerdictRefuses x p k) (sym e) (v.0.0, v.1, v.2))
+refused-is-run c t p k = (
+  λ h.
+      let r = has-read c t 1 h.0 (omega arith) in
+      let w = refused-so (cfg c t) t allowed _ _ p k ((sym (same-form c t r) ∙ h.0, refl, refl), sym (same_place c t r) ∙ h.1, sym (same-refusal c t r) ∙ h.2) in
+      (r, _, _, w.0, w.1),
+  λ w.
+      let s = so-refused (cfg c t) t allowed w.1 w.2 p k (w.3, w.4) in
+      (same-form c t w.0 ∙ s.0.0, same_place c t w.0 ∙ s.1, same-refusal c t w.0 ∙ s.2),
+)
 
 pub configuration-is-unread : ConfigurationIsUnread
 configuration-is-unread c t p k = (to (files c t), from (files c t))
@@ -247,7 +190,7 @@ configuration-is-unread c t p k = (to (files c t), from (files c t))
           where
             go : Dec (0 < m) → 0 < m
             go (yes l) = l
-            go (no n) = let w : (config_of c).outcome ≡ IsRead = read_number c (ap outcome_refusal o ∙ omega (arith, n)) in absurd (let z : ◌≡◌ {A = ℕ} 0 1 = cc in omega arith)
+            go (no n) = let w : (config_of c).outcome ≡ Whole = read_number c (ap outcome_refusal o ∙ omega (arith, n)) in absurd (let z : ◌≡◌ {A = ℕ} 0 1 = cc in omega arith)
     to (readable r) h = absurd (form-low (j c t).verdict (sym (same-form c t r) ∙ h.0))
       where
         form-low : (v : Verdict) → verdict_form v ≡ 3 → ⊥

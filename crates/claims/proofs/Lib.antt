@@ -5,5 +5,4 @@ pub mod Told
 pub mod Verdicts
 pub mod FromBytes
 pub mod Kept
-pub mod Forms
 pub mod Editions

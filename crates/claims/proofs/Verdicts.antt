@@ -2,13 +2,11 @@
 -- (`from_start`), with or without the test of soundness; and each verdict is given exactly if the text has it so.
 -- Assumes nothing.
 use Prim.Native.Nat.{ℕ, ◌+◌, ◌≤◌, ◌<◌}
-use mathlib.Core.Bool.{Bool, true, false}
+use mathlib.Core.Bool.{true}
 use mathlib.Core.List.{List}
 use mathlib.Core.Path.{◌≡◌, refl, sym, ap, ◌∙◌, subst}
 use native.Mathlib.Omega.{arith}
 use lib.ListN.{length, take}
-use Rattle.numbers.specs.Refusals.{bad_field}
-use Rattle.laws.proofs.Choosing.{clash, both-no}
 use Rattle.faces.specs.Types.{Config, State}
 use Rattle.state.specs.Start.{start_of}
 use Rattle.entries.specs.Faults.{config_sound}
@@ -16,16 +14,13 @@ use Rattle.rules.specs.Sound.{sound_of}
 use Rattle.effects.specs.Step.{inner_of, step_of}
 use Rattle.stays_sound.proofs.Start.{start-sound}
 use Rattle.stays_sound.proofs.Keeps.{once, kept}
-use Rattle.recording.specs.Whole.{Whole, steps_in, is_end, is_sound}
-use Rattle.forms.specs.Short.{is_misheaded}
-use Rattle.moving.specs.Old.{old_of, steps_of}
-use Rattle.moving.proofs.Either.{bad-whole}
+use Rattle.recording.specs.Whole.{steps_in, is_sound}
 use Rattle.judging.specs.declared.Verdict.{Verdict}
 use Rattle.judging.specs.declared.Verdict.TheVariants.{Accepted, Refused, Unfinished}
 use Rattle.judging.specs.declared.Judged.{Judged}
-use Rattle.judging.specs.Judging.{verdict_refusal, verdict_place, verdict_form, judged, judge_from, judge_of, judge_text_of}
+use Rattle.judging.specs.Judging.{verdict_refusal, verdict_place, verdict_form, judged, judge_from, judge_of}
 use Rattle.history.specs.Promises.{Run}
-use Rattle.claims.specs.Claims.{Says, FirstRun, UntestedIsSame, CountedIsRun, AcceptedIsWhole, UnfinishedIsCut, Stops, RefusedIsStopped, EitherIsWhole}
+use Rattle.claims.specs.Claims.{Says, FirstRun, UntestedIsSame, CountedIsRun, AcceptedIsWhole, UnfinishedIsCut, Stops, RefusedIsStopped}
 use Rattle.judging.proofs.Laws.{judged-same}
 use Rattle.claims.proofs.Counted.{counted, accepted-whole, unfinished-more}
 use Rattle.claims.proofs.Stopped.{stopped-at}
@@ -42,15 +37,6 @@ pub untested-is-same : UntestedIsSame
 untested-is-same cfg t a h =
     from_start cfg t a h
     ∙ sym (judged-same (inner_of cfg) (step_of cfg) (sound_of cfg) (λ st s e. sym (once cfg st s e)) (λ st s e. kept cfg st s e) a t 0 (start_of cfg) (start-sound cfg h))
-
--- and of a text of either form: a bad header is refused at place 0, and any other text is judged as the one in the old form that it stands for
-pub bad-start : (cfg : Config) (t : List ℕ) (a : ℕ) → config_sound cfg ≡ true → is_misheaded t ≡ true → judge_text_of cfg (start_of cfg) t a ≡ judged (Refused 0 bad_field) 0 (start_of cfg)
-unfolding judge_text_of
-bad-start cfg t a h m = rw (start-sound cfg h, m)
-
-pub good_start : (cfg : Config) (t : List ℕ) (a : ℕ) → config_sound cfg ≡ true → is_misheaded t ≡ false → judge_text_of cfg (start_of cfg) t a ≡ judge_from (step_of cfg) a (old_of t) 0 (start_of cfg)
-unfolding judge_text_of
-good_start cfg t a h m = rw (both-no (sound_of cfg (start_of cfg)) (is_misheaded t) m) (from_start cfg (old_of t) a h)
 
 -- a verdict by its form
 is-accepted : (v : Verdict) → verdict_form v ≡ 0 → v ≡ Accepted
@@ -134,28 +120,3 @@ unfinished-is-cut cfg t a n st h = rw (from_start cfg t a h) (unfinished-so cfg 
 
 pub refused-is-stopped : RefusedIsStopped
 refused-is-stopped cfg t a n st p k h = rw (from_start cfg t a h) (refused-so cfg t a n st p k, so-refused cfg t a n st p k)
-
--- ---- in either form
-
--- by the header: bad, and refused as such; or judged as the old form that the text stands for
-pub data Headed (cfg : Config) (t : List ℕ) (a : ℕ) : Type 0 where
-  bad : is_misheaded t ≡ true → judge_text_of cfg (start_of cfg) t a ≡ judged (Refused 0 bad_field) 0 (start_of cfg) → Headed cfg t a
-  good : is_misheaded t ≡ false → judge_text_of cfg (start_of cfg) t a ≡ judged_of cfg (old_of t) a → Headed cfg t a
-
-pub headed : (cfg : Config) (t : List ℕ) (a : ℕ) → config_sound cfg ≡ true → Headed cfg t a
-headed cfg t a h = go (is_misheaded t) refl
-  where
-    go : (b : Bool) → is_misheaded t ≡ b → Headed cfg t a
-    go true m = bad m (bad-start cfg t a h m)
-    go false m = good m (good_start cfg t a h m)
-
-pub either-is-whole : EitherIsWhole
-either-is-whole cfg t a n st h = (to (headed cfg t a h), from (headed cfg t a h))
-  where
-    to : Headed cfg t a → Says (judge_text_of cfg (start_of cfg) t a) 0 n st → (is_sound (old_of t) ≡ true) × (n ≡ length (steps_of t)) × (n ≤ a) × Run cfg (steps_of t) st
-    to (bad m e) s = absurd (omega (arith, sym (ap (λ (x : Judged). verdict_form x.verdict) e) ∙ s.0))
-    to (good m e) s = accepted-so cfg (old_of t) a n st (subst (λ (x : Judged). Says x 0 n st) e s)
-
-    from : Headed cfg t a → (is_sound (old_of t) ≡ true) × (n ≡ length (steps_of t)) × (n ≤ a) × Run cfg (steps_of t) st → Says (judge_text_of cfg (start_of cfg) t a) 0 n st
-    from (bad m e) w = absurd (clash (is_sound (old_of t)) w.0 (ap (λ (x : Whole). is_end x.last) (bad-whole t m)))
-    from (good m e) w = subst (λ (x : Judged). Says x 0 n st) (sym e) (so-accepted cfg (old_of t) a n st w)

@@ -2,8 +2,7 @@
 -- And the whole of demand 3 from `accepted N`, with what holds of the steps that `unfinished N` and `refused P R` count. Proved in proofs/.
 -- A line is named by the numbers that stand for it (`line_form`, `line_count`, `line_place`, `answer_refusal`); of what is refused the number is never 0.
 -- Assumes nothing.
-use Rattle.std.specs.Prelude.{ℕ, ◌+◌, ◌≤◌, ◌<◌, true, false, List, ◌∷◌, ◌↔◌, ◌≡◌, length, take, drop}
-use Rattle.numbers.specs.Refusals.{bad_field}
+use Rattle.std.specs.Prelude.{ℕ, ◌+◌, ◌≤◌, ◌<◌, true, List, ◌∷◌, ◌↔◌, ◌≡◌, length, take, drop}
 use Rattle.faces.specs.Types.{Step, Config, State}
 use Rattle.values.specs.Values.{answer_refusal}
 use Rattle.state.specs.Start.{start_of}
@@ -12,12 +11,9 @@ use Rattle.effects.specs.Step.{inner_of, step_of}
 use Rattle.wire.proofs.Laws.{Bytes}
 use Rattle.reading.specs.Reading.{config_of, outcome_refusal, outcome_place}
 use Rattle.recording.specs.Recording.{field_refusal, field_past}
-use Rattle.recording.specs.Whole.{whole_of, steps_in, is_sound}
-use Rattle.forms.specs.Short.{is_misheaded}
-use Rattle.moving.specs.Old.{old_of, steps_of}
-use Rattle.moving.specs.Moves.{IsTextOf}
+use Rattle.recording.specs.Whole.{whole_of, steps_in, is_sound, text_of}
 use Rattle.judging.specs.declared.Judged.{Judged}
-use Rattle.judging.specs.Judging.{verdict_refusal, verdict_place, verdict_form, judge_from, judge_of, judge_text_of}
+use Rattle.judging.specs.Judging.{verdict_refusal, verdict_place, verdict_form, judge_from, judge_of}
 use Rattle.judging.specs.Line.{max_config, max_recording, allowed, line_of, line_form, line_count, line_place, line_refusal}
 use Rattle.history.specs.Promises.{Run, Demand3}
 
@@ -68,15 +64,7 @@ RefusedIsStopped =
     → (Says (judge_of cfg (start_of cfg) t a) 1 n st × (verdict_place (judge_of cfg (start_of cfg) t a).verdict ≡ p) × (verdict_refusal (judge_of cfg (start_of cfg) t a).verdict ≡ k))
     ↔ (FirstRun cfg t n st × Stops cfg a t n st p k)
 
--- ---- a text of either form: its old form is `old_of t`, and its steps are `steps_of t` (W-207)
-
--- accepted: as above, by the recording in the old form that the text stands for
-abbrev pub EitherIsWhole : Type 0
-EitherIsWhole =
-    (cfg : Config) (t : List ℕ) (a n : ℕ) (st : State) → config_sound cfg ≡ true
-    → Says (judge_text_of cfg (start_of cfg) t a) 0 n st ↔ ((is_sound (old_of t) ≡ true) × (n ≡ length (steps_of t)) × (n ≤ a) × Run cfg (steps_of t) st)
-
--- ---- the five lines, for the bytes c of a configuration and the bytes t of a recording in either form
+-- ---- the five lines, for the bytes c of a configuration and the bytes t of a recording
 
 -- neither file is longer than it may be ("Judging", the program)
 abbrev pub Fits : List ℕ → List ℕ → Type 0
@@ -90,24 +78,19 @@ Readable c t = Fits c t × (outcome_refusal (config_of c).outcome ≡ 0)
 abbrev pub AcceptedIsRun : Type 0
 AcceptedIsRun =
     (c t : List ℕ) (n : ℕ) → ((line_form (line_of c t) ≡ 0) × (line_count (line_of c t) ≡ n))
-    ↔ (Readable c t × (is_sound (old_of t) ≡ true) × (n ≡ length (steps_of t)) × (n ≤ allowed) × (st : State) × Run (config_of c).config (steps_of t) st)
-
--- why the line refuses at the place p, with the number k: the header is bad, which is 18 at place 0; or n steps are accepted, and there k stops them ("Judging"; W-207)
-pub data Refuses (cfg : Config) (t : List ℕ) (p k : ℕ) : Type 0 where
-  at_header : is_misheaded t ≡ true → p ≡ 0 → k ≡ bad_field → Refuses cfg t p k
-  behind : (n : ℕ) (st : State) → is_misheaded t ≡ false → FirstRun cfg (old_of t) n st → Stops cfg allowed (old_of t) n st p k → Refuses cfg t p k
+    ↔ (Readable c t × (is_sound t ≡ true) × (n ≡ length (steps_in t)) × (n ≤ allowed) × (st : State) × Run (config_of c).config (steps_in t) st)
 
 -- `refused P R`: the steps before the place P are accepted, and there R stops them
 abbrev pub RefusedIsRun : Type 0
 RefusedIsRun =
     (c t : List ℕ) (p k : ℕ) → ((line_form (line_of c t) ≡ 1) × (line_place (line_of c t) ≡ p) × (line_refusal (line_of c t) ≡ k))
-    ↔ (Readable c t × Refuses (config_of c).config t p k)
+    ↔ (Readable c t × (n : ℕ) × (st : State) × FirstRun (config_of c).config t n st × Stops (config_of c).config allowed t n st p k)
 
 -- `unfinished N`: N is 4,000, so many steps are accepted, and one more stands behind them
 abbrev pub UnfinishedIsRun : Type 0
 UnfinishedIsRun =
     (c t : List ℕ) (n : ℕ) → ((line_form (line_of c t) ≡ 2) × (line_count (line_of c t) ≡ n))
-    ↔ (Readable c t × (n ≡ allowed) × (n < length (steps_of t)) × (st : State) × Run (config_of c).config (take n (steps_of t)) st)
+    ↔ (Readable c t × (n ≡ allowed) × (n < length (steps_in t)) × (st : State) × Run (config_of c).config (take n (steps_in t)) st)
 
 -- `configuration P R`: the configuration's field at the place P is refused with R
 abbrev pub ConfigurationIsUnread : Type 0
@@ -121,12 +104,12 @@ TooLongIsLong = (c t : List ℕ) → (line_form (line_of c t) ≡ 4) ↔ (Fits c
 
 -- ---- demand 3
 
--- what `accepted N` says of the bytes c and t: their configuration is sound, t is exactly its steps and the end in one of the two forms, N in number, and these keep demand 3 ("How tight the contracts are", demand 3; W-207)
+-- what `accepted N` says of the bytes c and t: their configuration is sound, t is exactly its steps and the end, N in number, and these keep demand 3 ("How tight the contracts are", demand 3)
 pub record Keeps (c t : List ℕ) (n : ℕ) : Type 0 where
   pub config : config_sound (config_of c).config ≡ true
-  pub text : Bytes t → IsTextOf t (steps_of t)
-  pub count : n ≡ length (steps_of t)
-  pub demand : Demand3 (config_of c).config (steps_of t)
+  pub text : Bytes t → t ≡ text_of (steps_in t)
+  pub count : n ≡ length (steps_in t)
+  pub demand : Demand3 (config_of c).config (steps_in t)
 
 -- `accepted N`: the whole of demand 3 ("How tight the contracts are", demand 3)
 abbrev pub AcceptedKeeps : Type 0
@@ -134,10 +117,10 @@ AcceptedKeeps = (c t : List ℕ) (n : ℕ) → (line_form (line_of c t) ≡ 0) �
 
 -- `unfinished N`: the first N steps keep it ("How tight the contracts are", demand 3)
 abbrev pub UnfinishedKeeps : Type 0
-UnfinishedKeeps = (c t : List ℕ) (n : ℕ) → (line_form (line_of c t) ≡ 2) × (line_count (line_of c t) ≡ n) → Demand3 (config_of c).config (take n (steps_of t))
+UnfinishedKeeps = (c t : List ℕ) (n : ℕ) → (line_form (line_of c t) ≡ 2) × (line_count (line_of c t) ≡ n) → Demand3 (config_of c).config (take n (steps_in t))
 
--- `refused P R`, with a good header or none: the steps before the first thing that is refused keep it ("How tight the contracts are", demand 3)
+-- `refused P R`: the steps before the first thing that is refused keep it ("How tight the contracts are", demand 3)
 abbrev pub RefusedKeeps : Type 0
 RefusedKeeps =
-    (c t : List ℕ) (p k : ℕ) → (line_form (line_of c t) ≡ 1) × (line_place (line_of c t) ≡ p) × (line_refusal (line_of c t) ≡ k) → 0 < p
-    → (n : ℕ) × (st : State) × Stops (config_of c).config allowed (old_of t) n st p k × Demand3 (config_of c).config (take n (steps_of t))
+    (c t : List ℕ) (p k : ℕ) → (line_form (line_of c t) ≡ 1) × (line_place (line_of c t) ≡ p) × (line_refusal (line_of c t) ≡ k)
+    → (n : ℕ) × (st : State) × Stops (config_of c).config allowed t n st p k × Demand3 (config_of c).config (take n (steps_in t))

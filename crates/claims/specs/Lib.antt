@@ -1,4 +1,3 @@
 -- The promises from the bytes of two files on.
 pub mod Claims
-pub mod Forms
 pub mod Editions

@@ -1,5 +1,5 @@
 -- From the printed line to all that may be relied on: the bytes are those of `accepted N` (`accepted-printed`), so the steps of the recording are a run of the configuration that was read (`accepted-is-run`),
--- which keeps demand 3 (`demand3`); both files are the texts of what was read (`text-again`, `text-either`), and these texts leave nothing open (`fixed`).
+-- which keeps demand 3 (`demand3`); both files are the texts of what was read (`text-again`), and these texts leave nothing open (`fixed`).
 -- Assumes nothing.
 use mathlib.Core.List.{List, ◌∷◌, ◌++◌}
 use mathlib.Core.Path.{◌≡◌, sym, ap, subst}
@@ -7,8 +7,8 @@ use native.Mathlib.Omega.{arith}
 use Rattle.faces.specs.Types.{Step}
 use Rattle.reading.specs.Reading.{config_of}
 use Rattle.reading.proofs.Sound.{read-sound, read_number}
-use Rattle.moving.specs.Old.{steps_of}
-use Rattle.moving.proofs.Either.{text-either, each-recorded}
+use Rattle.recording.specs.Whole.{steps_in}
+use Rattle.recording.proofs.Texts.{text-again, steps-recorded}
 use Rattle.round_trips.proofs.Again.{text-again as config-again}
 use Rattle.judging.specs.Line.{line_of, line_form, line_count}
 use Rattle.history.specs.Promises.{Run, OfRuns, Demand3}
@@ -79,11 +79,11 @@ printed-is-relied c t n p =
     let s = read-sound c o in
     record {
       config = (config_of c).config;
-      steps = steps_of t;
+      steps = steps_in t;
       written = sym (config-again c p.0 o);
       fixed = fixed c p.0 o;
-      recorded = text-either t p.1 w.1;
-      each = each-recorded t p.1;
+      recorded = sym (text-again t p.1 w.1);
+      each = steps-recorded t p.1;
       count = w.2;
-      demand = demanded (config_of c).config (steps_of t) w.4 s w.5;
+      demand = demanded (config_of c).config (steps_in t) w.4 s w.5;
     }

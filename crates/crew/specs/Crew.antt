@@ -7,8 +7,7 @@ use Rattle.config.specs.Tables.{max_runnable_confs, runnable_conf_in}
 use Rattle.entries.specs.Entries.{no_entry, count_of, entry_of}
 use Rattle.rules.specs.Rows.{row_of}
 use Rattle.rules.specs.Refusals.{part_there}
-use Rattle.recording.specs.Whole.{EachRecorded}
-use Rattle.moving.specs.Moves.{IsTextOf}
+use Rattle.recording.specs.Whole.{text_of as steps_text, EachRecorded}
 use Rattle.writing.specs.Writing.{text_of as config_text}
 use Rattle.lines.specs.Lines.{line_bytes}
 use Rattle.judging.specs.Line.{line_of}
@@ -92,13 +91,13 @@ pub record Fixed (cfg : Config) : Type 0 where
   pub numbers : (tag i : ℕ) → (entry_of cfg tag i).number < 2 ^ 32
   pub blank : (tag i : ℕ) → count_of cfg tag ≤ i → entry_of cfg tag i ≡ no_entry
 
--- the bytes c and t are the texts of a configuration and of n steps, in one of the two forms, which keep demand 3 ("How tight the contracts are", demand 3; W-207)
+-- the bytes c and t are the texts of a configuration and of n steps, which keep demand 3 ("How tight the contracts are", demand 3)
 pub record Relied (c t : List ℕ) (n : ℕ) : Type 0 where
   pub config : Config
   pub steps : List Step
   pub written : c ≡ config_text config
   pub fixed : Fixed config
-  pub recorded : IsTextOf t steps
+  pub recorded : t ≡ steps_text steps
   pub each : EachRecorded steps
   pub count : n ≡ length steps
   pub demand : Demanded config steps

@@ -28,9 +28,7 @@ use Rattle.effects.specs.Step.{act_of, possible_of, agrees, claimed_of, inner_of
 use Rattle.recording.specs.Whole.{whole_from, whole_of, steps_in}
 use Rattle.recording.specs.Recording.{values_good, tested, step_in, end_in, field_of}
 use Rattle.reading.specs.Reading.{size_of, entry_read, in_order, head_of, body_fault, refused_at, read_from, config_of, size_in}
-use Rattle.forms.specs.Short.{is_short, is_misheaded}
-use Rattle.moving.specs.Old.{old_of}
-use Rattle.judging.specs.Judging.{judge_from, judge_of, judge_text_of, rest_of}
+use Rattle.judging.specs.Judging.{judge_from, judge_of, rest_of}
 use Rattle.judging.specs.Line.{judged_line, read_line, line_of}
 use Rattle.judging.specs.declared.Line.{Line}
 use Rattle.judging.specs.declared.Line.TheVariants.{Accepted, Refused, Configuration}
@@ -39,23 +37,23 @@ use Rattle.history.specs.History.{no_request, by_timeout, by_instance, by_failur
 -- ---- the fields, byte by byte
 
 -- edition 1
-unfoldable pub first_field : List ℕ
+first_field : List ℕ
 first_field = 0x01 ∷ 0x00 ∷ 0x01 ∷ 0x01 ∷ []
 
 -- the end field of either file
-unfoldable pub last_field : List ℕ
+last_field : List ℕ
 last_field = 0x7f ∷ 0x00 ∷ 0x00 ∷ []
 
 -- a plain runnable of component 0 with the init flag
-unfoldable pub client : List ℕ
+client : List ℕ
 client = 0x10 ∷ 0x00 ∷ 0x07 ∷ 0x00 ∷ 0x02 ∷ 0x00 ∷ 0x00 ∷ 0x00 ∷ 0x00 ∷ 0x00 ∷ []
 
 -- a server of component 1 with room for two requests
-unfoldable pub server : List ℕ
+server : List ℕ
 server = 0x10 ∷ 0x00 ∷ 0x07 ∷ 0x01 ∷ 0x00 ∷ 0x00 ∷ 0x00 ∷ 0x00 ∷ 0x00 ∷ 0x02 ∷ []
 
 -- an asynchronous operation of component 0 on runnable 1, with a timeout of 50
-unfoldable pub operation : List ℕ
+operation : List ℕ
 operation = 0x16 ∷ 0x00 ∷ 0x07 ∷ 0x00 ∷ 0x01 ∷ 0x01 ∷ 0x00 ∷ 0x00 ∷ 0x00 ∷ 0x32 ∷ []
 
 -- an area of component 0
@@ -89,15 +87,15 @@ link_third : List ℕ
 link_third = 0x15 ∷ 0x00 ∷ 0x02 ∷ 0x01 ∷ 0x02 ∷ []
 
 -- spawn 0, in slot 0
-unfoldable pub spawn_client : List ℕ
+spawn_client : List ℕ
 spawn_client = 0x40 ∷ 0x00 ∷ 0x0d ∷ 0x0f ∷ 0x00 ∷ 0x00 ∷ 0x00 ∷ 0x00 ∷ 0x00 ∷ 0x00 ∷ 0x00 ∷ 0x01 ∷ 0x00 ∷ 0x00 ∷ 0x00 ∷ 0x00 ∷ []
 
 -- spawn 1, in slot 1
-unfoldable pub spawn_server : List ℕ
+spawn_server : List ℕ
 spawn_server = 0x40 ∷ 0x00 ∷ 0x0d ∷ 0x0f ∷ 0x00 ∷ 0x01 ∷ 0x00 ∷ 0x00 ∷ 0x00 ∷ 0x00 ∷ 0x00 ∷ 0x01 ∷ 0x00 ∷ 0x00 ∷ 0x00 ∷ 0x01 ∷ []
 
 -- the instance in slot 0 calls the operation, argument 7: Ok
-unfoldable pub call_seven : List ℕ
+call_seven : List ℕ
 call_seven = 0x40 ∷ 0x00 ∷ 0x0d ∷ 0x0b ∷ 0x00 ∷ 0x00 ∷ 0x01 ∷ 0x00 ∷ 0x00 ∷ 0x00 ∷ 0x07 ∷ 0x02 ∷ 0x00 ∷ 0x00 ∷ 0x00 ∷ 0x00 ∷ []
 
 -- slot 0 calls it again, Limit
@@ -109,7 +107,7 @@ call_full : List ℕ
 call_full = 0x40 ∷ 0x00 ∷ 0x0d ∷ 0x0b ∷ 0x00 ∷ 0x00 ∷ 0x01 ∷ 0x00 ∷ 0x00 ∷ 0x00 ∷ 0x08 ∷ 0x08 ∷ 0x00 ∷ 0x00 ∷ 0x00 ∷ 0x01 ∷ []
 
 -- wait 50
-unfoldable pub wait_fifty : List ℕ
+wait_fifty : List ℕ
 wait_fifty = 0x40 ∷ 0x00 ∷ 0x0d ∷ 0x12 ∷ 0x00 ∷ 0x00 ∷ 0x01 ∷ 0x00 ∷ 0x00 ∷ 0x00 ∷ 0x32 ∷ 0x00 ∷ 0x00 ∷ 0x00 ∷ 0x00 ∷ 0x00 ∷ []
 
 -- wait 51
@@ -117,11 +115,11 @@ wait_longer : List ℕ
 wait_longer = 0x40 ∷ 0x00 ∷ 0x0d ∷ 0x12 ∷ 0x00 ∷ 0x00 ∷ 0x01 ∷ 0x00 ∷ 0x00 ∷ 0x00 ∷ 0x33 ∷ 0x00 ∷ 0x00 ∷ 0x00 ∷ 0x00 ∷ 0x00 ∷ []
 
 -- the timeout of operation 0
-unfoldable pub times_out : List ℕ
+times_out : List ℕ
 times_out = 0x40 ∷ 0x00 ∷ 0x0d ∷ 0x10 ∷ 0x00 ∷ 0x00 ∷ 0x00 ∷ 0x00 ∷ 0x00 ∷ 0x00 ∷ 0x00 ∷ 0x00 ∷ 0x00 ∷ 0x00 ∷ 0x00 ∷ 0x00 ∷ []
 
 -- the server in slot 1 hands 9 back too late: Number 0
-unfoldable pub back_late : List ℕ
+back_late : List ℕ
 back_late = 0x40 ∷ 0x00 ∷ 0x0d ∷ 0x0d ∷ 0x01 ∷ 0x00 ∷ 0x01 ∷ 0x00 ∷ 0x00 ∷ 0x00 ∷ 0x09 ∷ 0x01 ∷ 0x00 ∷ 0x00 ∷ 0x00 ∷ 0x00 ∷ []
 
 -- the server in slot 1 hands 9 back in time: Number 1
@@ -129,7 +127,7 @@ back_in_time : List ℕ
 back_in_time = 0x40 ∷ 0x00 ∷ 0x0d ∷ 0x0d ∷ 0x01 ∷ 0x00 ∷ 0x01 ∷ 0x00 ∷ 0x00 ∷ 0x00 ∷ 0x09 ∷ 0x01 ∷ 0x00 ∷ 0x00 ∷ 0x00 ∷ 0x01 ∷ []
 
 -- slot 0 asks for the result, Timeout
-unfoldable pub ask_timeout : List ℕ
+ask_timeout : List ℕ
 ask_timeout = 0x40 ∷ 0x00 ∷ 0x0d ∷ 0x0c ∷ 0x00 ∷ 0x00 ∷ 0x00 ∷ 0x00 ∷ 0x00 ∷ 0x00 ∷ 0x00 ∷ 0x05 ∷ 0x00 ∷ 0x00 ∷ 0x00 ∷ 0x00 ∷ []
 
 -- slot 0 asks for the result, Number 9
@@ -258,15 +256,15 @@ ask_server_err = 0x40 ∷ 0x00 ∷ 0x0d ∷ 0x0c ∷ 0x00 ∷ 0x00 ∷ 0x00 ∷ 
 
 -- ---- the files
 
-unfoldable pub joined : List (List ℕ) → List ℕ
+joined : List (List ℕ) → List ℕ
 joined [] = []
 joined (x ∷ xs) = x ++ joined xs
 
-unfoldable pub file : List (List ℕ) → List ℕ
+file : List (List ℕ) → List ℕ
 file xs = joined xs ++ last_field
 
 -- 37 bytes
-unfoldable pub late_config : List ℕ
+late_config : List ℕ
 late_config = file (first_field ∷ client ∷ server ∷ operation ∷ [])
 
 areas_config : List ℕ
@@ -288,7 +286,7 @@ pub record Row : Type 0 where
   pub line : Line
 
 -- (a) the late plan
-unfoldable pub late : Row
+pub late : Row
 late = record { config = late_config; recording = file (spawn_client ∷ call_seven ∷ spawn_server ∷ wait_fifty ∷ times_out ∷ back_late ∷ ask_timeout ∷ []); line = Accepted 7 }
 
 -- (b) the same recording with a lie in it: the client says that it got the plan
@@ -323,7 +321,7 @@ pub table : List Row
 table = late ∷ false_claim ∷ wait_too_long ∷ in_time ∷ no_call ∷ call_twice ∷ exit_below ∷ send_third ∷ []
 
 pub late-plans : map (λ (x : Row). line_of x.config x.recording) table ≡ map (λ (x : Row). x.line) table
-unfolding all_of all_below any_below sum_below mask_below first_below each_below shifted place_filled filled is_void is_payload is_kind is_mask is_good same_value runnable_conf_in add_runnable_conf variable_conf_in add_variable_conf area_conf_in add_area_conf required_conf_in add_required_conf provided_conf_in add_provided_conf link_in add_link operation_conf_in add_operation_conf timer_conf_in add_timer_conf data_event_in add_data_event return_event_in add_return_event no_config no_requests no_runnable no_values no_element no_stack no_slot no_runnables runnable_in with_runnable no_variables variable_in with_variable no_areas area_in with_area no_elements element_in with_element no_operations operation_in with_operation no_timers timer_in with_timer no_slots slot_in with_slot push_request first_request rest_requests push_value first_value rest_values push_area top_area pop_area start_variable start_element start_runnables start_variables start_elements start_of max_of count_of places_of entry_of placed in_range names_there is_server is_queued rises rises_at pairs_well entry_fault is_no_entry place_sound kind_sound config_sound is_no_client client_fits requests_sound values_sound runnable_sound variable_sound is_stored element_sound is_outcome calling_sound done_sound operation_sound timer_sound waits_well life_sound owed_sound area_fits stack_sound is_no_slot slot_sound of_runnable slots_of count_sound times_in holders area_sound is_client queued_as served_as clients_as client_sound queued_sound served_sound called_sound waits_on waiters_of waiter_sound runnables_sound variables_sound elements_sound operations_sound timers_sound slots_sound counts_sound areas_sound clients_sound waiters_sound shaped sound_of rows row_of argues formed part_there queues_as part_own asks_synchronous finished_lets failed_lets life_lets owned_refusal instance_refusal scheduler_refusal refusal_by refusal_of read_variable_of write_variable_of enter_of on_top exit_of read_of updated_of linked accepts fed_element fed_elements feeds is_fed fed_runnables fed write_of invalidate_of is_full full_mask sent_of send_of receive_of requests_full caller_after called call_of poll_of collect_of result_of closing returns is_returned returned_runnables closed answers hand_back_of timeout_of end_of is_due may_spawn starting instance_of is_empty_at lowest_empty found_empty spawned spawn_of tick_of operation_lets timer_lets operations_let timers_let operation_after operations_after timers_after runnables_after all_let waited wait_of fail_of act_of possible_of agrees claimed_of inner_of step_of values_good tested step_in end_in field_of size_of entry_read in_order head_of body_fault refused_at read_from config_of judge_from judge_of judge_text_of old_of is_misheaded is_short rest_of judged_line read_line line_of first_field last_field client server operation area queue sender link spawn_client spawn_server call_seven call_again wait_fifty wait_longer times_out back_late back_in_time ask_timeout ask_nine ask_void enter_first enter_second exit_first send_one send_two send_three receive_one receive_two receive_none joined file late_config areas_config queue_config late false_claim wait_too_long in_time no_call call_twice exit_below send_third table is_edition parts_sound has_step marks_invalid top_of most_pending one_more is_no_awaited awaits_well is_no_life is_no_owed is_no_stack ends_waiting waiting_lets held_well asks_waiting slot_lets slots_let slots_after hold_of give_up_of whole_from whole_of nothing observe history_from history_of time_of time_in named_there listed_there lists_of has_room lists_well has_field lists_elements listed_below size_in listed_in add_listed copied_sound copies_sound copy_sound has_copy is_no_copy copies_in copy_in lists_at first_listed handed_elements handed_runnables cleared copied_elements copied_into no_copied no_copies
+unfolding all_of all_below any_below sum_below mask_below first_below each_below shifted place_filled filled is_void is_payload is_kind is_mask is_good same_value runnable_conf_in add_runnable_conf variable_conf_in add_variable_conf area_conf_in add_area_conf required_conf_in add_required_conf provided_conf_in add_provided_conf link_in add_link operation_conf_in add_operation_conf timer_conf_in add_timer_conf data_event_in add_data_event return_event_in add_return_event no_config no_requests no_runnable no_values no_element no_stack no_slot no_runnables runnable_in with_runnable no_variables variable_in with_variable no_areas area_in with_area no_elements element_in with_element no_operations operation_in with_operation no_timers timer_in with_timer no_slots slot_in with_slot push_request first_request rest_requests push_value first_value rest_values push_area top_area pop_area start_variable start_element start_runnables start_variables start_elements start_of max_of count_of places_of entry_of placed in_range names_there is_server is_queued rises rises_at pairs_well entry_fault is_no_entry place_sound kind_sound config_sound is_no_client client_fits requests_sound values_sound runnable_sound variable_sound is_stored element_sound is_outcome calling_sound done_sound operation_sound timer_sound waits_well life_sound owed_sound area_fits stack_sound is_no_slot slot_sound of_runnable slots_of count_sound times_in holders area_sound is_client queued_as served_as clients_as client_sound queued_sound served_sound called_sound waits_on waiters_of waiter_sound runnables_sound variables_sound elements_sound operations_sound timers_sound slots_sound counts_sound areas_sound clients_sound waiters_sound shaped sound_of rows row_of argues formed part_there queues_as part_own asks_synchronous finished_lets failed_lets life_lets owned_refusal instance_refusal scheduler_refusal refusal_by refusal_of read_variable_of write_variable_of enter_of on_top exit_of read_of updated_of linked accepts fed_element fed_elements feeds is_fed fed_runnables fed write_of invalidate_of is_full full_mask sent_of send_of receive_of requests_full caller_after called call_of poll_of collect_of result_of closing returns is_returned returned_runnables closed answers hand_back_of timeout_of end_of is_due may_spawn starting instance_of is_empty_at lowest_empty found_empty spawned spawn_of tick_of operation_lets timer_lets operations_let timers_let operation_after operations_after timers_after runnables_after all_let waited wait_of fail_of act_of possible_of agrees claimed_of inner_of step_of values_good tested step_in end_in field_of size_of entry_read in_order head_of body_fault refused_at read_from config_of judge_from judge_of rest_of judged_line read_line line_of first_field last_field client server operation area queue sender link spawn_client spawn_server call_seven call_again wait_fifty wait_longer times_out back_late back_in_time ask_timeout ask_nine ask_void enter_first enter_second exit_first send_one send_two send_three receive_one receive_two receive_none joined file late_config areas_config queue_config late false_claim wait_too_long in_time no_call call_twice exit_below send_third table is_edition parts_sound has_step marks_invalid top_of most_pending one_more is_no_awaited awaits_well is_no_life is_no_owed is_no_stack ends_waiting waiting_lets held_well asks_waiting slot_lets slots_let slots_after hold_of give_up_of whole_from whole_of nothing observe history_from history_of time_of time_in named_there listed_there lists_of has_room lists_well has_field lists_elements listed_below size_in listed_in add_listed copied_sound copies_sound copy_sound has_copy is_no_copy copies_in copy_in lists_at first_listed handed_elements handed_runnables cleared copied_elements copied_into no_copied no_copies
 late-plans = refl
 
 -- ---- the calls of two rows, followed
@@ -351,12 +349,12 @@ pub histories : map followed (late ∷ in_time ∷ []) ≡
       endings = record { on = 0; call = 2; at = 4; how = by_instance 2 (number_v 9) } ∷ [];
     }
     ∷ []
-unfolding all_of all_below any_below sum_below mask_below first_below each_below shifted place_filled filled is_void is_payload is_kind is_mask is_good same_value runnable_conf_in add_runnable_conf variable_conf_in add_variable_conf area_conf_in add_area_conf required_conf_in add_required_conf provided_conf_in add_provided_conf link_in add_link operation_conf_in add_operation_conf timer_conf_in add_timer_conf data_event_in add_data_event return_event_in add_return_event no_config no_requests no_runnable no_values no_element no_stack no_slot no_runnables runnable_in with_runnable no_variables variable_in with_variable no_areas area_in with_area no_elements element_in with_element no_operations operation_in with_operation no_timers timer_in with_timer no_slots slot_in with_slot push_request first_request rest_requests push_value first_value rest_values push_area top_area pop_area start_variable start_element start_runnables start_variables start_elements start_of max_of count_of places_of entry_of placed in_range names_there is_server is_queued rises rises_at pairs_well entry_fault is_no_entry place_sound kind_sound config_sound is_no_client client_fits requests_sound values_sound runnable_sound variable_sound is_stored element_sound is_outcome calling_sound done_sound operation_sound timer_sound waits_well life_sound owed_sound area_fits stack_sound is_no_slot slot_sound of_runnable slots_of count_sound times_in holders area_sound is_client queued_as served_as clients_as client_sound queued_sound served_sound called_sound waits_on waiters_of waiter_sound runnables_sound variables_sound elements_sound operations_sound timers_sound slots_sound counts_sound areas_sound clients_sound waiters_sound shaped sound_of rows row_of argues formed part_there queues_as part_own asks_synchronous finished_lets failed_lets life_lets owned_refusal instance_refusal scheduler_refusal refusal_by refusal_of read_variable_of write_variable_of enter_of on_top exit_of read_of updated_of linked accepts fed_element fed_elements feeds is_fed fed_runnables fed write_of invalidate_of is_full full_mask sent_of send_of receive_of requests_full caller_after called call_of poll_of collect_of result_of closing returns is_returned returned_runnables closed answers hand_back_of timeout_of end_of is_due may_spawn starting instance_of is_empty_at lowest_empty found_empty spawned spawn_of tick_of operation_lets timer_lets operations_let timers_let operation_after operations_after timers_after runnables_after all_let waited wait_of fail_of act_of possible_of agrees claimed_of inner_of step_of values_good tested step_in end_in field_of size_of entry_read in_order head_of body_fault refused_at read_from config_of judge_from judge_of judge_text_of old_of is_misheaded is_short rest_of judged_line read_line line_of first_field last_field client server operation area queue sender link spawn_client spawn_server call_seven call_again wait_fifty wait_longer times_out back_late back_in_time ask_timeout ask_nine ask_void enter_first enter_second exit_first send_one send_two send_three receive_one receive_two receive_none joined file late_config areas_config queue_config late false_claim wait_too_long in_time no_call call_twice exit_below send_third table whole_from whole_of nothing observe history_from history_of followed is_edition parts_sound has_step marks_invalid top_of most_pending one_more is_no_awaited awaits_well is_no_life is_no_owed is_no_stack ends_waiting waiting_lets held_well asks_waiting slot_lets slots_let slots_after hold_of give_up_of time_of time_in named_there listed_there lists_of has_room lists_well has_field lists_elements listed_below size_in listed_in add_listed copied_sound copies_sound copy_sound has_copy is_no_copy copies_in copy_in lists_at first_listed handed_elements handed_runnables cleared copied_elements copied_into no_copied no_copies
+unfolding all_of all_below any_below sum_below mask_below first_below each_below shifted place_filled filled is_void is_payload is_kind is_mask is_good same_value runnable_conf_in add_runnable_conf variable_conf_in add_variable_conf area_conf_in add_area_conf required_conf_in add_required_conf provided_conf_in add_provided_conf link_in add_link operation_conf_in add_operation_conf timer_conf_in add_timer_conf data_event_in add_data_event return_event_in add_return_event no_config no_requests no_runnable no_values no_element no_stack no_slot no_runnables runnable_in with_runnable no_variables variable_in with_variable no_areas area_in with_area no_elements element_in with_element no_operations operation_in with_operation no_timers timer_in with_timer no_slots slot_in with_slot push_request first_request rest_requests push_value first_value rest_values push_area top_area pop_area start_variable start_element start_runnables start_variables start_elements start_of max_of count_of places_of entry_of placed in_range names_there is_server is_queued rises rises_at pairs_well entry_fault is_no_entry place_sound kind_sound config_sound is_no_client client_fits requests_sound values_sound runnable_sound variable_sound is_stored element_sound is_outcome calling_sound done_sound operation_sound timer_sound waits_well life_sound owed_sound area_fits stack_sound is_no_slot slot_sound of_runnable slots_of count_sound times_in holders area_sound is_client queued_as served_as clients_as client_sound queued_sound served_sound called_sound waits_on waiters_of waiter_sound runnables_sound variables_sound elements_sound operations_sound timers_sound slots_sound counts_sound areas_sound clients_sound waiters_sound shaped sound_of rows row_of argues formed part_there queues_as part_own asks_synchronous finished_lets failed_lets life_lets owned_refusal instance_refusal scheduler_refusal refusal_by refusal_of read_variable_of write_variable_of enter_of on_top exit_of read_of updated_of linked accepts fed_element fed_elements feeds is_fed fed_runnables fed write_of invalidate_of is_full full_mask sent_of send_of receive_of requests_full caller_after called call_of poll_of collect_of result_of closing returns is_returned returned_runnables closed answers hand_back_of timeout_of end_of is_due may_spawn starting instance_of is_empty_at lowest_empty found_empty spawned spawn_of tick_of operation_lets timer_lets operations_let timers_let operation_after operations_after timers_after runnables_after all_let waited wait_of fail_of act_of possible_of agrees claimed_of inner_of step_of values_good tested step_in end_in field_of size_of entry_read in_order head_of body_fault refused_at read_from config_of judge_from judge_of rest_of judged_line read_line line_of first_field last_field client server operation area queue sender link spawn_client spawn_server call_seven call_again wait_fifty wait_longer times_out back_late back_in_time ask_timeout ask_nine ask_void enter_first enter_second exit_first send_one send_two send_three receive_one receive_two receive_none joined file late_config areas_config queue_config late false_claim wait_too_long in_time no_call call_twice exit_below send_third table whole_from whole_of nothing observe history_from history_of followed is_edition parts_sound has_step marks_invalid top_of most_pending one_more is_no_awaited awaits_well is_no_life is_no_owed is_no_stack ends_waiting waiting_lets held_well asks_waiting slot_lets slots_let slots_after hold_of give_up_of time_of time_in named_there listed_there lists_of has_room lists_well has_field lists_elements listed_below size_in listed_in add_listed copied_sound copies_sound copy_sound has_copy is_no_copy copies_in copy_in lists_at first_listed handed_elements handed_runnables cleared copied_elements copied_into no_copied no_copies
 histories = refl
 
 -- (a) the waits from the call at place 2 to the timeout add up to 50
 pub fifty-waited : time_since 2 (take 4 (steps_in late.recording)) ≡ 50
-unfolding all_of all_below any_below sum_below mask_below first_below each_below shifted place_filled filled is_void is_payload is_kind is_mask is_good same_value runnable_conf_in add_runnable_conf variable_conf_in add_variable_conf area_conf_in add_area_conf required_conf_in add_required_conf provided_conf_in add_provided_conf link_in add_link operation_conf_in add_operation_conf timer_conf_in add_timer_conf data_event_in add_data_event return_event_in add_return_event no_config no_requests no_runnable no_values no_element no_stack no_slot no_runnables runnable_in with_runnable no_variables variable_in with_variable no_areas area_in with_area no_elements element_in with_element no_operations operation_in with_operation no_timers timer_in with_timer no_slots slot_in with_slot push_request first_request rest_requests push_value first_value rest_values push_area top_area pop_area start_variable start_element start_runnables start_variables start_elements start_of max_of count_of places_of entry_of placed in_range names_there is_server is_queued rises rises_at pairs_well entry_fault is_no_entry place_sound kind_sound config_sound is_no_client client_fits requests_sound values_sound runnable_sound variable_sound is_stored element_sound is_outcome calling_sound done_sound operation_sound timer_sound waits_well life_sound owed_sound area_fits stack_sound is_no_slot slot_sound of_runnable slots_of count_sound times_in holders area_sound is_client queued_as served_as clients_as client_sound queued_sound served_sound called_sound waits_on waiters_of waiter_sound runnables_sound variables_sound elements_sound operations_sound timers_sound slots_sound counts_sound areas_sound clients_sound waiters_sound shaped sound_of rows row_of argues formed part_there queues_as part_own asks_synchronous finished_lets failed_lets life_lets owned_refusal instance_refusal scheduler_refusal refusal_by refusal_of read_variable_of write_variable_of enter_of on_top exit_of read_of updated_of linked accepts fed_element fed_elements feeds is_fed fed_runnables fed write_of invalidate_of is_full full_mask sent_of send_of receive_of requests_full caller_after called call_of poll_of collect_of result_of closing returns is_returned returned_runnables closed answers hand_back_of timeout_of end_of is_due may_spawn starting instance_of is_empty_at lowest_empty found_empty spawned spawn_of tick_of operation_lets timer_lets operations_let timers_let operation_after operations_after timers_after runnables_after all_let waited wait_of fail_of act_of possible_of agrees claimed_of inner_of step_of values_good tested step_in end_in field_of size_of entry_read in_order head_of body_fault refused_at read_from config_of judge_from judge_of judge_text_of old_of is_misheaded is_short rest_of judged_line read_line line_of first_field last_field client server operation area queue sender link spawn_client spawn_server call_seven call_again wait_fifty wait_longer times_out back_late back_in_time ask_timeout ask_nine ask_void enter_first enter_second exit_first send_one send_two send_three receive_one receive_two receive_none joined file late_config areas_config queue_config late false_claim wait_too_long in_time no_call call_twice exit_below send_third table whole_from whole_of time_of time_in is_edition parts_sound has_step marks_invalid top_of most_pending one_more is_no_awaited awaits_well is_no_life is_no_owed is_no_stack ends_waiting waiting_lets held_well asks_waiting slot_lets slots_let slots_after hold_of give_up_of nothing observe history_from history_of named_there listed_there lists_of has_room lists_well has_field lists_elements listed_below size_in listed_in add_listed copied_sound copies_sound copy_sound has_copy is_no_copy copies_in copy_in lists_at first_listed handed_elements handed_runnables cleared copied_elements copied_into no_copied no_copies
+unfolding all_of all_below any_below sum_below mask_below first_below each_below shifted place_filled filled is_void is_payload is_kind is_mask is_good same_value runnable_conf_in add_runnable_conf variable_conf_in add_variable_conf area_conf_in add_area_conf required_conf_in add_required_conf provided_conf_in add_provided_conf link_in add_link operation_conf_in add_operation_conf timer_conf_in add_timer_conf data_event_in add_data_event return_event_in add_return_event no_config no_requests no_runnable no_values no_element no_stack no_slot no_runnables runnable_in with_runnable no_variables variable_in with_variable no_areas area_in with_area no_elements element_in with_element no_operations operation_in with_operation no_timers timer_in with_timer no_slots slot_in with_slot push_request first_request rest_requests push_value first_value rest_values push_area top_area pop_area start_variable start_element start_runnables start_variables start_elements start_of max_of count_of places_of entry_of placed in_range names_there is_server is_queued rises rises_at pairs_well entry_fault is_no_entry place_sound kind_sound config_sound is_no_client client_fits requests_sound values_sound runnable_sound variable_sound is_stored element_sound is_outcome calling_sound done_sound operation_sound timer_sound waits_well life_sound owed_sound area_fits stack_sound is_no_slot slot_sound of_runnable slots_of count_sound times_in holders area_sound is_client queued_as served_as clients_as client_sound queued_sound served_sound called_sound waits_on waiters_of waiter_sound runnables_sound variables_sound elements_sound operations_sound timers_sound slots_sound counts_sound areas_sound clients_sound waiters_sound shaped sound_of rows row_of argues formed part_there queues_as part_own asks_synchronous finished_lets failed_lets life_lets owned_refusal instance_refusal scheduler_refusal refusal_by refusal_of read_variable_of write_variable_of enter_of on_top exit_of read_of updated_of linked accepts fed_element fed_elements feeds is_fed fed_runnables fed write_of invalidate_of is_full full_mask sent_of send_of receive_of requests_full caller_after called call_of poll_of collect_of result_of closing returns is_returned returned_runnables closed answers hand_back_of timeout_of end_of is_due may_spawn starting instance_of is_empty_at lowest_empty found_empty spawned spawn_of tick_of operation_lets timer_lets operations_let timers_let operation_after operations_after timers_after runnables_after all_let waited wait_of fail_of act_of possible_of agrees claimed_of inner_of step_of values_good tested step_in end_in field_of size_of entry_read in_order head_of body_fault refused_at read_from config_of judge_from judge_of rest_of judged_line read_line line_of first_field last_field client server operation area queue sender link spawn_client spawn_server call_seven call_again wait_fifty wait_longer times_out back_late back_in_time ask_timeout ask_nine ask_void enter_first enter_second exit_first send_one send_two send_three receive_one receive_two receive_none joined file late_config areas_config queue_config late false_claim wait_too_long in_time no_call call_twice exit_below send_third table whole_from whole_of time_of time_in is_edition parts_sound has_step marks_invalid top_of most_pending one_more is_no_awaited awaits_well is_no_life is_no_owed is_no_stack ends_waiting waiting_lets held_well asks_waiting slot_lets slots_let slots_after hold_of give_up_of nothing observe history_from history_of named_there listed_there lists_of has_room lists_well has_field lists_elements listed_below size_in listed_in add_listed copied_sound copies_sound copy_sound has_copy is_no_copy copies_in copy_in lists_at first_listed handed_elements handed_runnables cleared copied_elements copied_into no_copied no_copies
 fifty-waited = refl
 
 -- ---- full queues (W-201)
@@ -396,7 +394,7 @@ pub full_table : List Row
 full_table = send_third ∷ send_older ∷ send_wrong ∷ send_bare ∷ send_high ∷ send_soon ∷ call_wrong ∷ send_four ∷ []
 
 pub full-queues : map (λ (x : Row). line_of x.config x.recording) full_table ≡ map (λ (x : Row). x.line) full_table
-unfolding all_of all_below any_below sum_below mask_below first_below each_below shifted place_filled filled is_void is_payload is_kind is_mask is_good same_value runnable_conf_in add_runnable_conf variable_conf_in add_variable_conf area_conf_in add_area_conf required_conf_in add_required_conf provided_conf_in add_provided_conf link_in add_link operation_conf_in add_operation_conf timer_conf_in add_timer_conf data_event_in add_data_event return_event_in add_return_event no_config no_requests no_runnable no_values no_element no_stack no_slot no_runnables runnable_in with_runnable no_variables variable_in with_variable no_areas area_in with_area no_elements element_in with_element no_operations operation_in with_operation no_timers timer_in with_timer no_slots slot_in with_slot push_request first_request rest_requests push_value first_value rest_values push_area top_area pop_area start_variable start_element start_runnables start_variables start_elements start_of max_of count_of places_of entry_of placed in_range names_there is_server is_queued rises rises_at pairs_well entry_fault is_no_entry place_sound kind_sound config_sound is_no_client client_fits requests_sound values_sound runnable_sound variable_sound is_stored element_sound is_outcome calling_sound done_sound operation_sound timer_sound waits_well life_sound owed_sound area_fits stack_sound is_no_slot slot_sound of_runnable slots_of count_sound times_in holders area_sound is_client queued_as served_as clients_as client_sound queued_sound served_sound called_sound waits_on waiters_of waiter_sound runnables_sound variables_sound elements_sound operations_sound timers_sound slots_sound counts_sound areas_sound clients_sound waiters_sound shaped sound_of rows row_of argues formed part_there queues_as part_own asks_synchronous finished_lets failed_lets life_lets owned_refusal instance_refusal scheduler_refusal refusal_by refusal_of read_variable_of write_variable_of enter_of on_top exit_of read_of updated_of linked accepts fed_element fed_elements feeds is_fed fed_runnables fed write_of invalidate_of is_full full_mask sent_of send_of receive_of requests_full caller_after called call_of poll_of collect_of result_of closing returns is_returned returned_runnables closed answers hand_back_of timeout_of end_of is_due may_spawn starting instance_of is_empty_at lowest_empty found_empty spawned spawn_of tick_of operation_lets timer_lets operations_let timers_let operation_after operations_after timers_after runnables_after all_let waited wait_of fail_of act_of possible_of agrees claimed_of inner_of step_of values_good tested step_in end_in field_of size_of entry_read in_order head_of body_fault refused_at read_from config_of judge_from judge_of judge_text_of old_of is_misheaded is_short rest_of judged_line read_line line_of first_field last_field client server operation queue sender link scale link_second link_fourth link_third spawn_client call_seven call_full send_one send_two send_three send_limit send_other send_nothing send_beyond send_early send_aside send_all take_second send_again take_again receive_one receive_two receive_none joined file late_config queue_config scales_config send_third send_older send_wrong send_bare send_high send_soon call_wrong send_four full_table is_edition parts_sound has_step marks_invalid top_of most_pending one_more is_no_awaited awaits_well is_no_life is_no_owed is_no_stack ends_waiting waiting_lets held_well asks_waiting slot_lets slots_let slots_after hold_of give_up_of whole_from whole_of nothing observe history_from history_of time_of time_in named_there listed_there lists_of has_room lists_well has_field lists_elements listed_below size_in listed_in add_listed copied_sound copies_sound copy_sound has_copy is_no_copy copies_in copy_in lists_at first_listed handed_elements handed_runnables cleared copied_elements copied_into no_copied no_copies
+unfolding all_of all_below any_below sum_below mask_below first_below each_below shifted place_filled filled is_void is_payload is_kind is_mask is_good same_value runnable_conf_in add_runnable_conf variable_conf_in add_variable_conf area_conf_in add_area_conf required_conf_in add_required_conf provided_conf_in add_provided_conf link_in add_link operation_conf_in add_operation_conf timer_conf_in add_timer_conf data_event_in add_data_event return_event_in add_return_event no_config no_requests no_runnable no_values no_element no_stack no_slot no_runnables runnable_in with_runnable no_variables variable_in with_variable no_areas area_in with_area no_elements element_in with_element no_operations operation_in with_operation no_timers timer_in with_timer no_slots slot_in with_slot push_request first_request rest_requests push_value first_value rest_values push_area top_area pop_area start_variable start_element start_runnables start_variables start_elements start_of max_of count_of places_of entry_of placed in_range names_there is_server is_queued rises rises_at pairs_well entry_fault is_no_entry place_sound kind_sound config_sound is_no_client client_fits requests_sound values_sound runnable_sound variable_sound is_stored element_sound is_outcome calling_sound done_sound operation_sound timer_sound waits_well life_sound owed_sound area_fits stack_sound is_no_slot slot_sound of_runnable slots_of count_sound times_in holders area_sound is_client queued_as served_as clients_as client_sound queued_sound served_sound called_sound waits_on waiters_of waiter_sound runnables_sound variables_sound elements_sound operations_sound timers_sound slots_sound counts_sound areas_sound clients_sound waiters_sound shaped sound_of rows row_of argues formed part_there queues_as part_own asks_synchronous finished_lets failed_lets life_lets owned_refusal instance_refusal scheduler_refusal refusal_by refusal_of read_variable_of write_variable_of enter_of on_top exit_of read_of updated_of linked accepts fed_element fed_elements feeds is_fed fed_runnables fed write_of invalidate_of is_full full_mask sent_of send_of receive_of requests_full caller_after called call_of poll_of collect_of result_of closing returns is_returned returned_runnables closed answers hand_back_of timeout_of end_of is_due may_spawn starting instance_of is_empty_at lowest_empty found_empty spawned spawn_of tick_of operation_lets timer_lets operations_let timers_let operation_after operations_after timers_after runnables_after all_let waited wait_of fail_of act_of possible_of agrees claimed_of inner_of step_of values_good tested step_in end_in field_of size_of entry_read in_order head_of body_fault refused_at read_from config_of judge_from judge_of rest_of judged_line read_line line_of first_field last_field client server operation queue sender link scale link_second link_fourth link_third spawn_client call_seven call_full send_one send_two send_three send_limit send_other send_nothing send_beyond send_early send_aside send_all take_second send_again take_again receive_one receive_two receive_none joined file late_config queue_config scales_config send_third send_older send_wrong send_bare send_high send_soon call_wrong send_four full_table is_edition parts_sound has_step marks_invalid top_of most_pending one_more is_no_awaited awaits_well is_no_life is_no_owed is_no_stack ends_waiting waiting_lets held_well asks_waiting slot_lets slots_let slots_after hold_of give_up_of whole_from whole_of nothing observe history_from history_of time_of time_in named_there listed_there lists_of has_room lists_well has_field lists_elements listed_below size_in listed_in add_listed copied_sound copies_sound copy_sound has_copy is_no_copy copies_in copy_in lists_at first_listed handed_elements handed_runnables cleared copied_elements copied_into no_copied no_copies
 full-queues = refl
 
 -- ---- the two editions
@@ -439,7 +437,7 @@ edition_table =
     ∷ []
 
 pub both-editions : map (λ (x : Row). line_of x.config x.recording) edition_table ≡ map (λ (x : Row). x.line) edition_table
-unfolding all_of all_below any_below sum_below mask_below first_below each_below shifted place_filled filled is_void is_payload is_kind is_mask is_good same_value runnable_conf_in add_runnable_conf variable_conf_in add_variable_conf area_conf_in add_area_conf required_conf_in add_required_conf provided_conf_in add_provided_conf link_in add_link operation_conf_in add_operation_conf timer_conf_in add_timer_conf data_event_in add_data_event return_event_in add_return_event no_config no_requests no_runnable no_values no_element no_stack no_slot no_runnables runnable_in with_runnable no_variables variable_in with_variable no_areas area_in with_area no_elements element_in with_element no_operations operation_in with_operation no_timers timer_in with_timer no_slots slot_in with_slot push_request first_request rest_requests push_value first_value rest_values push_area top_area pop_area start_variable start_element start_runnables start_variables start_elements start_of max_of count_of places_of entry_of placed in_range names_there is_server is_queued rises rises_at pairs_well entry_fault is_no_entry place_sound kind_sound config_sound is_no_client client_fits requests_sound values_sound runnable_sound variable_sound is_stored element_sound is_outcome calling_sound done_sound operation_sound timer_sound waits_well life_sound owed_sound area_fits stack_sound is_no_slot slot_sound of_runnable slots_of count_sound times_in holders area_sound is_client queued_as served_as clients_as client_sound queued_sound served_sound called_sound waits_on waiters_of waiter_sound runnables_sound variables_sound elements_sound operations_sound timers_sound slots_sound counts_sound areas_sound clients_sound waiters_sound shaped sound_of rows row_of argues formed part_there queues_as part_own asks_synchronous finished_lets failed_lets life_lets owned_refusal instance_refusal scheduler_refusal refusal_by refusal_of read_variable_of write_variable_of enter_of on_top exit_of read_of updated_of linked accepts fed_element fed_elements feeds is_fed fed_runnables fed write_of invalidate_of is_full full_mask sent_of send_of receive_of requests_full caller_after called call_of poll_of collect_of result_of closing returns is_returned returned_runnables closed answers hand_back_of timeout_of end_of is_due may_spawn starting instance_of is_empty_at lowest_empty found_empty spawned spawn_of tick_of operation_lets timer_lets operations_let timers_let operation_after operations_after timers_after runnables_after all_let waited wait_of fail_of act_of possible_of agrees claimed_of inner_of step_of values_good tested step_in end_in field_of size_of entry_read in_order head_of body_fault refused_at read_from config_of judge_from judge_of judge_text_of old_of is_misheaded is_short rest_of judged_line read_line line_of first_field last_field client server operation queue sender link scale link_second link_fourth link_third spawn_client call_seven call_full send_one send_two send_three send_limit send_other send_nothing send_beyond send_early send_aside send_all take_second send_again take_again receive_one receive_two receive_none joined file late_config queue_config scales_config send_third send_older send_wrong send_bare send_high send_soon call_wrong send_four full_table is_edition parts_sound has_step marks_invalid board painter edition_config marks reads_invalid marks_nothing marks_with edition_table top_of most_pending one_more is_no_awaited awaits_well is_no_life is_no_owed is_no_stack ends_waiting waiting_lets held_well asks_waiting slot_lets slots_let slots_after hold_of give_up_of whole_from whole_of nothing observe history_from history_of time_of time_in named_there listed_there lists_of has_room lists_well has_field lists_elements listed_below size_in listed_in add_listed copied_sound copies_sound copy_sound has_copy is_no_copy copies_in copy_in lists_at first_listed handed_elements handed_runnables cleared copied_elements copied_into no_copied no_copies
+unfolding all_of all_below any_below sum_below mask_below first_below each_below shifted place_filled filled is_void is_payload is_kind is_mask is_good same_value runnable_conf_in add_runnable_conf variable_conf_in add_variable_conf area_conf_in add_area_conf required_conf_in add_required_conf provided_conf_in add_provided_conf link_in add_link operation_conf_in add_operation_conf timer_conf_in add_timer_conf data_event_in add_data_event return_event_in add_return_event no_config no_requests no_runnable no_values no_element no_stack no_slot no_runnables runnable_in with_runnable no_variables variable_in with_variable no_areas area_in with_area no_elements element_in with_element no_operations operation_in with_operation no_timers timer_in with_timer no_slots slot_in with_slot push_request first_request rest_requests push_value first_value rest_values push_area top_area pop_area start_variable start_element start_runnables start_variables start_elements start_of max_of count_of places_of entry_of placed in_range names_there is_server is_queued rises rises_at pairs_well entry_fault is_no_entry place_sound kind_sound config_sound is_no_client client_fits requests_sound values_sound runnable_sound variable_sound is_stored element_sound is_outcome calling_sound done_sound operation_sound timer_sound waits_well life_sound owed_sound area_fits stack_sound is_no_slot slot_sound of_runnable slots_of count_sound times_in holders area_sound is_client queued_as served_as clients_as client_sound queued_sound served_sound called_sound waits_on waiters_of waiter_sound runnables_sound variables_sound elements_sound operations_sound timers_sound slots_sound counts_sound areas_sound clients_sound waiters_sound shaped sound_of rows row_of argues formed part_there queues_as part_own asks_synchronous finished_lets failed_lets life_lets owned_refusal instance_refusal scheduler_refusal refusal_by refusal_of read_variable_of write_variable_of enter_of on_top exit_of read_of updated_of linked accepts fed_element fed_elements feeds is_fed fed_runnables fed write_of invalidate_of is_full full_mask sent_of send_of receive_of requests_full caller_after called call_of poll_of collect_of result_of closing returns is_returned returned_runnables closed answers hand_back_of timeout_of end_of is_due may_spawn starting instance_of is_empty_at lowest_empty found_empty spawned spawn_of tick_of operation_lets timer_lets operations_let timers_let operation_after operations_after timers_after runnables_after all_let waited wait_of fail_of act_of possible_of agrees claimed_of inner_of step_of values_good tested step_in end_in field_of size_of entry_read in_order head_of body_fault refused_at read_from config_of judge_from judge_of rest_of judged_line read_line line_of first_field last_field client server operation queue sender link scale link_second link_fourth link_third spawn_client call_seven call_full send_one send_two send_three send_limit send_other send_nothing send_beyond send_early send_aside send_all take_second send_again take_again receive_one receive_two receive_none joined file late_config queue_config scales_config send_third send_older send_wrong send_bare send_high send_soon call_wrong send_four full_table is_edition parts_sound has_step marks_invalid board painter edition_config marks reads_invalid marks_nothing marks_with edition_table top_of most_pending one_more is_no_awaited awaits_well is_no_life is_no_owed is_no_stack ends_waiting waiting_lets held_well asks_waiting slot_lets slots_let slots_after hold_of give_up_of whole_from whole_of nothing observe history_from history_of time_of time_in named_there listed_there lists_of has_room lists_well has_field lists_elements listed_below size_in listed_in add_listed copied_sound copies_sound copy_sound has_copy is_no_copy copies_in copy_in lists_at first_listed handed_elements handed_runnables cleared copied_elements copied_into no_copied no_copies
 both-editions = refl
 
 -- ---- pending activations (W-212): the two traces of the source's section V, without the counting flag and with it
@@ -498,7 +496,7 @@ pub triggered_table : List Row
 triggered_table = in_turn receiver ∷ in_turn counter ∷ together receiver ∷ together counter ∷ lost_one ∷ counts_both ∷ counts_no_more ∷ counter_serves ∷ flag_beyond ∷ []
 
 pub counted-activations : map (λ (x : Row). line_of x.config x.recording) triggered_table ≡ map (λ (x : Row). x.line) triggered_table
-unfolding all_of all_below any_below sum_below mask_below first_below each_below shifted place_filled filled is_void is_payload is_kind is_mask is_good same_value runnable_conf_in add_runnable_conf variable_conf_in add_variable_conf area_conf_in add_area_conf required_conf_in add_required_conf provided_conf_in add_provided_conf link_in add_link operation_conf_in add_operation_conf timer_conf_in add_timer_conf data_event_in add_data_event return_event_in add_return_event no_config no_requests no_runnable no_values no_element no_stack no_slot no_runnables runnable_in with_runnable no_variables variable_in with_variable no_areas area_in with_area no_elements element_in with_element no_operations operation_in with_operation no_timers timer_in with_timer no_slots slot_in with_slot push_request first_request rest_requests push_value first_value rest_values push_area top_area pop_area start_variable start_element start_runnables start_variables start_elements start_of max_of count_of places_of entry_of placed in_range names_there is_server is_queued rises rises_at pairs_well entry_fault is_no_entry place_sound kind_sound config_sound is_no_client client_fits requests_sound values_sound top_of most_pending runnable_sound variable_sound is_stored element_sound is_outcome calling_sound done_sound operation_sound timer_sound waits_well life_sound owed_sound area_fits stack_sound is_no_slot slot_sound of_runnable slots_of count_sound times_in holders area_sound is_client queued_as served_as clients_as client_sound queued_sound served_sound called_sound waits_on waiters_of waiter_sound runnables_sound variables_sound elements_sound operations_sound timers_sound slots_sound counts_sound areas_sound clients_sound waiters_sound shaped sound_of rows row_of argues formed part_there queues_as part_own asks_synchronous finished_lets failed_lets life_lets owned_refusal instance_refusal scheduler_refusal refusal_by refusal_of read_variable_of write_variable_of enter_of on_top exit_of read_of updated_of linked accepts fed_element fed_elements one_more feeds is_fed fed_runnables fed write_of invalidate_of is_full full_mask sent_of send_of receive_of requests_full caller_after called call_of poll_of collect_of result_of closing returns is_returned returned_runnables closed answers hand_back_of timeout_of end_of is_due may_spawn starting instance_of is_empty_at lowest_empty found_empty spawned spawn_of tick_of operation_lets timer_lets operations_let timers_let operation_after operations_after timers_after runnables_after all_let waited wait_of fail_of act_of possible_of agrees claimed_of inner_of step_of values_good tested step_in end_in field_of size_of entry_read in_order head_of body_fault refused_at read_from config_of judge_from judge_of judge_text_of old_of is_misheaded is_short rest_of judged_line read_line line_of first_field last_field client queue sender link spawn_client spawn_server send_one send_two receiver counter event spawn_next spawn_third joined file triggered_config in_turn together lost_one counts_both counts_no_more counter_serves flag_beyond triggered_table is_edition parts_sound has_step marks_invalid is_no_awaited awaits_well is_no_life is_no_owed is_no_stack ends_waiting waiting_lets held_well asks_waiting slot_lets slots_let slots_after hold_of give_up_of whole_from whole_of nothing observe history_from history_of time_of time_in named_there listed_there lists_of has_room lists_well has_field lists_elements listed_below size_in listed_in add_listed copied_sound copies_sound copy_sound has_copy is_no_copy copies_in copy_in lists_at first_listed handed_elements handed_runnables cleared copied_elements copied_into no_copied no_copies
+unfolding all_of all_below any_below sum_below mask_below first_below each_below shifted place_filled filled is_void is_payload is_kind is_mask is_good same_value runnable_conf_in add_runnable_conf variable_conf_in add_variable_conf area_conf_in add_area_conf required_conf_in add_required_conf provided_conf_in add_provided_conf link_in add_link operation_conf_in add_operation_conf timer_conf_in add_timer_conf data_event_in add_data_event return_event_in add_return_event no_config no_requests no_runnable no_values no_element no_stack no_slot no_runnables runnable_in with_runnable no_variables variable_in with_variable no_areas area_in with_area no_elements element_in with_element no_operations operation_in with_operation no_timers timer_in with_timer no_slots slot_in with_slot push_request first_request rest_requests push_value first_value rest_values push_area top_area pop_area start_variable start_element start_runnables start_variables start_elements start_of max_of count_of places_of entry_of placed in_range names_there is_server is_queued rises rises_at pairs_well entry_fault is_no_entry place_sound kind_sound config_sound is_no_client client_fits requests_sound values_sound top_of most_pending runnable_sound variable_sound is_stored element_sound is_outcome calling_sound done_sound operation_sound timer_sound waits_well life_sound owed_sound area_fits stack_sound is_no_slot slot_sound of_runnable slots_of count_sound times_in holders area_sound is_client queued_as served_as clients_as client_sound queued_sound served_sound called_sound waits_on waiters_of waiter_sound runnables_sound variables_sound elements_sound operations_sound timers_sound slots_sound counts_sound areas_sound clients_sound waiters_sound shaped sound_of rows row_of argues formed part_there queues_as part_own asks_synchronous finished_lets failed_lets life_lets owned_refusal instance_refusal scheduler_refusal refusal_by refusal_of read_variable_of write_variable_of enter_of on_top exit_of read_of updated_of linked accepts fed_element fed_elements one_more feeds is_fed fed_runnables fed write_of invalidate_of is_full full_mask sent_of send_of receive_of requests_full caller_after called call_of poll_of collect_of result_of closing returns is_returned returned_runnables closed answers hand_back_of timeout_of end_of is_due may_spawn starting instance_of is_empty_at lowest_empty found_empty spawned spawn_of tick_of operation_lets timer_lets operations_let timers_let operation_after operations_after timers_after runnables_after all_let waited wait_of fail_of act_of possible_of agrees claimed_of inner_of step_of values_good tested step_in end_in field_of size_of entry_read in_order head_of body_fault refused_at read_from config_of judge_from judge_of rest_of judged_line read_line line_of first_field last_field client queue sender link spawn_client spawn_server send_one send_two receiver counter event spawn_next spawn_third joined file triggered_config in_turn together lost_one counts_both counts_no_more counter_serves flag_beyond triggered_table is_edition parts_sound has_step marks_invalid is_no_awaited awaits_well is_no_life is_no_owed is_no_stack ends_waiting waiting_lets held_well asks_waiting slot_lets slots_let slots_after hold_of give_up_of whole_from whole_of nothing observe history_from history_of time_of time_in named_there listed_there lists_of has_room lists_well has_field lists_elements listed_below size_in listed_in add_listed copied_sound copies_sound copy_sound has_copy is_no_copy copies_in copy_in lists_at first_listed handed_elements handed_runnables cleared copied_elements copied_into no_copied no_copies
 counted-activations = refl
 
 -- ---- a crane that fails
@@ -531,7 +529,7 @@ pub crane_table : List Row
 crane_table = crane_in_time ∷ crane_too_late ∷ crane_number ∷ crane_enters_failed ∷ []
 
 pub failing-cranes : map (λ (x : Row). line_of x.config x.recording) crane_table ≡ map (λ (x : Row). x.line) crane_table
-unfolding all_of all_below any_below sum_below mask_below first_below each_below shifted place_filled filled is_void is_payload is_kind is_mask is_good same_value runnable_conf_in add_runnable_conf variable_conf_in add_variable_conf area_conf_in add_area_conf required_conf_in add_required_conf provided_conf_in add_provided_conf link_in add_link operation_conf_in add_operation_conf timer_conf_in add_timer_conf data_event_in add_data_event return_event_in add_return_event no_config no_requests no_runnable no_values no_element no_stack no_slot no_runnables runnable_in with_runnable no_variables variable_in with_variable no_areas area_in with_area no_elements element_in with_element no_operations operation_in with_operation no_timers timer_in with_timer no_slots slot_in with_slot push_request first_request rest_requests push_value first_value rest_values push_area top_area pop_area start_variable start_element start_runnables start_variables start_elements start_of max_of count_of places_of entry_of placed in_range names_there is_server is_queued rises rises_at pairs_well entry_fault is_no_entry place_sound kind_sound config_sound is_no_client client_fits requests_sound values_sound runnable_sound variable_sound is_stored element_sound is_outcome calling_sound done_sound operation_sound timer_sound waits_well life_sound owed_sound area_fits stack_sound is_no_slot slot_sound of_runnable slots_of count_sound times_in holders area_sound is_client queued_as served_as clients_as client_sound queued_sound served_sound called_sound waits_on waiters_of waiter_sound runnables_sound variables_sound elements_sound operations_sound timers_sound slots_sound counts_sound areas_sound clients_sound waiters_sound shaped sound_of rows row_of argues formed part_there queues_as part_own asks_synchronous finished_lets failed_lets life_lets owned_refusal instance_refusal scheduler_refusal refusal_by refusal_of read_variable_of write_variable_of enter_of on_top exit_of read_of updated_of linked accepts fed_element fed_elements feeds is_fed fed_runnables fed write_of invalidate_of is_full full_mask sent_of send_of receive_of requests_full caller_after called call_of poll_of collect_of result_of closing returns is_returned returned_runnables closed answers hand_back_of timeout_of end_of is_due may_spawn starting instance_of is_empty_at lowest_empty found_empty spawned spawn_of tick_of operation_lets timer_lets operations_let timers_let operation_after operations_after timers_after runnables_after all_let waited wait_of fail_of act_of possible_of agrees claimed_of inner_of step_of values_good tested step_in end_in field_of size_of entry_read in_order head_of body_fault refused_at read_from config_of judge_from judge_of judge_text_of old_of is_misheaded is_short rest_of judged_line read_line line_of first_field last_field client server operation area queue sender link spawn_client spawn_server call_seven call_again wait_fifty wait_longer times_out back_late back_in_time ask_timeout ask_nine ask_void enter_first enter_second exit_first send_one send_two send_three receive_one receive_two receive_none crane_area crane_enters_first crane_enters_second crane_fails crane_back crane_back_late crane_exits_second crane_exits_first crane_ends ask_server_err joined file late_config areas_config queue_config crane_config crane_in_time crane_too_late crane_number crane_enters_failed crane_table is_edition parts_sound has_step marks_invalid top_of most_pending one_more is_no_awaited awaits_well is_no_life is_no_owed is_no_stack ends_waiting waiting_lets held_well asks_waiting slot_lets slots_let slots_after hold_of give_up_of whole_from whole_of nothing observe history_from history_of time_of time_in named_there listed_there lists_of has_room lists_well has_field lists_elements listed_below size_in listed_in add_listed copied_sound copies_sound copy_sound has_copy is_no_copy copies_in copy_in lists_at first_listed handed_elements handed_runnables cleared copied_elements copied_into no_copied no_copies
+unfolding all_of all_below any_below sum_below mask_below first_below each_below shifted place_filled filled is_void is_payload is_kind is_mask is_good same_value runnable_conf_in add_runnable_conf variable_conf_in add_variable_conf area_conf_in add_area_conf required_conf_in add_required_conf provided_conf_in add_provided_conf link_in add_link operation_conf_in add_operation_conf timer_conf_in add_timer_conf data_event_in add_data_event return_event_in add_return_event no_config no_requests no_runnable no_values no_element no_stack no_slot no_runnables runnable_in with_runnable no_variables variable_in with_variable no_areas area_in with_area no_elements element_in with_element no_operations operation_in with_operation no_timers timer_in with_timer no_slots slot_in with_slot push_request first_request rest_requests push_value first_value rest_values push_area top_area pop_area start_variable start_element start_runnables start_variables start_elements start_of max_of count_of places_of entry_of placed in_range names_there is_server is_queued rises rises_at pairs_well entry_fault is_no_entry place_sound kind_sound config_sound is_no_client client_fits requests_sound values_sound runnable_sound variable_sound is_stored element_sound is_outcome calling_sound done_sound operation_sound timer_sound waits_well life_sound owed_sound area_fits stack_sound is_no_slot slot_sound of_runnable slots_of count_sound times_in holders area_sound is_client queued_as served_as clients_as client_sound queued_sound served_sound called_sound waits_on waiters_of waiter_sound runnables_sound variables_sound elements_sound operations_sound timers_sound slots_sound counts_sound areas_sound clients_sound waiters_sound shaped sound_of rows row_of argues formed part_there queues_as part_own asks_synchronous finished_lets failed_lets life_lets owned_refusal instance_refusal scheduler_refusal refusal_by refusal_of read_variable_of write_variable_of enter_of on_top exit_of read_of updated_of linked accepts fed_element fed_elements feeds is_fed fed_runnables fed write_of invalidate_of is_full full_mask sent_of send_of receive_of requests_full caller_after called call_of poll_of collect_of result_of closing returns is_returned returned_runnables closed answers hand_back_of timeout_of end_of is_due may_spawn starting instance_of is_empty_at lowest_empty found_empty spawned spawn_of tick_of operation_lets timer_lets operations_let timers_let operation_after operations_after timers_after runnables_after all_let waited wait_of fail_of act_of possible_of agrees claimed_of inner_of step_of values_good tested step_in end_in field_of size_of entry_read in_order head_of body_fault refused_at read_from config_of judge_from judge_of rest_of judged_line read_line line_of first_field last_field client server operation area queue sender link spawn_client spawn_server call_seven call_again wait_fifty wait_longer times_out back_late back_in_time ask_timeout ask_nine ask_void enter_first enter_second exit_first send_one send_two send_three receive_one receive_two receive_none crane_area crane_enters_first crane_enters_second crane_fails crane_back crane_back_late crane_exits_second crane_exits_first crane_ends ask_server_err joined file late_config areas_config queue_config crane_config crane_in_time crane_too_late crane_number crane_enters_failed crane_table is_edition parts_sound has_step marks_invalid top_of most_pending one_more is_no_awaited awaits_well is_no_life is_no_owed is_no_stack ends_waiting waiting_lets held_well asks_waiting slot_lets slots_let slots_after hold_of give_up_of whole_from whole_of nothing observe history_from history_of time_of time_in named_there listed_there lists_of has_room lists_well has_field lists_elements listed_below size_in listed_in add_listed copied_sound copies_sound copy_sound has_copy is_no_copy copies_in copy_in lists_at first_listed handed_elements handed_runnables cleared copied_elements copied_into no_copied no_copies
 failing-cranes = refl
 
 -- (i) the call at place 2 was ended at place 7 by the failure of the instance spawned for it. (j) it was ended by the timeout at place 8, and by nothing else
@@ -553,5 +551,5 @@ pub failing-histories : map followed (crane_in_time ∷ crane_too_late ∷ []) �
       endings = record { on = 0; call = 2; at = 8; how = by_timeout } ∷ [];
     }
     ∷ []
-unfolding all_of all_below any_below sum_below mask_below first_below each_below shifted place_filled filled is_void is_payload is_kind is_mask is_good same_value runnable_conf_in add_runnable_conf variable_conf_in add_variable_conf area_conf_in add_area_conf required_conf_in add_required_conf provided_conf_in add_provided_conf link_in add_link operation_conf_in add_operation_conf timer_conf_in add_timer_conf data_event_in add_data_event return_event_in add_return_event no_config no_requests no_runnable no_values no_element no_stack no_slot no_runnables runnable_in with_runnable no_variables variable_in with_variable no_areas area_in with_area no_elements element_in with_element no_operations operation_in with_operation no_timers timer_in with_timer no_slots slot_in with_slot push_request first_request rest_requests push_value first_value rest_values push_area top_area pop_area start_variable start_element start_runnables start_variables start_elements start_of max_of count_of places_of entry_of placed in_range names_there is_server is_queued rises rises_at pairs_well entry_fault is_no_entry place_sound kind_sound config_sound is_no_client client_fits requests_sound values_sound runnable_sound variable_sound is_stored element_sound is_outcome calling_sound done_sound operation_sound timer_sound waits_well life_sound owed_sound area_fits stack_sound is_no_slot slot_sound of_runnable slots_of count_sound times_in holders area_sound is_client queued_as served_as clients_as client_sound queued_sound served_sound called_sound waits_on waiters_of waiter_sound runnables_sound variables_sound elements_sound operations_sound timers_sound slots_sound counts_sound areas_sound clients_sound waiters_sound shaped sound_of rows row_of argues formed part_there queues_as part_own asks_synchronous finished_lets failed_lets life_lets owned_refusal instance_refusal scheduler_refusal refusal_by refusal_of read_variable_of write_variable_of enter_of on_top exit_of read_of updated_of linked accepts fed_element fed_elements feeds is_fed fed_runnables fed write_of invalidate_of is_full full_mask sent_of send_of receive_of requests_full caller_after called call_of poll_of collect_of result_of closing returns is_returned returned_runnables closed answers hand_back_of timeout_of end_of is_due may_spawn starting instance_of is_empty_at lowest_empty found_empty spawned spawn_of tick_of operation_lets timer_lets operations_let timers_let operation_after operations_after timers_after runnables_after all_let waited wait_of fail_of act_of possible_of agrees claimed_of inner_of step_of values_good tested step_in end_in field_of size_of entry_read in_order head_of body_fault refused_at read_from config_of judge_from judge_of judge_text_of old_of is_misheaded is_short rest_of judged_line read_line line_of first_field last_field client server operation area queue sender link spawn_client spawn_server call_seven call_again wait_fifty wait_longer times_out back_late back_in_time ask_timeout ask_nine ask_void enter_first enter_second exit_first send_one send_two send_three receive_one receive_two receive_none crane_area crane_enters_first crane_enters_second crane_fails crane_back crane_back_late crane_exits_second crane_exits_first crane_ends ask_server_err joined file late_config areas_config queue_config crane_config crane_in_time crane_too_late crane_number crane_enters_failed crane_table whole_from whole_of nothing observe history_from history_of followed is_edition parts_sound has_step marks_invalid top_of most_pending one_more is_no_awaited awaits_well is_no_life is_no_owed is_no_stack ends_waiting waiting_lets held_well asks_waiting slot_lets slots_let slots_after hold_of give_up_of time_of time_in named_there listed_there lists_of has_room lists_well has_field lists_elements listed_below size_in listed_in add_listed copied_sound copies_sound copy_sound has_copy is_no_copy copies_in copy_in lists_at first_listed handed_elements handed_runnables cleared copied_elements copied_into no_copied no_copies
+unfolding all_of all_below any_below sum_below mask_below first_below each_below shifted place_filled filled is_void is_payload is_kind is_mask is_good same_value runnable_conf_in add_runnable_conf variable_conf_in add_variable_conf area_conf_in add_area_conf required_conf_in add_required_conf provided_conf_in add_provided_conf link_in add_link operation_conf_in add_operation_conf timer_conf_in add_timer_conf data_event_in add_data_event return_event_in add_return_event no_config no_requests no_runnable no_values no_element no_stack no_slot no_runnables runnable_in with_runnable no_variables variable_in with_variable no_areas area_in with_area no_elements element_in with_element no_operations operation_in with_operation no_timers timer_in with_timer no_slots slot_in with_slot push_request first_request rest_requests push_value first_value rest_values push_area top_area pop_area start_variable start_element start_runnables start_variables start_elements start_of max_of count_of places_of entry_of placed in_range names_there is_server is_queued rises rises_at pairs_well entry_fault is_no_entry place_sound kind_sound config_sound is_no_client client_fits requests_sound values_sound runnable_sound variable_sound is_stored element_sound is_outcome calling_sound done_sound operation_sound timer_sound waits_well life_sound owed_sound area_fits stack_sound is_no_slot slot_sound of_runnable slots_of count_sound times_in holders area_sound is_client queued_as served_as clients_as client_sound queued_sound served_sound called_sound waits_on waiters_of waiter_sound runnables_sound variables_sound elements_sound operations_sound timers_sound slots_sound counts_sound areas_sound clients_sound waiters_sound shaped sound_of rows row_of argues formed part_there queues_as part_own asks_synchronous finished_lets failed_lets life_lets owned_refusal instance_refusal scheduler_refusal refusal_by refusal_of read_variable_of write_variable_of enter_of on_top exit_of read_of updated_of linked accepts fed_element fed_elements feeds is_fed fed_runnables fed write_of invalidate_of is_full full_mask sent_of send_of receive_of requests_full caller_after called call_of poll_of collect_of result_of closing returns is_returned returned_runnables closed answers hand_back_of timeout_of end_of is_due may_spawn starting instance_of is_empty_at lowest_empty found_empty spawned spawn_of tick_of operation_lets timer_lets operations_let timers_let operation_after operations_after timers_after runnables_after all_let waited wait_of fail_of act_of possible_of agrees claimed_of inner_of step_of values_good tested step_in end_in field_of size_of entry_read in_order head_of body_fault refused_at read_from config_of judge_from judge_of rest_of judged_line read_line line_of first_field last_field client server operation area queue sender link spawn_client spawn_server call_seven call_again wait_fifty wait_longer times_out back_late back_in_time ask_timeout ask_nine ask_void enter_first enter_second exit_first send_one send_two send_three receive_one receive_two receive_none crane_area crane_enters_first crane_enters_second crane_fails crane_back crane_back_late crane_exits_second crane_exits_first crane_ends ask_server_err joined file late_config areas_config queue_config crane_config crane_in_time crane_too_late crane_number crane_enters_failed crane_table whole_from whole_of nothing observe history_from history_of followed is_edition parts_sound has_step marks_invalid top_of most_pending one_more is_no_awaited awaits_well is_no_life is_no_owed is_no_stack ends_waiting waiting_lets held_well asks_waiting slot_lets slots_let slots_after hold_of give_up_of time_of time_in named_there listed_there lists_of has_room lists_well has_field lists_elements listed_below size_in listed_in add_listed copied_sound copies_sound copy_sound has_copy is_no_copy copies_in copy_in lists_at first_listed handed_elements handed_runnables cleared copied_elements copied_into no_copied no_copies
 failing-histories = refl

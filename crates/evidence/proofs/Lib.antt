@@ -1,4 +1,3 @@
--- The worked examples: states near a sound one, and the late plan, in both forms.
+-- The worked examples: states near a sound one, and the late plan.
 pub mod Examples
 pub mod Late
-pub mod Short

@@ -1,6 +1,5 @@
 // A field that can't be read: of a recording (18) or of a configuration (21 to 26). Where it stands, its bytes, and what was expected.
 use crate::putting::{byte_at, put, put_bytes, put_number, put_with, say, show};
-use crate::short::{say_short, start_of};
 use crate::words::put_kind;
 use values::Value;
 
@@ -14,8 +13,10 @@ fn put_whose(out: &mut [u8], at: usize, argument: bool) -> usize {
 }
 
 fn put_bad(out: &mut [u8], at: usize, kind: u8, number: u32) -> usize {
-    if is_no_kind(kind) {
-        return put(out, at, b"; the kinds of values are 0 to 9.\n");
+    if is_bad(kind, 1) {
+        if is_bad(kind, 0) {
+            return put(out, at, b"; the kinds of values are 0 to 9.\n");
+        }
     }
     let a = put_with(out, at, b" and has the number ", number as u64);
     if kind == 8 {
@@ -28,14 +29,6 @@ fn put_bad(out: &mut [u8], at: usize, kind: u8, number: u32) -> usize {
     )
 }
 
-// A kind that no value has.
-pub(crate) fn is_no_kind(kind: u8) -> bool {
-    if is_bad(kind, 1) {
-        return is_bad(kind, 0);
-    }
-    false
-}
-
 fn is_bad(kind: u8, number: u32) -> bool {
     let v = Value {
         kind: kind,
@@ -44,7 +37,7 @@ fn is_bad(kind: u8, number: u32) -> bool {
     !v.is_good()
 }
 
-pub(crate) fn say_value(kind: u8, number: u32, argument: bool) {
+fn say_value(kind: u8, number: u32, argument: bool) {
     if is_bad(kind, number) {
         let mut line = [0u8; 256];
         let a = put_whose(&mut line, 0, argument);
@@ -55,12 +48,15 @@ pub(crate) fn say_value(kind: u8, number: u32, argument: bool) {
 }
 
 // A step field with all its bytes: one of its values is bad.
-fn say_step(t: &[u8]) {
-    say_value(byte_at(t, 6), byte_number(t, 7), true);
-    say_value(byte_at(t, 11), byte_number(t, 12), false);
+fn say_step(s: &[u8], from: usize) {
+    if 65536 < from {
+        return;
+    }
+    say_value(byte_at(s, from + 6), byte_number(s, from + 7), true);
+    say_value(byte_at(s, from + 11), byte_number(s, from + 12), false);
 }
 
-pub(crate) fn byte_number(s: &[u8], at: usize) -> u32 {
+fn byte_number(s: &[u8], at: usize) -> u32 {
     if 70000 < at {
         return 0;
     }
@@ -82,31 +78,49 @@ fn say_length(tag: u8, said: usize, want: usize) {
     show(&line, at);
 }
 
-// The end field is not the end.
-fn say_end(size: usize) {
-    if size == 0 {
+// What is wrong with the field of a recording at a place of the text.
+fn say_field(s: &[u8], from: usize) {
+    if 65536 < from {
+        return;
+    }
+    if s.len() < from {
+        return;
+    }
+    let left = s.len() - from;
+    if left == 0 {
         say(
-            b"The end field stands here, and more bytes follow it: two recordings in one file, or one sent twice?\n",
+            b"The file ends here, without the end field (7f 00 00): it was cut off, or its end was never written.\n",
         );
         return;
     }
-    say_length(0x7f, size, 0);
-}
-
-// What is wrong with a field of the old form that is not the end.
-fn say_old(t: &[u8], tag: u8, size: usize) {
+    if left < 3 {
+        say(b"The file ends in the middle of a field's head: it was cut off.\n");
+        return;
+    }
+    let tag = byte_at(s, from);
+    let size = wire::length_of(byte_at(s, from + 1), byte_at(s, from + 2));
     if tag == 0x40 {
         if size == 13 {
-            if t.len() < 16 {
+            if left < 16 {
                 say(
                     b"The file ends in the middle of this step, which has 16 bytes: it was cut off.\n",
                 );
                 return;
             }
-            say_step(t);
+            say_step(s, from);
             return;
         }
         say_length(0x40, size, 13);
+        return;
+    }
+    if tag == 0x7f {
+        if size == 0 {
+            say(
+                b"The end field stands here, and more bytes follow it: two recordings in one file, or one sent twice?\n",
+            );
+            return;
+        }
+        say_length(0x7f, size, 0);
         return;
     }
     say(
@@ -114,51 +128,12 @@ fn say_old(t: &[u8], tag: u8, size: usize) {
     );
 }
 
-// What is wrong with the field at the front of a text of one of the forms.
-fn say_front(t: &[u8], short: bool) {
-    if t.len() == 0 {
-        say(
-            b"The file ends here, without the end field (7f 00 00): it was cut off, or its end was never written.\n",
-        );
+// The damaged field of a recording behind so many accepted steps.
+pub(crate) fn show_recording(s: &[u8], steps: usize, place: usize) {
+    if 4096 < steps {
         return;
     }
-    if t.len() < 3 {
-        say(b"The file ends in the middle of a field's head: it was cut off.\n");
-        return;
-    }
-    let tag = byte_at(t, 0);
-    let size = wire::length_of(byte_at(t, 1), byte_at(t, 2));
-    if tag == 0x7f {
-        say_end(size);
-    } else if short {
-        say_short(t, tag, size);
-    } else {
-        say_old(t, tag, size);
-    }
-}
-
-// What is wrong with the field of a recording at a place of the file.
-fn say_field(s: &[u8], from: usize) {
-    if from <= s.len() {
-        say_front(&s[from..], forms::is_short(s));
-    }
-}
-
-// What a field of a recording is.
-fn say_expected(short: bool) {
-    if short {
-        say(
-            b"Expected: 41, two bytes of length, and as many bytes (code, who, what, argument, claim, but for those that the code does not use), or the end 7f 00 00 and nothing behind it.\n",
-        );
-        return;
-    }
-    say(
-        b"Expected: 40 00 0d and 13 bytes (code, who, what, argument, claim), or the end 7f 00 00 and nothing behind it.\n",
-    );
-}
-
-// The bytes from the field at a place on.
-fn show_bytes(s: &[u8], from: usize, place: usize) {
+    let from = steps * 16;
     let mut line = [0u8; 512];
     let mut at = put_with(&mut line, 0, b"\nIn the file: field ", place as u64);
     at = put_with(&mut line, at, b", byte ", from as u64);
@@ -167,14 +142,10 @@ fn show_bytes(s: &[u8], from: usize, place: usize) {
     at = put_bytes(&mut line, at, s, from, s.len());
     at = put(&mut line, at, b"\n");
     show(&line, at);
-}
-
-// The damaged field of a recording behind so many accepted steps.
-pub(crate) fn show_recording(s: &[u8], steps: usize, place: usize) {
-    let from = start_of(s, steps);
-    show_bytes(s, from, place);
     say_field(s, from);
-    say_expected(forms::is_short(s));
+    say(
+        b"Expected: 40 00 0d and 13 bytes (code, who, what, argument, claim), or the end 7f 00 00 and nothing behind it.\n",
+    );
 }
 
 // ---- a configuration
@@ -457,33 +428,29 @@ fn put_field(out: &mut [u8], at: usize, s: &[u8], from: usize, end: usize) -> us
     put_bytes(out, c, s, from, end)
 }
 
-// What is wrong with a field of a configuration.
-fn put_wrong(out: &mut [u8], s: &[u8], from: usize, place: usize, k: u8) -> usize {
-    let mut at = put_with(out, 0, b"CONFIGURATION refused at field ", place as u64);
-    at = put_with(out, at, b", by rule ", k as u64);
-    at = put(out, at, b". Nothing was judged.\nWhy: ");
-    at = put_fault(out, at, k);
-    at = put(out, at, b".");
-    put_detail(out, at, s, from, k)
-}
-
-// Where it stands.
-fn put_there(out: &mut [u8], at: usize, s: &[u8], from: usize) -> usize {
-    let end = next_field(s, from);
-    let a = put_with(out, at, b"\nIn the file: byte ", from as u64);
-    let b = put_with(out, a, b" of ", s.len() as u64);
-    let c = put(out, b, b" (counted from 0)");
-    put_field(out, c, s, from, end)
-}
-
 // The refused field of a configuration.
 pub(crate) fn show_config(s: &[u8], place: usize, k: u8) {
     let from = field_start(s, place);
+    let end = next_field(s, from);
+    let tag = byte_at(s, from);
     let mut line = [0u8; 2048];
-    let mut at = put_wrong(&mut line, s, from, place, k);
-    at = put_there(&mut line, at, s, from);
+    let mut at = put_with(
+        &mut line,
+        0,
+        b"CONFIGURATION refused at field ",
+        place as u64,
+    );
+    at = put_with(&mut line, at, b", by rule ", k as u64);
+    at = put(&mut line, at, b". Nothing was judged.\nWhy: ");
+    at = put_fault(&mut line, at, k);
+    at = put(&mut line, at, b".");
+    at = put_detail(&mut line, at, s, from, k);
+    at = put_with(&mut line, at, b"\nIn the file: byte ", from as u64);
+    at = put_with(&mut line, at, b" of ", s.len() as u64);
+    at = put(&mut line, at, b" (counted from 0)");
+    at = put_field(&mut line, at, s, from, end);
     at = put(&mut line, at, b"\nExpected: ");
-    at = put_form(&mut line, at, byte_at(s, from));
+    at = put_form(&mut line, at, tag);
     at = put(&mut line, at, b".\n");
     show(&line, at);
 }

@@ -8,7 +8,6 @@ mod page;
 mod putting;
 mod reasons;
 mod sections;
-mod short;
 mod table;
 mod words;
 
@@ -24,14 +23,12 @@ use state::State;
 use table::{Focus, Plan, Walk, Widths};
 use values::{Step, Value};
 use whys::Cause;
-use wire::Wrote;
 
-// What the call asks for, and whether the recording is of the short form.
+// What the call asks for.
 #[derive(Drop)]
 struct Asked {
     all: bool,
     page: bool,
-    short: bool,
 }
 
 // ---- the focus of a refusal
@@ -209,7 +206,6 @@ fn show_table(cfg: Config, names: &[u8], s: &[u8], p: Plan, ops: &[u8]) -> Walk 
 // What stands around the table of a refused step.
 fn show_reasons(
     cfg: Config,
-    file: &[u8],
     s: &[u8],
     names: &[u8],
     a: Asked,
@@ -223,9 +219,8 @@ fn show_reasons(
     start_text(a);
     show_why(names, st, t, focused(focus_of(st, x), c), x, c, k);
     sections::show_allowed(cfg, st, names);
-    sections::show_place(file, place);
+    sections::show_place(s, place);
     sections::show_rest(s, place);
-    show_unread(s, a);
     sections::show_guess(cfg, st, names, x);
     end_text(a);
 }
@@ -257,7 +252,6 @@ fn show_steps(
 // A step that the machine refuses. On a page the reasons stand before the steps, which may be many.
 fn tell_step(
     cfg: Config,
-    file: &[u8],
     s: &[u8],
     names: &[u8],
     a: Asked,
@@ -271,15 +265,15 @@ fn tell_step(
     let t = calls::calls_until(s, steps, ops);
     start_text(a);
     show_verdict(s, names, x, causes::cause_of(cfg, st, x), place, k);
-    end_verdict(a);
+    end_text(a);
     if a.page {
-        show_reasons(cfg, file, s, names, a, t, st, x, place, k);
+        show_reasons(cfg, s, names, a, t, st, x, place, k);
         say(b"<p><a href=\"#x\">To the refused step</a></p>\n");
         show_steps(cfg, s, names, a, ops, st, x, steps, place);
         return;
     }
     show_steps(cfg, s, names, a, ops, st, x, steps, place);
-    show_reasons(cfg, file, s, names, a, t, st, x, place, k);
+    show_reasons(cfg, s, names, a, t, st, x, place, k);
 }
 
 fn start_text(a: Asked) {
@@ -294,31 +288,9 @@ fn end_text(a: Asked) {
     }
 }
 
-// Behind the verdict, in which form the recording is.
-fn end_verdict(a: Asked) {
-    if a.short {
-        say(
-            b"The recording is in the short form (01 00 01 02 in front): a step has only what it uses, and says the same as in the old form.\n\n",
-        );
-    }
-    end_text(a);
-}
-
-// Steps of the short form are counted up to the first field that can't be read.
-fn show_unread(s: &[u8], a: Asked) {
-    if a.short {
-        if s.len() % 16 == 0 {
-            say(
-                b"Behind the steps that are counted here the recording is damaged: there may have been more.\n",
-            );
-        }
-    }
-}
-
 // A field that can't be read, behind the accepted steps.
 fn tell_damaged(
     cfg: Config,
-    file: &[u8],
     s: &[u8],
     names: &[u8],
     a: Asked,
@@ -329,7 +301,7 @@ fn tell_damaged(
     calls::note_operations(cfg, s, steps, ops);
     show_damaged(a, steps, place);
     show_all(cfg, s, names, a, ops, steps);
-    end_damaged(file, a, steps, place);
+    end_damaged(s, a, steps, place);
 }
 
 fn show_damaged(a: Asked, steps: usize, place: usize) {
@@ -344,13 +316,13 @@ fn show_damaged(a: Asked, steps: usize, place: usize) {
     );
     start_text(a);
     show(&line, at);
-    end_verdict(a);
+    end_text(a);
 }
 
-fn end_damaged(file: &[u8], a: Asked, steps: usize, place: usize) {
+fn end_damaged(s: &[u8], a: Asked, steps: usize, place: usize) {
     end_table(a);
     start_text(a);
-    damaged::show_recording(file, steps, place);
+    damaged::show_recording(s, steps, place);
     end_text(a);
 }
 
@@ -390,20 +362,8 @@ fn readable(s: &[u8], most: usize) -> usize {
     k
 }
 
-// A refusal before the first step: of the header, as the start state is sound.
-fn tell_header(file: &[u8], a: Asked, k: u8) {
-    if k == 18 {
-        start_text(a);
-        short::show_header(file);
-        end_text(a);
-        return;
-    }
-    say(b"REFUSED: the first state is not sound.\n");
-}
-
 fn tell_refused(
     cfg: Config,
-    file: &[u8],
     s: &[u8],
     names: &[u8],
     a: Asked,
@@ -412,19 +372,19 @@ fn tell_refused(
     k: u8,
 ) {
     if place == 0 {
-        tell_header(file, a, k);
+        say(b"REFUSED: the first state is not sound.\n");
         return;
     }
     if 4097 < place {
         return;
     }
     if k == 18 {
-        tell_damaged(cfg, file, s, names, a, ops, readable(s, place - 1), place);
+        tell_damaged(cfg, s, names, a, ops, readable(s, place - 1), place);
         return;
     }
     let f = recording::read_field(s, (place - 1) * 16);
     if let Field::Step(x, _) = f {
-        tell_step(cfg, file, s, names, a, ops, x, place - 1, place, k);
+        tell_step(cfg, s, names, a, ops, x, place - 1, place, k);
     }
 }
 
@@ -473,7 +433,7 @@ fn tell_taken(
     let at = put_taken(&mut line, 0, steps, whole);
     start_text(a);
     show(&line, at);
-    end_verdict(a);
+    end_text(a);
     if a.page {
         start_text(a);
         sections::show_calls(cfg, names, s, steps, ops, a.all);
@@ -505,22 +465,13 @@ fn show_all(cfg: Config, s: &[u8], names: &[u8], a: Asked, ops: &[u8], steps: us
 
 // ---- the two files
 
-// A file, and its steps as the old form has them.
-fn tell_line(
-    config: &[u8],
-    file: &[u8],
-    s: &[u8],
-    names: &[u8],
-    a: Asked,
-    ops: &mut [u8],
-    line: Line,
-) {
+fn tell_line(config: &[u8], s: &[u8], names: &[u8], a: Asked, ops: &mut [u8], line: Line) {
     let r = reading::read_config(config);
     let cfg = r.config;
     match line {
         Line::Accepted(n) => tell_taken(cfg, s, names, a, ops, n, true),
         Line::Unfinished(n) => tell_taken(cfg, s, names, a, ops, n, false),
-        Line::Refused(place, k) => tell_refused(cfg, file, s, names, a, ops, place, k),
+        Line::Refused(place, k) => tell_refused(cfg, s, names, a, ops, place, k),
         Line::Configuration(place, k) => tell_config(config, a, place, k),
         Line::TooLong => tell_long(a),
     }
@@ -540,54 +491,13 @@ fn tell_long(a: Asked) {
     end_text(a);
 }
 
-// Of either form: a short recording is stretched, and everything but its bytes is shown by that.
-fn tell_either(config: &[u8], file: &[u8], names: &[u8], a: Asked, line: Line) {
-    let mut ops = [255u8; 4096];
-    if forms::is_short(file) {
-        let b = Asked {
-            all: a.all,
-            page: a.page,
-            short: true,
-        };
-        let mut old = [0u8; short::OLD_ROOM];
-        let n = stretched(file, &mut old);
-        tell_short(config, file, &old, n, names, b, &mut ops, line);
-        return;
-    }
-    tell_line(config, file, file, names, a, &mut ops, line);
-}
-
-// How long the old form of a short recording is, which has room.
-fn stretched(file: &[u8], old: &mut [u8]) -> usize {
-    let w = moving::stretch(file, old);
-    match w {
-        Wrote::To(n) => n,
-        Wrote::Refused(_) => 0,
-    }
-}
-
-// By the first bytes of a buffer.
-fn tell_short(
-    config: &[u8],
-    file: &[u8],
-    old: &[u8],
-    n: usize,
-    names: &[u8],
-    a: Asked,
-    ops: &mut [u8],
-    line: Line,
-) {
-    if n <= old.len() {
-        tell_line(config, file, &old[..n], names, a, ops, line);
-    }
-}
-
 fn tell(config: &[u8], s: &[u8], names: &[u8], a: Asked) {
     let line = judging::line_of(config, s);
     if a.page {
         page::show_top();
     }
-    tell_either(config, s, names, a, line);
+    let mut ops = [255u8; 4096];
+    tell_line(config, s, names, a, &mut ops, line);
     if a.page {
         page::show_end();
     }
@@ -611,7 +521,6 @@ fn asked_of(b: u8) -> Asked {
     Asked {
         all: b == b'a',
         page: b == b'p',
-        short: false,
     }
 }
 

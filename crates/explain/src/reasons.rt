@@ -17,12 +17,6 @@ pub(crate) fn put_rule(out: &mut [u8], at: usize, k: u8) -> usize {
         10 => put(out, at, b"the call is still open"),
         11 => put(out, at, b"it may not start yet"),
         12 => put(out, at, b"no free slot"),
-        _ => put_later_rule(out, at, k),
-    }
-}
-
-fn put_later_rule(out: &mut [u8], at: usize, k: u8) -> usize {
-    match k {
         13 => put(out, at, b"too long a wait"),
         14 => put(out, at, b"too early, or no call open"),
         15 => put(out, at, b"areas are still held"),
@@ -85,8 +79,8 @@ fn put_what_filled(out: &mut [u8], at: usize, s: Step) -> usize {
     put(out, a, b".")
 }
 
-pub(crate) fn put_no_code(out: &mut [u8], at: usize, code: u8) -> usize {
-    let a = put_with(out, at, b"there is no step of code ", code as u64);
+fn put_no_code(out: &mut [u8], at: usize, s: Step) -> usize {
+    let a = put_with(out, at, b"there is no step of code ", s.code as u64);
     put(out, a, b": the codes are 1 to 23.")
 }
 
@@ -470,7 +464,7 @@ fn put_differs(out: &mut [u8], at: usize, names: &[u8], v: Value, s: Step) -> us
 // 2 to 7 and 15.
 fn put_first(out: &mut [u8], at: usize, names: &[u8], s: Step, c: Cause) -> usize {
     match c {
-        Cause::NoCode => put_no_code(out, at, s.code),
+        Cause::NoCode => put_no_code(out, at, s),
         Cause::HasWho => put_who_filled(out, at, s),
         Cause::HasWhat => put_what_filled(out, at, s),
         Cause::BadArgument(k) => put_argued(out, at, k, s),

@@ -1,7 +1,6 @@
 // What stands around the table: what is allowed, where it stands in the file, a guess at what was lost, and the calls of an accepted recording.
 use crate::calls::{Calls, Told, later, waiter};
 use crate::putting::{byte_at, put, put_byte, put_bytes, put_number, put_with, say, show};
-use crate::short::start_of;
 use crate::words::{is_slots, put_answer, put_count, put_deed, put_part, put_slot, put_value};
 use config::Config;
 use gaps::Mended;
@@ -212,16 +211,19 @@ pub(crate) fn show_allowed(cfg: Config, st: State, names: &[u8]) {
 // ---- where it stands
 
 pub(crate) fn show_place(s: &[u8], place: usize) {
+    if 4096 < place {
+        return;
+    }
     if place == 0 {
         return;
     }
-    let from = start_of(s, place - 1);
+    let from = (place - 1) * 16;
     let mut line = [0u8; 512];
     let mut at = put_with(&mut line, 0, b"\nIn the file: field ", place as u64);
     at = put_with(&mut line, at, b" begins at byte ", from as u64);
     at = put_with(&mut line, at, b" of ", s.len() as u64);
     at = put(&mut line, at, b" (counted from 0):");
-    at = put_bytes(&mut line, at, s, from, start_of(s, place));
+    at = put_bytes(&mut line, at, s, from, from + 16);
     at = put(&mut line, at, b"\n");
     show(&line, at);
 }

@@ -67,13 +67,6 @@ fn put_verb(out: &mut [u8], at: usize, code: u8) -> usize {
         12 => put(out, at, b"result"),
         13 => put(out, at, b"hand back"),
         14 => put(out, at, b"end"),
-        _ => put_later(out, at, code),
-    }
-}
-
-// The verbs of the scheduler, and of the codes that were added.
-fn put_later(out: &mut [u8], at: usize, code: u8) -> usize {
-    match code {
         15 => put(out, at, b"spawn"),
         16 => put(out, at, b"timeout"),
         17 => put(out, at, b"tick"),

@@ -5,8 +5,7 @@ use Rattle.faces.specs.Types.{Config}
 use Rattle.state.specs.Start.{start_of}
 use Rattle.entries.specs.Faults.{config_sound}
 use Rattle.recording.specs.Whole.{steps_in, is_sound}
-use Rattle.moving.specs.Old.{old_of}
-use Rattle.judging.specs.Judging.{verdict_form, judge_text_of}
+use Rattle.judging.specs.Judging.{verdict_form, judge_of}
 use Rattle.parts.specs.Parts.{in_parts, joined, EachLong}
 use Rattle.history.specs.Promises.{Demand3}
 
@@ -16,11 +15,11 @@ pub record Kept (cfg : Config) (t : List ℕ) (n : ℕ) : Type 0 where
   pub count : n ≡ length (steps_in t)
   pub demand : Demand3 cfg (steps_in t)
 
--- accepted from the start state of a sound configuration, by whatever allowance, in either form (W-206, recordings of any length; W-207)
+-- accepted from the start state of a sound configuration, by whatever allowance (W-206, recordings of any length)
 abbrev pub AnyLengthKeeps : Type 0
 AnyLengthKeeps =
-    (cfg : Config) (t : List ℕ) (a : ℕ) → config_sound cfg ≡ true → verdict_form (judge_text_of cfg (start_of cfg) t a).verdict ≡ 0
-    → Kept cfg (old_of t) (judge_text_of cfg (start_of cfg) t a).count
+    (cfg : Config) (t : List ℕ) (a : ℕ) → config_sound cfg ≡ true → verdict_form (judge_of cfg (start_of cfg) t a).verdict ≡ 0
+    → Kept cfg t (judge_of cfg (start_of cfg) t a).count
 
 -- accepted in parts of sixteen bytes or more, wherever they are cut and however many they are (W-206, recordings of any length)
 abbrev pub PartsKeep : Type 0

@@ -1,10 +1,6 @@
 // Judging: a recording's verdict with its count and state, and the line that the program prints for two files.
-ghost use Rattle.std.specs.Prelude.{true, ◌≡◌, ◌≤◌, length, drop};
-ghost use Rattle.numbers.specs.Refusals.{not_sound};
-ghost use Rattle.forms.specs.Short.{is_short};
-ghost use Rattle.moving.specs.Old.{field_as, as_old};
-ghost use Rattle.judging.specs.declared.Verdict.TheVariants.{Refused};
-ghost use Rattle.judging.specs.Judging.{judged, judge_from, judge_of, judge_text_of};
+ghost use Rattle.std.specs.Prelude.{◌≡◌};
+ghost use Rattle.judging.specs.Judging.{judged, judge_from, judge_of};
 ghost use Rattle.judging.specs.Line.{allowed, verdict_line, judged_line, line_of};
 ghost use Rattle.state.specs.Start.{start_of};
 ghost use Rattle.effects.specs.Step.{inner_of};
@@ -58,56 +54,21 @@ pub fn judge(cfg: Config, st: State, s: &[u8], allowance: u32) -> Judged
     ensures { result ≡ judge_of cfg st s.now allowance }
 {
     if sound::is_sound(cfg, st) {
-        return judge_sound(cfg, st, s, false, 0, allowance);
+        return judge_sound(cfg, st, s, allowance);
     }
-    unsound(st)
+    given(Verdict::Refused(0, numbers::NOT_SOUND), 0, st)
 }
 
-// Judges a recording of either form from a first state, with an allowance of steps.
-pub fn judge_text(cfg: Config, st: State, s: &[u8], allowance: u32) -> Judged
-    ensures { result ≡ judge_text_of cfg st s.now allowance }
-{
-    if forms::is_short(s) {
-        return judge_short(cfg, st, s, allowance);
-    }
-    judge(cfg, st, s, allowance)
-}
-
-// The same of a text of the short form.
-fn judge_short(cfg: Config, st: State, s: &[u8], allowance: u32) -> Judged
-    requires { is_short s.now ≡ true }
-    ensures { result ≡ judge_text_of cfg st s.now allowance }
-{
-    if sound::is_sound(cfg, st) {
-        if forms::is_headed(s) {
-            return judge_sound(cfg, st, s, true, numbers::SIZE_EDITION, allowance);
-        }
-        return given(Verdict::Refused(0, numbers::BAD_FIELD), 0, st);
-    }
-    unsound(st)
-}
-
-// The field at a place of a text in one of the forms.
-fn field_at(short: bool, s: &[u8], at: usize) -> Field
-    ensures { result ≡ field_as short (drop at s.now) }
-{
-    if short {
-        return forms::read_short(s, at);
-    }
-    recording::read_field(s, at)
-}
-
-// From a state that is known to be sound, and from a place of a text in one of the forms: each field is taken apart before its step is tried, and no step tests the state again.
-fn judge_sound(cfg: Config, st: State, s: &[u8], short: bool, from: usize, allowance: u32) -> Judged
-    requires { from ≤ length s.now }
-    ensures { result ≡ judge_from (inner_of cfg) allowance (as_old short (drop from s.now)) 0 st }
+// The same from a state that is known to be sound: each field is taken apart before its step is tried, and no step tests the state again.
+fn judge_sound(cfg: Config, st: State, s: &[u8], allowance: u32) -> Judged
+    ensures { result ≡ judge_from (inner_of cfg) allowance s.now 0 st }
 {
     let mut reached = st;
     let mut left = allowance;
     let mut count: usize = 0;
-    let mut at: usize = from;
+    let mut at: usize = 0;
     loop {
-        let f = field_at(short, s, at);
+        let f = recording::read_field(s, at);
         let Field::Step(x, size) = f else {
             match f {
                 Field::Refused(past, k) => {
@@ -138,13 +99,6 @@ fn judge_sound(cfg: Config, st: State, s: &[u8], short: bool, from: usize, allow
     }
 }
 
-// What is said where a configuration or a first state is not sound: 1 at place 0, no steps, and the state as it came.
-fn unsound(st: State) -> Judged
-    ensures { result ≡ judged (Refused 0 not_sound) 0 st }
-{
-    given(Verdict::Refused(0, numbers::NOT_SOUND), 0, st)
-}
-
 fn given(verdict: Verdict, count: usize, st: State) -> Judged
     ensures { result ≡ judged verdict count st }
 {
@@ -168,9 +122,9 @@ fn verdict_line(v: Verdict, count: usize) -> Line
 
 // The verdict from the start state, as a line.
 fn judged_line(cfg: Config, s: &[u8]) -> Line
-    ensures { result ≡ judged_line (judge_text_of cfg (start_of cfg) s.now allowed) }
+    ensures { result ≡ judged_line (judge_of cfg (start_of cfg) s.now allowed) }
 {
-    let j = judge_text(cfg, State::start(cfg), s, ALLOWED);
+    let j = judge(cfg, State::start(cfg), s, ALLOWED);
     let v = j.verdict;
     verdict_line(v, j.count)
 }

@@ -1,3 +1,2 @@
 -- What the program for long recordings relies on.
 pub mod Near
-pub mod Window

@@ -16,24 +16,20 @@ fn keep(text: &[u8]) -> bool {
 }
 
 // Mends and prints. The last line is the last to go out: where it is missing, there is no answer.
-fn tell_with(config: &[u8], recording: &[u8], out: &mut [u8], report: &mut [u8]) {
-    let told = mender::mend_files(config, recording, out, report);
-    if let Told::Mended(_, notes, size) = told {
+fn tell(config: &[u8], recording: &[u8]) {
+    let mut out = [0u8; mender::ROOM];
+    let mut report = [0u8; mender::ROOM];
+    let told = mender::mend_files(config, recording, &mut out, &mut report);
+    if let Told::Mended(steps, notes) = told {
+        let size = mender::size_of(steps, &out);
         if keep(&out[..size]) {
-            if mender::print_notes(report, notes) {
+            if mender::print_notes(&report, notes) {
                 mender::print_told(told);
             }
         }
     } else {
         mender::print_told(told);
     }
-}
-
-// The same with room for every mended text and report.
-fn tell(config: &[u8], recording: &[u8]) {
-    let mut out = [0u8; mender::ROOM];
-    let mut report = [0u8; mender::ROOM];
-    tell_with(config, recording, &mut out, &mut report);
 }
 
 fn run(config: &mut [u8], recording: &mut [u8]) {

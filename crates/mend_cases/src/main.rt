@@ -52,24 +52,20 @@ fn sum_of(text: &[u8]) -> u32 {
 }
 
 // The report, the last line and the sum.
-fn tell_with(config: &[u8], recording: &[u8], out: &mut [u8], report: &mut [u8]) {
-    let told = mender::mend_files(config, recording, out, report);
-    if let Told::Mended(_, notes, size) = told {
-        mender::print_notes(report, notes);
+fn tell(config: &[u8], recording: &[u8]) {
+    let mut out = [0u8; mender::ROOM];
+    let mut report = [0u8; mender::ROOM];
+    let told = mender::mend_files(config, recording, &mut out, &mut report);
+    if let Told::Mended(steps, notes) = told {
+        mender::print_notes(&report, notes);
         mender::print_told(told);
+        let size = mender::size_of(steps, &out);
         io::write_all(STDOUT_FILENO, b"sum ");
         io::print_decimal(STDOUT_FILENO, sum_of(&out[..size]) as u64);
         io::write_all(STDOUT_FILENO, b"\n");
     } else {
         mender::print_told(told);
     }
-}
-
-// The same with room for every mended text and report.
-fn tell(config: &[u8], recording: &[u8]) {
-    let mut out = [0u8; mender::ROOM];
-    let mut report = [0u8; mender::ROOM];
-    tell_with(config, recording, &mut out, &mut report);
 }
 
 // One case; whether there was one.

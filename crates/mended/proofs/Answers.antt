@@ -29,8 +29,7 @@ use Rattle.gaps.proofs.Ordered.{passed-before}
 use Rattle.gaps.proofs.Members.{member-at}
 use Rattle.gaps.proofs.Turns.{turns-on}
 use Rattle.mended.specs.Claims.{turns_in, mended, Unfilled, AllMended, Outcome, unsound, unfilled, unread, short, whole, AnswerByCases, RefusalsAreFour}
-use Rattle.gaps.proofs.Each.{turns-each}
-use Rattle.mended.proofs.Walks.{after-append}
+use Rattle.mended.proofs.Walks.{after-append, turns-each}
 use Rattle.mended.proofs.Fills.{turns-accepted}
 
 -- ---- where turns stop

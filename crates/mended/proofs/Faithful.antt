@@ -17,11 +17,12 @@ use Rattle.history.specs.Promises.{Accepted}
 use Rattle.history.proofs.Runs.{of-taken, halves, first}
 use Rattle.gaps.specs.Gaps.{choice, answered, can_fill, fill_of, answered_all, Turn, turn_of, turns_of, state_after, mended_steps}
 use Rattle.gaps.proofs.Turns.{answered-length}
-use Rattle.gaps.proofs.Each.{turns-each, fill-told}
 use Rattle.mended.specs.Claims.{ChoiceOf}
 use Rattle.mended.specs.Faithful.{KeptAreRecorded, Insertable, InsertedAreFew, EachAnswers}
+use Rattle.mended.proofs.Walks.{turns-each}
 use Rattle.mended.proofs.Fills.{turns-accepted}
-use Rattle.mended.proofs.Judged.{mended-done}
+use Rattle.mended.proofs.First.{list-is-all}
+use Rattle.mended.proofs.Judged.{mended-done, found_in}
 
 pub kept-are-recorded : KeptAreRecorded
 kept-are-recorded cfg st t b p n k h = (mended-done cfg st t b p n k h).kept
@@ -55,7 +56,7 @@ module _ (f : State → Step → Stepped) (cfg : Config) where
   pub turn-few : (st : State) (s : Step) → can_fill f cfg st s ≡ true → Few (turn_of f cfg st s)
   turn-few st s h =
       let q = fill_of f cfg st s in
-      let l = fill-told f cfg st s h in
+      let l = (list-is-all cfg q).0 (found_in f cfg st s h) in
       (omega (arith, answered-length f cfg st q, l.0), answered-insertable st q l.1)
 
   pub turns-few : (st : State) (rs : List Step) (t : Turn) → Memᴰ t (turns_of f cfg st rs) → (length t.inserted ≤ 3) × ((x : Step) → Memᴰ x t.inserted → Insertable x)

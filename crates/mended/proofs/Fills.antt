@@ -12,8 +12,7 @@ use Rattle.history.proofs.Runs.{of-taken, taken_of, joined}
 use Rattle.gaps.specs.Gaps.{sequences_of, is_taken, answered, fills, rank_of, can_fill, fill_of, answered_all, state_after, turn_of, turn_steps, turns_of, mended_steps}
 use Rattle.gaps.proofs.Ordered.{passed_is}
 use Rattle.gaps.proofs.Turns.{rank-taken}
-use Rattle.gaps.proofs.Each.{turns-each}
-use Rattle.mended.proofs.Walks.{after-append}
+use Rattle.mended.proofs.Walks.{after-append, turns-each}
 
 -- ---- a step that is taken
 

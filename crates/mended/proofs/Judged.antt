@@ -2,19 +2,22 @@
 -- Assumes nothing.
 use Prim.Native.Nat.{ℕ, suc, ◌+◌, ◌*◌, ◌-◌, ◌≤◌}
 use mathlib.Core.Bool.{true}
-use mathlib.Core.List.{List, [], ◌∷◌, ◌++◌}
-use mathlib.Core.Path.{◌≡◌, refl, ap, ◌∙◌}
+use mathlib.Core.List.{List, [], ◌∷◌, ◌++◌, Memᴰ}
+use mathlib.Core.Logic.{inl, inr}
+use mathlib.Core.Path.{◌≡◌, refl, sym, ap, subst, ◌∙◌}
 use native.Mathlib.Omega.{arith}
 use lib.ListN.{length}
+use borrow.Author.Tests.{ltb-true}
 use Rattle.numbers.specs.Tags.{step_size, end_size}
-use Rattle.faces.specs.Types.{Step, Config, State}
+use Rattle.numbers.specs.Codes.{spawn_code, timeout_code, tick_code}
+use Rattle.faces.specs.Types.{Step, Config, State, Stepped}
 use Rattle.state.specs.Start.{start_of}
 use Rattle.rules.specs.Sound.{sound_of}
 use Rattle.effects.specs.Step.{step_of}
 use Rattle.stays_sound.proofs.Told.{told}
 use Rattle.wire.specs.Bytes.{end_bytes}
 use Rattle.wire.proofs.Laws.{Bytes}
-use Rattle.recording.specs.Recording.{bytes_of}
+use Rattle.recording.specs.Recording.{bytes_of, Recorded}
 use Rattle.recording.specs.Whole.{Whole as Texted, steps_in, is_end, is_sound, text_of, EachRecorded}
 use Rattle.recording.proofs.OneField.{step-reads, end_reads}
 use Rattle.recording.proofs.Texts.{text-reads, steps-recorded}
@@ -24,14 +27,49 @@ use Rattle.judging.proofs.Laws.{ended, went}
 use Rattle.history.specs.Promises.{Accepted}
 use Rattle.history.proofs.Runs.{taken_of}
 use Rattle.gaps.specs.declared.Mended.TheVariants.{Whole}
-use Rattle.gaps.specs.Gaps.{state_after}
+use Rattle.gaps.specs.Gaps.{sequences_of, answered, rank_of, can_fill, fill_of, answered_all, turn_of, turn_steps, turns_of, state_after, mended_steps}
 use Rattle.gaps.specs.Report.{note_count, mend_to, note_size}
-use Rattle.gaps.proofs.Each.{turns-recorded}
+use Rattle.gaps.proofs.Answers.{spawn, timeout, tick, answered-recorded}
+use Rattle.gaps.proofs.Members.{at-member}
 use Rattle.history.proofs.Together.{demand3}
-use Rattle.claims.proofs.Forms.{text-judged, run_short}
-use Rattle.mended.specs.Claims.{turns_in, mended, AllMended, Outcome, unsound, unfilled, unread, short, whole, MendedIsAccepted, MendedInEitherForm, MendedIsRun, MendedKeeps}
+use Rattle.mended.specs.Claims.{turns_in, mended, ChoiceOf, AllMended, Outcome, unsound, unfilled, unread, short, whole, MendedIsAccepted, MendedIsRun, MendedKeeps}
+use Rattle.mended.proofs.Walks.{turns-each}
 use Rattle.mended.proofs.Fills.{turns-accepted}
+use Rattle.mended.proofs.First.{list-is-all}
 use Rattle.mended.proofs.Answers.{answer-by-cases}
+
+-- ---- mended steps can be written down
+
+each_append : (xs ys : List Step) → EachRecorded xs → EachRecorded ys → EachRecorded (xs ++ ys)
+each_append [] ys h g = g
+each_append (x ∷ xs) ys h g = (h.0, each_append xs ys h.1 g)
+
+choice-recorded : (cfg : Config) (st : State) (x : Step) → ChoiceOf cfg x → Recorded (answered cfg st x)
+choice-recorded cfg st x (inl h) = subst (λ (y : Step). Recorded (answered cfg st y)) (sym h.2) (answered-recorded cfg st spawn_code h.0 spawn)
+choice-recorded cfg st x (inr (inl h)) = subst (λ (y : Step). Recorded (answered cfg st y)) (sym h.2) (answered-recorded cfg st timeout_code h.0 timeout)
+choice-recorded cfg st x (inr (inr h)) = subst (λ (y : Step). Recorded (answered cfg st y)) (sym h.2) (answered-recorded cfg st tick_code h.0 tick)
+
+module _ (f : State → Step → Stepped) (cfg : Config) where
+  answered-all-recorded : (st : State) (q : List Step) → ((x : Step) → Memᴰ x q → ChoiceOf cfg x) → EachRecorded (answered_all f cfg st q)
+  unfolding answered_all
+  answered-all-recorded st [] h = tt
+  answered-all-recorded st (x ∷ xs) h = (choice-recorded cfg st x (h x (Memᴰ.head refl)), answered-all-recorded (f st (answered cfg st x)).state xs (λ y m. h y (Memᴰ.tail m)))
+
+  -- the sequence that is found stands in the list
+  pub found_in : (st : State) (s : Step) → can_fill f cfg st s ≡ true → Memᴰ (fill_of f cfg st s) (sequences_of cfg)
+  found_in st s h = at-member (sequences_of cfg) (rank_of f cfg st s) [] (ltb-true _ _ h)
+
+  pub turns-recorded : (st : State) (rs : List Step) → EachRecorded rs → EachRecorded (mended_steps (turns_of f cfg st rs))
+  unfolding mended_steps
+  turns-recorded =
+      turns-each f cfg (λ st rs ts. EachRecorded rs → EachRecorded (mended_steps ts))
+      (record {
+        ended = λ st h. tt;
+        stuck = λ st s rs e h. tt;
+        went = λ st s rs ts e rest h. let q = fill_of f cfg st s in
+            each_append (turn_steps (turn_of f cfg st s)) (mended_steps ts)
+            (each_append (answered_all f cfg st q) (s ∷ []) (answered-all-recorded st q ((list-is-all cfg q).0 (found_in st s e)).1) (h.0, tt)) (rest h.1);
+      })
 
 -- ---- the text of accepted steps is judged accepted
 
@@ -79,18 +117,6 @@ mended-is-accepted cfg st t b p n k small h =
     let z : 0 + length (mended cfg st t) ≡ length (mended cfg st t) = omega arith in
     let e = state_after (step_of cfg) st (mended cfg st t) in
     (d.steps, a, λ more. rw s (rw d.steps (text-accepted cfg st e (mended cfg st t) 0 more (mended-recorded cfg st t small) a ∙ ap (λ (k : ℕ). judged Verdict-as-Accepted k e) z)))
-
-pub mended-in-either-form : MendedInEitherForm
-unfolding judge_of
-mended-in-either-form cfg st t b p u n k more each h q =
-    let d = mended-done cfg st t b p n k h in
-    let a = turns-accepted cfg st (steps_in t) in
-    let r = turns-recorded (step_of cfg) cfg st (steps_in t) each in
-    let e = state_after (step_of cfg) st (mended cfg st t) in
-    let z : 0 + length (mended cfg st t) ≡ length (mended cfg st t) = omega arith in
-    let s = d.sound in
-    text-judged cfg st u (mended cfg st t) (n + more) r (run_short cfg (mended cfg st t) st e a) q
-    ∙ rw s (rw d.steps (text-accepted cfg st e (mended cfg st t) 0 more r a ∙ ap (λ (k : ℕ). judged Verdict-as-Accepted k e) z))
 
 pub mended-is-run : MendedIsRun
 mended-is-run cfg t b p n k small h =

@@ -1,13 +1,13 @@
--- Turns, one recorded step after another: what each turn is (`turn_at`), and the states between.
+-- Turns, one recorded step after another: one induction over them all (`turns-each`), what each turn is (`turn_at`), and the states between.
 -- Assumes nothing.
 use Prim.Native.Nat.{ℕ}
-use mathlib.Core.Bool.{true}
+use mathlib.Core.Bool.{Bool, true, false}
 use mathlib.Core.List.{List, [], ◌∷◌, ◌++◌}
 use mathlib.Core.Path.{◌≡◌, refl, sym, ap, subst, ◌∙◌}
 use native.Mathlib.Omega.{arith}
 use Rattle.faces.specs.Types.{Step, Config, State, Stepped}
 use Rattle.gaps.specs.Gaps.{Turn, can_fill, state_after, turn_of, turn_steps, turns_of, mended_steps}
-use Rattle.gaps.proofs.Each.{turns-each}
+use Rattle.gaps.proofs.Turns.{turns-on, turns-off}
 
 -- ---- states
 
@@ -17,6 +17,27 @@ after-append f st [] ys = refl
 after-append f st (x ∷ xs) ys = after-append f (f st x).state xs ys
 
 module _ (f : State → Step → Stepped) (cfg : Config) where
+  -- ---- one induction over turns
+
+  -- what is to hold of the turns of recorded steps from a state on: if it holds in each way that they can go, it holds of all
+  module _ (P : State → List Step → List Turn → Type 0) where
+    pub record Ways : Type 0 where
+      pub ended : (st : State) → P st [] []
+      pub stuck : (st : State) (s : Step) (rs : List Step) → can_fill f cfg st s ≡ false → P st (s ∷ rs) []
+      pub went : (st : State) (s : Step) (rs : List Step) (ts : List Turn) → can_fill f cfg st s ≡ true → P (state_after f st (turn_steps (turn_of f cfg st s))) rs ts → P st (s ∷ rs) (turn_of f cfg st s ∷ ts)
+
+    pub turns-each : Ways → (st : State) (rs : List Step) → P st rs (turns_of f cfg st rs)
+    unfolding turns_of
+    turns-each w st [] = w.ended st
+    turns-each w st (s ∷ rs) = go (can_fill f cfg st s) refl (turns-each w (state_after f st (turn_steps (turn_of f cfg st s))) rs)
+      where
+        m : State
+        m = state_after f st (turn_steps (turn_of f cfg st s))
+
+        go : (b : Bool) → can_fill f cfg st s ≡ b → P m rs (turns_of f cfg m rs) → P st (s ∷ rs) (turns_of f cfg st (s ∷ rs))
+        go true e r = subst (P st (s ∷ rs)) (sym (turns-on f cfg st s rs e)) (w.went st s rs (turns_of f cfg m rs) e r)
+        go false e r = subst (P st (s ∷ rs)) (sym (turns-off f cfg st s rs e)) (w.stuck st s rs e)
+
   -- ---- each turn
 
   -- a turn, by the state before it
@@ -47,7 +68,7 @@ module _ (f : State → Step → Stepped) (cfg : Config) where
   pub turn_at : (st : State) (rs : List Step) → EachTurn st rs (turns_of f cfg st rs)
   unfolding state_after mended_steps
   turn_at =
-      turns-each f cfg EachTurn
+      turns-each EachTurn
       (record {
         ended = λ st before after t e. none-there before after t e;
         stuck = λ st s rs h before after t e. none-there before after t e;

@@ -13,10 +13,9 @@ use Rattle.rules.specs.Sound.{sound_of}
 use Rattle.effects.specs.Step.{step_of}
 use Rattle.wire.proofs.Laws.{Bytes}
 use Rattle.recording.specs.Recording.{field_past}
-use Rattle.recording.specs.Whole.{whole_of, steps_in, is_sound, text_of, EachRecorded}
+use Rattle.recording.specs.Whole.{whole_of, steps_in, is_sound, text_of}
 use Rattle.judging.specs.declared.Verdict.TheVariants.{Accepted as Verdict-as-Accepted}
-use Rattle.moving.specs.Moves.{IsTextOf}
-use Rattle.judging.specs.Judging.{judged, judge_of, judge_text_of}
+use Rattle.judging.specs.Judging.{judged, judge_of}
 use Rattle.history.specs.Promises.{Answers, Accepted, Run, Demand3}
 use Rattle.gaps.specs.declared.Mended.{Mended}
 use Rattle.gaps.specs.declared.Mended.TheVariants.{Whole, Refused}
@@ -139,12 +138,6 @@ MendedIsAccepted =
     (cfg : Config) (st : State) (t b p : List ℕ) (n k : ℕ) → Bytes t → mend_to cfg st t b p ≡ Whole n k
     → (n ≡ length (mended cfg st t)) × Accepted cfg st (mended cfg st t) (state_after (step_of cfg) st (mended cfg st t))
     × ((more : ℕ) → judge_of cfg st (text_of (mended cfg st t)) (n + more) ≡ judged Verdict-as-Accepted n (state_after (step_of cfg) st (mended cfg st t)))
-
--- and so is the text of the mended steps in whichever form it is written: t is the recording in the old form that the given text stands for (W-207)
-abbrev pub MendedInEitherForm : Type 0
-MendedInEitherForm =
-    (cfg : Config) (st : State) (t b p u : List ℕ) (n k more : ℕ) → EachRecorded (steps_in t) → mend_to cfg st t b p ≡ Whole n k → IsTextOf u (mended cfg st t)
-    → judge_text_of cfg st u (n + more) ≡ judged Verdict-as-Accepted n (state_after (step_of cfg) st (mended cfg st t))
 
 -- mended from the start state: the configuration is sound, the text is a whole recording of the mended steps, and these are a run, of which every promise of the history page holds (W-209, demand 3)
 pub record MendedRun (cfg : Config) (t : List ℕ) (n : ℕ) : Type 0 where

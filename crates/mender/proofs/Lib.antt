@@ -1,5 +1,2 @@
--- What the mender answers for two files: room, mending in either form, the outcomes, and that the room suffices.
-pub mod Rooms
-pub mod Mending
+-- What the mender answers for two files.
 pub mod Telling
-pub mod Suffices

@@ -1,3 +1,2 @@
--- What the mender says of two files, how it prints it, and that its room suffices.
+-- What the mender says of two files, and how it prints it.
 pub mod Told
-pub mod Claims

@@ -1,17 +1,10 @@
--- The mender's answer for two files, and its lines byte by byte (W-209, the report; W-207; "Judging", the program).
+-- The mender's answer for two files, and its lines byte by byte (W-209, the report; "Judging", the program).
 -- Assumes nothing.
-use Rattle.std.specs.Prelude.{ℕ, ◌+◌, ◌*◌, ◌≤◌, Bool, true, List, [], ◌∷◌, ◌≡◌, ltb, leb, eqb, length, get_or}
-use Rattle.numbers.specs.Refusals.{bad_field, no_room, not_sound}
-use Rattle.laws.specs.Choice.{pick, both, either}
-use Rattle.faces.specs.Types.{Step, Config}
+use Rattle.std.specs.Prelude.{ℕ, ◌+◌, ◌-◌, ◌*◌, ◌/◌, Bool, List, [], ◌∷◌, ltb, eqb, length, get_or}
+use Rattle.numbers.specs.Tags.{step_size, end_size}
+use Rattle.laws.specs.Choice.{pick, either}
 use Rattle.state.specs.Start.{start_of}
-use Rattle.rules.specs.Sound.{sound_of}
-use Rattle.effects.specs.Step.{step_of}
-use Rattle.wire.specs.Bytes.{number_of, put_at}
-use Rattle.recording.specs.Whole.{text_of}
-use Rattle.forms.specs.Short.{is_short, is_headed, is_misheaded}
-use Rattle.moving.specs.Old.{old_of, steps_of}
-use Rattle.moving.specs.Moves.{short_text_of}
+use Rattle.wire.specs.Bytes.{number_of}
 use Rattle.reading.specs.declared.Outcome.{Outcome}
 use Rattle.reading.specs.declared.Outcome.TheVariants.{Whole as Read, Refused as NotRead}
 use Rattle.reading.specs.Reading.{config_of}
@@ -20,60 +13,21 @@ use Rattle.lines.specs.Lines.{line_bytes}
 use Rattle.lines.specs.Words.{refused_word, configuration_word, too_long_words}
 use Rattle.gaps.specs.declared.Mended.{Mended}
 use Rattle.gaps.specs.declared.Mended.TheVariants.{Whole, Refused}
-use Rattle.gaps.specs.Gaps.{Turn, turns_of, mended_steps}
-use Rattle.gaps.specs.Report.{note_size, report_from, survey_of}
+use Rattle.gaps.specs.Report.{mend_to, mend_written, mend_reported}
 use Rattle.mender.specs.declared.Told.{Told}
 use Rattle.mender.specs.declared.Told.TheVariants.{Mended as IsMended, Refused as IsRefused, Configuration, TooLong}
 
 -- the number of refusal that an answer stands for; 0 where it was mended or too long (W-209, refusals)
 abbrev pub told_refusal : Told → ℕ
-told_refusal (IsMended steps notes size) = 0
+told_refusal (IsMended steps notes) = 0
 told_refusal (IsRefused place number) = number
 told_refusal (Configuration place number) = number
 told_refusal TooLong = 0
 
--- by cases on an answer: mended, or anything else
-abbrev pub on_told : {A : Type 0} → Told → A → A → A
-on_told (IsMended steps notes size) a b = a
-on_told (IsRefused place number) a b = b
-on_told (Configuration place number) a b = b
-on_told TooLong a b = b
-
--- ---- a recording of either form, from the start state
-
--- the turns of its steps (W-209, per gap)
-abbrev pub turns_in : Config → List ℕ → List Turn
-turns_in cfg t = turns_of (step_of cfg) cfg (start_of cfg) (steps_of t)
-
--- the text of steps in one of the forms (W-207)
-abbrev pub text_as : Bool → List Step → List ℕ
-text_as short ss = pick short (short_text_of ss) (text_of ss)
-
--- the mended text, in the form of the recording (W-207; W-209, the mended text)
-abbrev pub mended_text : Config → List ℕ → List ℕ
-mended_text cfg t = text_as (is_short t) (mended_steps (turns_in cfg t))
-
--- the answer but for the room: 1, then 18 at place 0 for a bad header; any other is mended as the recording in the old form that it stands for, so that places count steps (W-207; W-209, refusals)
-unfoldable pub survey_text_of : Config → List ℕ → Mended
-survey_text_of cfg t =
-    pick (sound_of cfg (start_of cfg))
-    (pick (is_misheaded t) (Refused 0 bad_field) (survey_of (step_of cfg) cfg (start_of cfg) (old_of t)))
-    (Refused 0 not_sound)
-
--- mended, with the bytes of the text; or 27, last of all, where the text or the report does not fit its buffer (W-209, 27)
-abbrev pub given_to : ℕ → ℕ → ℕ → ℕ → List ℕ → List ℕ → Told
-given_to steps notes size noted b p = pick (both (leb size (length b)) (leb noted (length p))) (IsMended steps notes size) (IsRefused 0 no_room)
-
--- the same of a survey, the text being so long in its own form (W-207; W-209, 27)
-abbrev pub fitted : ℕ → List ℕ → List ℕ → Mended → Told
-fitted size b p (Whole steps notes) = given_to steps notes size (notes * note_size) b p
-fitted size b p (Refused place number) = IsRefused place number
-
--- the answer (W-207; W-209, refusals)
-unfoldable pub mend_text_to : Config → List ℕ → List ℕ → List ℕ → Told
-mend_text_to cfg t b p = fitted (length (mended_text cfg t)) b p (survey_text_of cfg t)
-
--- ---- two files
+-- the answer of mending as the answer for two files (W-209)
+abbrev pub told_by : Mended → Told
+told_by (Whole steps notes) = IsMended steps notes
+told_by (Refused place number) = IsRefused place number
 
 -- by cases on what a configuration was read as
 abbrev pub on_read : {A : Type 0} → Outcome → A → (ℕ → ℕ → A) → A
@@ -86,31 +40,21 @@ is_too_long c t = either (ltb max_config (length c)) (ltb max_recording (length 
 
 -- the answer for two files: lengths first, then the configuration, then mending from the start state (W-209; "Judging", the program)
 unfoldable pub told_of : List ℕ → List ℕ → List ℕ → List ℕ → Told
-told_of c t b p = pick (is_too_long c t) TooLong (on_read (config_of c).outcome (mend_text_to (config_of c).config t b p) (λ k place. Configuration place k))
+told_of c t b p =
+    pick (is_too_long c t) TooLong
+    (on_read (config_of c).outcome (told_by (mend_to (config_of c).config (start_of (config_of c).config) t b p)) (λ k place. Configuration place k))
 
--- the buffer of the text afterwards: the mended text in the form of the recording; anything but mended leaves it (W-207, W-209)
+-- the buffer of the text afterwards (W-209)
 unfoldable pub told_text : List ℕ → List ℕ → List ℕ → List ℕ → List ℕ
-told_text c t b p = on_told (told_of c t b p) (put_at b 0 (mended_text (config_of c).config t)) b
+told_text c t b p =
+    pick (is_too_long c t) b
+    (on_read (config_of c).outcome (mend_written (config_of c).config (start_of (config_of c).config) t b p) (λ k place. b))
 
--- the buffer of the report afterwards; anything but mended leaves it (W-209)
+-- the buffer of the report afterwards (W-209)
 unfoldable pub told_report : List ℕ → List ℕ → List ℕ → List ℕ → List ℕ
-told_report c t b p = on_told (told_of c t b p) (put_at p 0 (report_from 0 (turns_in (config_of c).config t))) p
-
--- ---- rooms
-
--- the old form of a recording that the program takes fits into so many bytes: a field of five has sixteen there (W-207)
-abbrev pub long_room : ℕ
-long_room = max_recording * 4
-
--- and so do its mended text and its report, in either form: four steps and four notes of sixteen bytes for a field of five (W-207; W-209, 27)
-abbrev pub room : ℕ
-room = max_recording * 13
-
--- a recording of the short form that the program takes, its header whole (W-207)
-pub record Headed (t : List ℕ) : Type 0 where
-  pub short : is_short t ≡ true
-  pub header : is_headed t ≡ true
-  pub few : length t ≤ max_recording
+told_report c t b p =
+    pick (is_too_long c t) p
+    (on_read (config_of c).outcome (mend_reported (config_of c).config (start_of (config_of c).config) t b p) (λ k place. p))
 
 -- ---- lines
 
@@ -143,7 +87,11 @@ note_line t =
 
 -- the last line (W-209; "Judging", the program)
 abbrev pub told_line : Told → List ℕ
-told_line (IsMended steps notes size) = line_bytes mended_word (steps ∷ [])
+told_line (IsMended steps notes) = line_bytes mended_word (steps ∷ [])
 told_line (IsRefused place number) = line_bytes refused_word (place ∷ number ∷ [])
 told_line (Configuration place number) = line_bytes configuration_word (place ∷ number ∷ [])
 told_line TooLong = line_bytes too_long_words []
+
+-- the bytes of a text of so many steps; 0 where a buffer of this length is shorter (W-209, the mended text)
+unfoldable pub text_size : ℕ → ℕ → ℕ
+text_size steps room = pick (ltb room end_size) 0 (pick (ltb ((room - end_size) / step_size) steps) 0 (steps * step_size + end_size))

@@ -1,152 +1,38 @@
 // The mender at work on two files: the answer, the report line by line, and the mended text.
-ghost use Rattle.std.specs.Prelude.{◌≡◌, true, false, [], ◌∷◌, length, ◌*◌, ◌+◌, ◌≤◌};
-ghost use Rattle.state.specs.Start.{start_of};
-ghost use Rattle.rules.specs.Sound.{sound_of};
-ghost use Rattle.wire.specs.Bytes.{put_at, Written};
-ghost use Rattle.recording.specs.Whole.{steps_in};
-ghost use Rattle.forms.specs.Short.{is_short};
-ghost use Rattle.moving.specs.declared.Moved.TheVariants.{To};
-ghost use Rattle.moving.specs.Moves.{short_text_of, shortens_of};
-ghost use Rattle.judging.specs.Line.{max_recording};
+ghost use Rattle.std.specs.Prelude.{◌≡◌, [], ◌∷◌, length, ◌*◌, ◌+◌, ◌≤◌};
+ghost use Rattle.wire.specs.Bytes.{Written};
 ghost use Rattle.lines.specs.Lines.{line_bytes};
-ghost use Rattle.gaps.specs.Report.{report_from};
-ghost use Rattle.mender.specs.Told.{turns_in, mended_text, given_to, mend_text_to, on_told, told_of, told_text, told_report, long_room, room, Headed, insert_word, gap_word, note_line, told_line};
+ghost use Rattle.mender.specs.Told.{told_by, told_of, told_text, told_report, insert_word, gap_word, note_line, told_line, text_size};
 
-use config::Config;
 use gaps::Mended;
 use judging::{MAX_CONFIG, MAX_RECORDING};
 use libc::STDOUT_FILENO;
-use moving::Moved;
 use reading::Outcome;
 use state::State;
 use wire::Wrote;
 
-// What came of two files: mended, with the steps of the text, the notes of the report and the bytes of the text; refused; a configuration that can't be used; or a file that is too long.
+// What came of two files: mended, with the steps of the text and the notes of the report; refused; a configuration that can't be used; or a file that is too long.
 #[derive(Drop)]
 pub enum Told {
-    Mended(usize, usize, usize),
+    Mended(usize, usize),
     Refused(usize, u8),
     Configuration(usize, u8),
     TooLong,
 }
 
-// Room for the longest mended text of the longest recording, and for its report: a field has five bytes at least, and at most four steps and four notes of sixteen bytes stand for it.
-pub const ROOM: usize = MAX_RECORDING * 13;
+// Room for the longest mended text of the longest recording, and for its report.
+pub const ROOM: usize = MAX_RECORDING * 4;
 
-// Room for the old form of the longest recording: a field of five bytes has sixteen there.
-const LONG: usize = MAX_RECORDING * 4;
-
-// ---- a recording of the old form
-
-// Mends a recording of the old form from the start state.
-fn mend_old(cfg: Config, s: &[u8], out: &mut [u8], report: &mut [u8]) -> Told
-    requires { is_short s.now ≡ false }
-    ensures value { result ≡ mend_text_to cfg s.now out.old report.old }
-    ensures out_after { out.new ≡ on_told result (put_at out.old 0 (mended_text cfg s.now)) out.old }
-    ensures report_after { report.new ≡ on_told result (put_at report.old 0 (report_from 0 (turns_in cfg s.now))) report.old }
+fn told_by(m: Mended) -> Told
+    ensures { result ≡ told_by m }
 {
-    let m = mending::mend(cfg, State::start(cfg), s, out, report);
     match m {
+        Mended::Whole(steps, notes) => Told::Mended(steps, notes),
         Mended::Refused(place, k) => Told::Refused(place, k),
-        Mended::Whole(steps, notes) => {
-            Told::Mended(steps, notes, steps * numbers::SIZE_STEP + numbers::SIZE_END)
-        }
     }
 }
 
-// ---- a recording of the short form
-
-// A text moved to the short form into one buffer, and notes copied into the other; 27 where either does not fit, and then both are as they were.
-fn give(
-    steps: usize,
-    count: usize,
-    text: &[u8],
-    notes: &[u8],
-    out: &mut [u8],
-    report: &mut [u8],
-) -> Told
-    requires { shortens_of text.now ≡ To (length (short_text_of (steps_in text.now))) }
-    ensures value { result ≡ given_to steps count (length (short_text_of (steps_in text.now))) (length notes.now) out.old report.old }
-    ensures out_after { out.new ≡ on_told result (put_at out.old 0 (short_text_of (steps_in text.now))) out.old }
-    ensures report_after { report.new ≡ on_told result (put_at report.old 0 notes.now) report.old }
-{
-    if report.len() < notes.len() {
-        return Told::Refused(0, numbers::NO_ROOM);
-    }
-    let m = moving::shorten(text, out);
-    let Moved::To(size) = m else {
-        return Told::Refused(0, numbers::NO_ROOM);
-    };
-    wire::write(report, 0, notes);
-    Told::Mended(steps, count, size)
-}
-
-// Mends a recording of the short form from the start state: put into the old form, mended there, and moved back. The first three buffers are scratch.
-fn mend_within(
-    cfg: Config,
-    s: &[u8],
-    old: &mut [u8],
-    text: &mut [u8],
-    notes: &mut [u8],
-    out: &mut [u8],
-    report: &mut [u8],
-) -> Told
-    requires headed { Headed s.now }
-    requires long_room_in_bounds { long_room ≤ length old.old }
-    requires room_in_bounds { room ≤ length text.old }
-    requires room_in_bounds_2 { room ≤ length notes.old }
-    ensures value { result ≡ mend_text_to cfg s.now out.old report.old }
-    ensures out_after { out.new ≡ on_told result (put_at out.old 0 (mended_text cfg s.now)) out.old }
-    ensures report_after { report.new ≡ on_told result (put_at report.old 0 (report_from 0 (turns_in cfg s.now))) report.old }
-{
-    let w = moving::stretch(s, old);
-    let Wrote::To(n) = w else {
-        return Told::Refused(0, numbers::NO_ROOM);
-    };
-    let m = mending::mend(cfg, State::start(cfg), &old[..n], text, notes);
-    match m {
-        Mended::Refused(place, k) => Told::Refused(place, k),
-        Mended::Whole(steps, count) => {
-            let size = steps * numbers::SIZE_STEP + numbers::SIZE_END;
-            let noted = count * gaps::NOTE;
-            give(steps, count, &text[..size], &notes[..noted], out, report)
-        }
-    }
-}
-
-// The same with its scratch, for which there is always room.
-fn mend_short(cfg: Config, s: &[u8], out: &mut [u8], report: &mut [u8]) -> Told
-    requires { Headed s.now }
-    ensures value { result ≡ mend_text_to cfg s.now out.old report.old }
-    ensures out_after { out.new ≡ on_told result (put_at out.old 0 (mended_text cfg s.now)) out.old }
-    ensures report_after { report.new ≡ on_told result (put_at report.old 0 (report_from 0 (turns_in cfg s.now))) report.old }
-{
-    let mut old = [0u8; LONG];
-    let mut text = [0u8; ROOM];
-    let mut notes = [0u8; ROOM];
-    mend_within(cfg, s, &mut old, &mut text, &mut notes, out, report)
-}
-
-// ---- of either form
-
-// Mends a recording of either form from the start state, which is sound; the text keeps its form.
-fn mend_text(cfg: Config, s: &[u8], out: &mut [u8], report: &mut [u8]) -> Told
-    requires cfg_value { sound_of cfg (start_of cfg) ≡ true }
-    requires s_len_bound { length s.now ≤ max_recording }
-    ensures value { result ≡ mend_text_to cfg s.now out.old report.old }
-    ensures out_after { out.new ≡ on_told result (put_at out.old 0 (mended_text cfg s.now)) out.old }
-    ensures report_after { report.new ≡ on_told result (put_at report.old 0 (report_from 0 (turns_in cfg s.now))) report.old }
-{
-    if forms::is_short(s) {
-        if forms::is_headed(s) {
-            return mend_short(cfg, s, out, report);
-        }
-        return Told::Refused(0, numbers::BAD_FIELD);
-    }
-    mend_old(cfg, s, out, report)
-}
-
-// Mends a recording of either form under a configuration, both as bytes, from the start state.
+// Mends a recording under a configuration, both as bytes, from the start state.
 pub fn mend_files(config: &[u8], recording: &[u8], out: &mut [u8], report: &mut [u8]) -> Told
     ensures value { result ≡ told_of config.now recording.now out.old report.old }
     ensures out_after { out.new ≡ told_text config.now recording.now out.old report.old }
@@ -162,11 +48,12 @@ pub fn mend_files(config: &[u8], recording: &[u8], out: &mut [u8], report: &mut 
     let o = g.outcome;
     match o {
         Outcome::Refused(place, k) => Told::Configuration(place, k),
-        Outcome::Whole => mend_text(g.config, recording, out, report),
+        Outcome::Whole => {
+            let cfg = g.config;
+            told_by(mending::mend(cfg, State::start(cfg), recording, out, report))
+        }
     }
 }
-
-// ---- lines
 
 // The line of a note, written from a place on.
 pub fn put_note(buf: &mut [u8], at: usize, note: &[u8; gaps::NOTE]) -> Wrote
@@ -214,7 +101,7 @@ pub fn put_told(buf: &mut [u8], at: usize, told: Told) -> Wrote
     ensures { Written buf.old at (told_line told) result buf.new }
 {
     match told {
-        Told::Mended(steps, _, _) => put_one(buf, at, b"mended", steps),
+        Told::Mended(steps, _) => put_one(buf, at, b"mended", steps),
         Told::Refused(place, k) => put_two(buf, at, b"refused", place, k),
         Told::Configuration(place, k) => put_two(buf, at, b"configuration", place, k),
         Told::TooLong => lines::put_line(buf, at, b"input too long", [0; 5], 0),
@@ -277,4 +164,19 @@ pub fn print_told(told: Told) -> bool {
         return false;
     };
     io::write_all(STDOUT_FILENO, &text[..n])
+}
+
+// The bytes of a mended text of so many steps; none where the buffer is shorter.
+pub fn size_of(steps: usize, out: &[u8]) -> usize
+    ensures value { result ≡ text_size steps (length out.now) }
+    ensures upper_bound { result ≤ length out.now }
+{
+    let room = out.len();
+    if room < numbers::SIZE_END {
+        return 0;
+    }
+    if (room - numbers::SIZE_END) / numbers::SIZE_STEP < steps {
+        return 0;
+    }
+    steps * numbers::SIZE_STEP + numbers::SIZE_END
 }

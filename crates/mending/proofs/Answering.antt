@@ -16,17 +16,19 @@ use Rattle.rules.specs.Sound.{sound_of}
 use Rattle.effects.specs.Step.{inner_of, step_of}
 use Rattle.wire.specs.Bytes.{put_at, wrote_bytes}
 use Rattle.wire.proofs.Laws.{Bytes}
-use Rattle.recording.specs.Whole.{steps_in, text_of, rewrite_written}
+use Rattle.recording.specs.declared.Field.{Field}
+use Rattle.recording.specs.declared.Field.TheVariants.{Step as IsStep, End, Refused as NoField}
+use Rattle.recording.specs.Whole.{whole_of, steps_in, is_end, is_sound, text_of, rewrite_written}
 use Rattle.recording.proofs.Texts.{text-again}
 use Rattle.gaps.specs.declared.Mended.{Mended}
 use Rattle.gaps.specs.declared.Mended.TheVariants.{Whole, Refused}
 use Rattle.gaps.specs.Gaps.{rank_of, can_fill, state_after, Turn, turn_of, turn_steps, turns_of, mended_steps}
-use Rattle.gaps.specs.Report.{on_mended, report_from, note_count, survey_of, fitted, mend_to, mend_written, mend_reported, note_size}
+use Rattle.gaps.specs.Report.{on_mended, report_from, note_count, on_last, survey_of, fitted, mend_to, mend_written, mend_reported, note_size}
 use Rattle.gaps.proofs.Same.{turns-once, survey-once}
 use Rattle.gaps.proofs.Reported.{text-length}
-use Rattle.gaps.proofs.Each.{survey-told}
 use Rattle.gaps.proofs.Turns.{bare, turn-bare, bare-mended, bare-report}
 use Rattle.mending.proofs.Putting.{put-none, wrote-fits}
+use Rattle.mending.proofs.Writing.{refuses, survey-counts}
 
 -- ---- refused
 
@@ -72,21 +74,37 @@ module _ (cfg : Config) where
       go true false e l c rest = absurd (let q : pick false 0 (length (turn_of (inner_of cfg) cfg st s).inserted + 1) + note_count next ≡ 0 = rw e at c in omega arith)
       go false z e l c rest = absurd (omega arith)
 
+-- what a survey without a refusal tells of the text
+survey-told : (cfg : Config) (st : State) (t : List ℕ) (n m : ℕ) → survey_of (inner_of cfg) cfg st t ≡ Whole n m
+    → (length (turns_of (inner_of cfg) cfg st (steps_in t)) ≡ length (steps_in t)) × (is_sound t ≡ true)
+unfolding survey_of
+survey-told cfg st t n m h = go (eqb (length ts) (length (steps_in t))) (whole_of t).last refl refl h
+  where
+    ts : List Turn
+    ts = turns_of (inner_of cfg) cfg st (steps_in t)
+
+    go : (b : Bool) (f : Field) → eqb (length ts) (length (steps_in t)) ≡ b → (whole_of t).last ≡ f → pick b (on_last f (length (steps_in t)) (Whole (length (mended_steps ts)) (note_count ts))) (Refused (length ts + 1) 31) ≡ Whole n m
+        → (length ts ≡ length (steps_in t)) × (is_sound t ≡ true)
+    go true (IsStep s z) e l k = refuses k
+    go true End e l k = (eqb-true _ _ e, ap is_end l)
+    go true (NoField p j) e l k = refuses k
+    go false f e l k = refuses k
+
 -- a recording that needs no mending is its own text, and the report is empty
 module _ (cfg : Config) (st : State) (t : List ℕ) (n m : ℕ) (whole : survey_of (inner_of cfg) cfg st t ≡ Whole n m) (none : m ≡ 0) (small : Bytes t) where
   quiet : turns_of (inner_of cfg) cfg st (steps_in t) ≡ map bare (steps_in t)
-  quiet = quiet-turns cfg st (steps_in t) (survey-told (inner_of cfg) cfg st t n m whole).each (sym (survey-told (inner_of cfg) cfg st t n m whole).notes ∙ none)
+  quiet = quiet-turns cfg st (steps_in t) (survey-told cfg st t n m whole).0 (sym (survey-counts cfg st t n m whole).1 ∙ none)
 
   same_text : text_of (mended_steps (turns_of (inner_of cfg) cfg st (steps_in t))) ≡ t
-  same_text = ap (λ (ts : List Turn). text_of (mended_steps ts)) quiet ∙ ap text_of (bare-mended (steps_in t)) ∙ text-again t small (survey-told (inner_of cfg) cfg st t n m whole).whole
+  same_text = ap (λ (ts : List Turn). text_of (mended_steps ts)) quiet ∙ ap text_of (bare-mended (steps_in t)) ∙ text-again t small (survey-told cfg st t n m whole).1
 
   long : length t ≡ n * step_size + end_size
   long =
-      ap length (sym same_text) ∙ text-length (mended_steps (turns_of (inner_of cfg) cfg st (steps_in t))) ∙ omega (arith, (survey-told (inner_of cfg) cfg st t n m whole).steps)
+      ap length (sym same_text) ∙ text-length (mended_steps (turns_of (inner_of cfg) cfg st (steps_in t))) ∙ omega (arith, (survey-counts cfg st t n m whole).0)
 
   pub still-text : (b b' : List ℕ) → n * step_size + end_size ≤ length b → b' ≡ rewrite_written t b → b' ≡ put_at b 0 (text_of (mended_steps (turns_of (inner_of cfg) cfg st (steps_in t))))
   still-text b b' h w =
-      w ∙ ap (λ (x : Bool). pick x (wrote_bytes b 0 t) b) (survey-told (inner_of cfg) cfg st t n m whole).whole ∙ wrote-fits b t 0 (omega (arith, h, long)) ∙ ap (put_at b 0) (sym same_text)
+      w ∙ ap (λ (x : Bool). pick x (wrote_bytes b 0 t) b) (survey-told cfg st t n m whole).1 ∙ wrote-fits b t 0 (omega (arith, h, long)) ∙ ap (put_at b 0) (sym same_text)
 
   pub still-report : (p : List ℕ) → p ≡ put_at p 0 (report_from 0 (turns_of (inner_of cfg) cfg st (steps_in t)))
   still-report p = sym (ap (λ (ts : List Turn). put_at p 0 (report_from 0 ts)) quiet ∙ ap (put_at p 0) (bare-report 0 (steps_in t)) ∙ put-none p 0)

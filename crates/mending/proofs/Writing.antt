@@ -15,20 +15,40 @@ use Rattle.effects.specs.Step.{inner_of}
 use Rattle.wire.specs.Bytes.{end_bytes, put_at, Written}
 use Rattle.wire.specs.declared.Wrote.{Wrote}
 use Rattle.recording.specs.declared.Field.{Field}
-use Rattle.recording.specs.declared.Field.TheVariants.{Step as IsStep}
+use Rattle.recording.specs.declared.Field.TheVariants.{Step as IsStep, End, Refused as NoField}
 use Rattle.recording.specs.Recording.{field_of, step_written}
 use Rattle.recording.specs.Whole.{Whole, whole_of, steps_in, text_of}
 use Rattle.recording.proofs.OneField.{step-told}
 use Rattle.gaps.specs.declared.Choices.{Choices}
+use Rattle.gaps.specs.declared.Mended.TheVariants.{Whole as Mends, Refused}
 use Rattle.gaps.specs.Gaps.{counts_of, can_fill, rank_of, fill_of, state_after, Turn, turn_of, turn_steps, turns_of, mended_steps}
-use Rattle.gaps.specs.Report.{gap_note, step_notes, turn_notes, report_from, note_count, note_size}
+use Rattle.gaps.specs.Report.{gap_note, step_notes, turn_notes, report_from, note_count, on_last, survey_of, note_size}
 use Rattle.gaps.proofs.Reported.{report-length, mended-one, counted-one, report-one, mended-append, counted-append}
 use Rattle.gaps.proofs.Turns.{answered-length}
-use Rattle.gaps.proofs.Each.{refuses, survey-told}
 use Rattle.mending.specs.declared.Crossed.{Crossed}
 use Rattle.mending.specs.Going.{fields_of, Fillable, Mendable, crossed_of}
 use Rattle.mending.proofs.Putting.{put-none, length-put, put-more, wrote-fits, step_fits, length_fields, fields-append, fields-one, text-fields}
 use Rattle.mending.proofs.Walking.{Along, along-starts, along-step, along_stuck, after-taken, kept-rank, kept-none, kept-state, refused-rank}
+
+-- ---- what a survey without a refusal tells
+
+pub refuses : {p k a b : ℕ} {A : Type 0} → Refused p k ≡ Mends a b → A
+refuses e = absurd (let z : ◌≡◌ {A = ℕ} 0 1 = cc in omega arith)
+
+-- the steps and the notes are those of the turns
+pub survey-counts : (cfg : Config) (st : State) (t : List ℕ) (n m : ℕ) → survey_of (inner_of cfg) cfg st t ≡ Mends n m
+    → (n ≡ length (mended_steps (turns_of (inner_of cfg) cfg st (steps_in t)))) × (m ≡ note_count (turns_of (inner_of cfg) cfg st (steps_in t)))
+unfolding survey_of
+survey-counts cfg st t n m h = go (eqb (length (turns_of (inner_of cfg) cfg st (steps_in t))) (length (steps_in t))) (whole_of t).last h
+  where
+    ts : List Turn
+    ts = turns_of (inner_of cfg) cfg st (steps_in t)
+
+    go : (b : Bool) (f : Field) → pick b (on_last f (length (steps_in t)) (Mends (length (mended_steps ts)) (note_count ts))) (Refused (length ts + 1) 31) ≡ Mends n m → (n ≡ length (mended_steps ts)) × (m ≡ note_count ts)
+    go true (IsStep s z) e = refuses e
+    go true End e = (cc, cc)
+    go true (NoField p k) e = refuses e
+    go false f e = refuses e
 
 -- ---- the loop
 
@@ -61,20 +81,20 @@ module _ (cfg : Config) (st : State) (t out₀ report₀ : List ℕ) where
     fits-turn : (u : Turn) (us : List Turn) → turns_of (inner_of cfg) cfg st (steps_in t) ≡ (w.done ++ (u ∷ [])) ++ us
         → ((steps + length (turn_steps u)) * step_size + end_size ≤ length out₀) × ((notes + pick (eqb u.passed 0) 0 (length u.inserted + 1)) * note_size ≤ length report₀)
     fits-turn u us e =
-        let c = survey-told (inner_of cfg) cfg st t can.steps can.notes can.survey in
-        let a = c.steps ∙ ap (λ (l : List Turn). length (mended_steps l)) e ∙ ap length (mended-append (w.done ++ (u ∷ [])) us) ∙ length-append (mended_steps (w.done ++ (u ∷ []))) (mended_steps us) in
+        let c = survey-counts cfg st t can.steps can.notes can.survey in
+        let a = c.0 ∙ ap (λ (l : List Turn). length (mended_steps l)) e ∙ ap length (mended-append (w.done ++ (u ∷ [])) us) ∙ length-append (mended_steps (w.done ++ (u ∷ []))) (mended_steps us) in
         let b = ap length (mended-one w.done u) ∙ length-append (mended_steps w.done) (turn_steps u) in
-        let d = c.notes ∙ ap note_count e ∙ counted-append (w.done ++ (u ∷ [])) us in
+        let d = c.1 ∙ ap note_count e ∙ counted-append (w.done ++ (u ∷ [])) us in
         (omega (arith, a, b, w.mends, can.text), omega (arith, d, counted-one w.done u, w.reports, can.note))
 
     -- what is done has room
     pub writing-room : (steps * step_size + end_size ≤ length out₀) × (notes * note_size ≤ length report₀)
     writing-room =
-        let c = survey-told (inner_of cfg) cfg st t can.steps can.notes can.survey in
+        let c = survey-counts cfg st t can.steps can.notes can.survey in
         let e = w.along.turns in
         let r = turns_of (inner_of cfg) cfg reached (steps_in (drop at t)) in
-        let a = c.steps ∙ ap (λ (l : List Turn). length (mended_steps l)) e ∙ ap length (mended-append w.done r) ∙ length-append (mended_steps w.done) (mended_steps r) in
-        let d = c.notes ∙ ap note_count e ∙ counted-append w.done r in
+        let a = c.0 ∙ ap (λ (l : List Turn). length (mended_steps l)) e ∙ ap length (mended-append w.done r) ∙ length-append (mended_steps w.done) (mended_steps r) in
+        let d = c.1 ∙ ap note_count e ∙ counted-append w.done r in
         (omega (arith, a, w.mends, can.text), omega (arith, d, w.reports, can.note))
 
     -- the end

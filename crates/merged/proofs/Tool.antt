@@ -21,7 +21,6 @@ use Rattle.recording.specs.declared.Field.{Field}
 use Rattle.recording.specs.declared.Field.TheVariants.{Step as IsStep, End, Refused as NoField}
 use Rattle.recording.specs.Whole.{Whole as Texted, whole_of, steps_in, is_end, is_sound, text_of}
 use Rattle.recording.proofs.Texts.{text-reads, text-again, steps-recorded}
-use Rattle.moving.proofs.Either.{sound-is}
 use Rattle.judging.specs.declared.Verdict.{Verdict}
 use Rattle.judging.specs.declared.Verdict.TheVariants.{Accepted as Verdict-as-Accepted, Refused, Unfinished}
 use Rattle.judging.specs.declared.Judged.{Judged}
@@ -272,13 +271,12 @@ tool-keeps t b n small h =
     by_state cfg st more false s whole reads count h = absurd (accepted-refused (sym (sym (ap (λ (j : Judged). j.verdict) (judged-none cfg t st (length (steps_in t) + more) s)) ∙ h)))
 
 pub line-keeps : LineKeeps
-line-keeps c t b n small h long few = let k = tool-keeps t b n small h in
-    let here = rw (sound-is t k.whole) at (accepted-is-run c t (length (steps_in t))) in
-    let there = rw (sound-is (text_of (merged_of (steps_in t))) k.sound) at (accepted-is-run c (text_of (merged_of (steps_in t))) n) in (
-      λ l.
-          let r = here.0 l in
-          there.1 (((r.0.0.0, omega (arith, k.shorter, long)), r.0.1), k.sound, k.count ∙ ap length (sym k.steps), omega (arith, k.count, all-fewer (steps_in t), few), r.4, rw k.steps ((all-merge _ _ _ (steps_in t)).0 r.5)),
-      λ l.
-          let r = there.0 l in
-          here.1 (((r.0.0.0, long), r.0.1), k.whole, refl, few, r.4, (all-merge _ _ _ (steps_in t)).1 (rw k.steps at r.5)),
-    )
+line-keeps c t b n small h long few = let k = tool-keeps t b n small h in (
+  λ l.
+      let r = (accepted-is-run c t _).0 l in
+      (accepted-is-run c (text_of (merged_of (steps_in t))) n).1
+      (((r.0.0.0, omega (arith, k.shorter, long)), r.0.1), k.sound, k.count ∙ ap length (sym k.steps), omega (arith, k.count, all-fewer (steps_in t), few), r.4, rw k.steps ((all-merge _ _ _ (steps_in t)).0 r.5)),
+  λ l.
+      let r = (accepted-is-run c (text_of (merged_of (steps_in t))) n).0 l in
+      (accepted-is-run c t _).1 (((r.0.0.0, long), r.0.1), k.whole, refl, few, r.4, (all-merge _ _ _ (steps_in t)).1 (rw k.steps at r.5)),
+)

@@ -1,4 +1,4 @@
--- Numbers of refusal, by name ("Numbers of refusal"; document 02 for 28 to 31). The names say what is wrong; the rules say exactly when. 9 has no name: W-206 has retired it.
+-- Numbers of refusal, by name ("Numbers of refusal"; document 02 for 28, 30 and 31). The names say what is wrong; the rules say exactly when. 9 has no name: W-206 has retired it.
 -- Assumes nothing.
 use Rattle.std.specs.Prelude.{ℕ}
 
@@ -101,10 +101,6 @@ no_room = 27
 -- call: a client of the operation still bears its number (W-206)
 abbrev pub number_borne : ℕ
 number_borne = 28
-
--- a step has no short form: its code is unknown, or an entry that it does not use is filled (W-207)
-abbrev pub no_short : ℕ
-no_short = 29
 
 -- the edition of the configuration has no such step (W-208)
 abbrev pub step_gone : ℕ

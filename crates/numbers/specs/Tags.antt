@@ -110,10 +110,6 @@ step_tag = 0x40
 abbrev pub step_length : ℕ
 step_length = 13
 
--- the tag of a step in the short form (W-207)
-abbrev pub short_tag : ℕ
-short_tag = 0x41
-
 -- the tag of an end ("The files", tag 7F)
 abbrev pub end_tag : ℕ
 end_tag = 0x7f
@@ -149,11 +145,3 @@ step_size = 16
 -- how long the end field is, in all ("The files", tag 7F)
 abbrev pub end_size : ℕ
 end_size = 3
-
--- the edition of a recording in the short form (W-207)
-abbrev pub short_edition : ℕ
-short_edition = 2
-
--- how long the field of the edition is, in all ("The files", tag 01; W-207)
-abbrev pub edition_size : ℕ
-edition_size = 4

@@ -39,9 +39,6 @@ pub const BAD_FIELD: u8 = 18;
 // In the place of 9, which has been retired.
 pub const NUMBER_BORNE: u8 = 28;
 
-// A step has no short form.
-pub const NO_SHORT: u8 = 29;
-
 // The edition of the configuration has no such step.
 pub const STEP_GONE: u8 = 30;
 
@@ -138,8 +135,6 @@ pub const TAG_OUTGOING: u8 = 0x1b;
 
 pub const TAG_STEP: u8 = 0x40;
 
-pub const TAG_SHORT: u8 = 0x41;
-
 pub const TAG_END: u8 = 0x7f;
 
 // Lengths of their bodies.
@@ -199,8 +194,3 @@ pub const SIZE_PAIR: u8 = (HEAD + LENGTH_PAIR) as u8;
 pub const SIZE_STEP: usize = HEAD + LENGTH_STEP;
 
 pub const SIZE_END: usize = HEAD + LENGTH_END;
-
-pub const SIZE_EDITION: usize = HEAD + LENGTH_EDITION;
-
-// The edition of a recording in the short form.
-pub const SHORT_EDITION: u8 = 2;

@@ -356,12 +356,6 @@ wire-write κs a x y s t p q = written_once _ _ _ _ _ _ _ p q
 
 -- ---- recording
 
-pub recording-values-good : One Rattle.recording.proofs.values_good.Kinds.ps Rattle.recording.proofs.values_good.Kinds.r Rattle.recording.proofs.values_good.Reads.Post
-recording-values-good κs a x y s t = same
-
-pub recording-end-in : One Rattle.recording.proofs.end_in.Kinds.ps Rattle.recording.proofs.end_in.Kinds.r Rattle.recording.proofs.end_in.Reads.Post
-recording-end-in κs a x y s t = same
-
 pub recording-read-field : One Rattle.recording.proofs.read_field.Kinds.ps Rattle.recording.proofs.read_field.Kinds.r Rattle.recording.proofs.read_field.Reads.Post
 recording-read-field κs a x y s t = same
 
@@ -422,40 +416,6 @@ refusals-instance-refusal κs a x y s t = same
 
 pub refusals-scheduler-refusal : One Rattle.refusals.proofs.scheduler_refusal.Kinds.ps Rattle.refusals.proofs.scheduler_refusal.Kinds.r Rattle.refusals.proofs.scheduler_refusal.Reads.Post
 refusals-scheduler-refusal κs a x y s t = same
-
--- ---- forms
-
-pub forms-has-short : One Rattle.forms.proofs.has_short.Kinds.ps Rattle.forms.proofs.has_short.Kinds.r Rattle.forms.proofs.has_short.Reads.Post
-forms-has-short κs a x y s t = same
-
-pub forms-read-short : One Rattle.forms.proofs.read_short.Kinds.ps Rattle.forms.proofs.read_short.Kinds.r Rattle.forms.proofs.read_short.Reads.Post
-forms-read-short κs a x y s t = same
-
-pub forms-is-short : One Rattle.forms.proofs.is_short.Kinds.ps Rattle.forms.proofs.is_short.Kinds.r Rattle.forms.proofs.is_short.Reads.Post
-forms-is-short κs a x y s t = same
-
-pub forms-is-headed : One Rattle.forms.proofs.is_headed.Kinds.ps Rattle.forms.proofs.is_headed.Kinds.r Rattle.forms.proofs.is_headed.Reads.Post
-forms-is-headed κs a x y s t = same
-
-pub forms-short-size : One Rattle.forms.proofs.short_size.Kinds.ps Rattle.forms.proofs.short_size.Kinds.r Rattle.forms.proofs.short_size.Reads.Post
-forms-short-size κs a x y s t = same
-
-pub forms-write-header : Lent Rattle.forms.proofs.write_header.Kinds.ps Rattle.forms.proofs.write_header.Kinds.r Rattle.forms.proofs.write_header.Reads.Post (λ κs s. s.0.now)
-forms-write-header κs a x y s t p q = written_once _ _ _ _ _ _ _ p q
-
-pub forms-write-short : Lent Rattle.forms.proofs.write_short.Kinds.ps Rattle.forms.proofs.write_short.Kinds.r Rattle.forms.proofs.write_short.Reads.Post (λ κs s. s.0.now)
-forms-write-short κs a x y s t p q = (same p.0 q.0, same p.1 q.1)
-
--- ---- moving
-
-pub moving-shorten : Lent Rattle.moving.proofs.shorten.Kinds.ps Rattle.moving.proofs.shorten.Kinds.r Rattle.moving.proofs.shorten.Reads.Post (λ κs s. s.1.0.now)
-moving-shorten κs a x y s t p q = (same p.0 q.0, same p.1 q.1)
-
-pub moving-lengthen : Lent Rattle.moving.proofs.lengthen.Kinds.ps Rattle.moving.proofs.lengthen.Kinds.r Rattle.moving.proofs.lengthen.Reads.Post (λ κs s. s.1.0.now)
-moving-lengthen κs a x y s t p q = (same p.0 q.0, same p.1 q.1)
-
-pub moving-stretch : Lent Rattle.moving.proofs.stretch.Kinds.ps Rattle.moving.proofs.stretch.Kinds.r Rattle.moving.proofs.stretch.Reads.Post (λ κs s. s.1.0.now)
-moving-stretch κs a x y s t p q = (same p.0 q.0, same p.1 q.1)
 
 -- ---- sound
 
@@ -618,9 +578,6 @@ machine-step κs a x y s t = same
 pub judging-judge : One Rattle.judging.proofs.judge.Kinds.ps Rattle.judging.proofs.judge.Kinds.r Rattle.judging.proofs.judge.Reads.Post
 judging-judge κs a x y s t = same
 
-pub judging-judge-text : One Rattle.judging.proofs.judge_text.Kinds.ps Rattle.judging.proofs.judge_text.Kinds.r Rattle.judging.proofs.judge_text.Reads.Post
-judging-judge-text κs a x y s t = same
-
 pub judging-line-of : One Rattle.judging.proofs.line_of.Kinds.ps Rattle.judging.proofs.line_of.Kinds.r Rattle.judging.proofs.line_of.Reads.Post
 judging-line-of κs a x y s t = same
 
@@ -661,6 +618,9 @@ mender-put-note κs a x y s t p q = written_once _ _ _ _ _ _ _ p q
 
 pub mender-put-told : Lent Rattle.mender.proofs.put_told.Kinds.ps Rattle.mender.proofs.put_told.Kinds.r Rattle.mender.proofs.put_told.Reads.Post (λ κs s. s.0.now)
 mender-put-told κs a x y s t p q = written_once _ _ _ _ _ _ _ p q
+
+pub mender-size-of : One Rattle.mender.proofs.size_of.Kinds.ps Rattle.mender.proofs.size_of.Kinds.r Rattle.mender.proofs.size_of.Reads.Post
+mender-size-of κs a x y s t p q = same p.0 q.0
 
 -- ---- posting
 

@@ -9,28 +9,24 @@ use lib.Dec.{ltb}
 use lib.ListN.{length, drop, length-append, length-drop}
 use lib.Seq.{drop-append-le}
 use Rattle.numbers.specs.Tags.{step_size}
-use Rattle.laws.specs.Choice.{pick, both, either}
+use Rattle.laws.specs.Choice.{pick, either}
 use Rattle.faces.specs.Types.{Config, State}
 use Rattle.state.specs.Start.{start_of}
 use Rattle.rules.specs.Sound.{sound_of}
 use Rattle.effects.specs.Step.{step_of}
-use Rattle.forms.specs.Short.{is_misheaded}
-use Rattle.moving.specs.Old.{old_of}
 use Rattle.reading.specs.declared.Outcome.{Outcome}
 use Rattle.reading.specs.declared.Outcome.TheVariants.{Whole, Refused as NotRead}
 use Rattle.reading.specs.Reading.{config_of}
 use Rattle.stays_sound.proofs.Keeps.{kept_step}
-use Rattle.forms.specs.Short.{is_misheaded}
-use Rattle.moving.specs.Old.{old_of}
 use Rattle.judging.specs.declared.Verdict.{Verdict}
 use Rattle.judging.specs.declared.Verdict.TheVariants.{Accepted, Refused, Unfinished}
 use Rattle.judging.specs.declared.Judged.{Judged}
 use Rattle.judging.specs.declared.Line.{Line}
 use Rattle.judging.specs.declared.Line.TheVariants.{TooLong, Unfinished as UnfinishedLine}
 use Rattle.judging.specs.Line.{max_config, max_recording, allowed, judged_line, outcome_line, read_line, line_of}
-use Rattle.judging.specs.Judging.{judged, judge_from, judge_of, judge_text_of, rest_of, verdict_place}
+use Rattle.judging.specs.Judging.{judged, judge_from, judge_of, rest_of, verdict_place}
 use Rattle.judging.proofs.Laws.{judged-stays, judged-goes-on, unfinished-accepted, unfinished-refused}
-use Rattle.parts.specs.Parts.{later, later_verdict, whole_of, whole_text_of, sure, on_unfinished, in_parts, joined, long_line, PartsAsOne, LongIsLine}
+use Rattle.parts.specs.Parts.{later, later_verdict, whole_of, sure, on_unfinished, in_parts, joined, long_line, PartsAsOne, LongIsLine}
 use Rattle.parts.proofs.Laws.{judged-later, judged-finishes, judged-front, rest-drop, judged-keeps, judged-within}
 
 -- ---- steps counted before steps counted before
@@ -165,18 +161,6 @@ whole-as-allowed cfg st t a not = go (sound_of cfg st) refl not
     go true e ends = stays ends
     go false e ends = refl
 
--- and so is one on a text of either form
-whole-text-as-allowed : (cfg : Config) (st : State) (t : List ℕ) (a : ℕ) → ((judge_text_of cfg st t a).verdict ≡ Unfinished → ⊥) → whole_text_of cfg st t ≡ judge_text_of cfg st t a
-unfolding whole_text_of whole_of judge_text_of
-whole-text-as-allowed cfg st t a not = go (both (sound_of cfg st) (is_misheaded t)) not
-  where
-    Ends : Bool → Type 0
-    Ends b = (pick b (judged (Refused 0 18) 0 st) (judge_of cfg st (old_of t) a)).verdict ≡ Unfinished → ⊥
-
-    go : (b : Bool) → Ends b → pick b (judged (Refused 0 18) 0 st) (judge_of cfg st (old_of t) (length (old_of t))) ≡ pick b (judged (Refused 0 18) 0 st) (judge_of cfg st (old_of t) a)
-    go true ends = refl
-    go false ends = whole-as-allowed cfg st (old_of t) a ends
-
 -- a line that is not unfinished comes from a verdict that is not
 line-ends : (j : Judged) → ((n : ℕ) → judged_line j ≡ UnfinishedLine n → ⊥) → j.verdict ≡ Unfinished → ⊥
 unfolding judged_line
@@ -194,14 +178,14 @@ long-is-line c t short ends = go (ltb max_config (length c)) (ltb max_recording 
     cfg = (config_of c).config
 
     whole : Line
-    whole = outcome_line (config_of c).outcome (judged_line (whole_text_of cfg (start_of cfg) t))
+    whole = outcome_line (config_of c).outcome (judged_line (whole_of cfg (start_of cfg) t))
 
     allow : Line
-    allow = outcome_line (config_of c).outcome (judged_line (judge_text_of cfg (start_of cfg) t allowed))
+    allow = outcome_line (config_of c).outcome (judged_line (judge_of cfg (start_of cfg) t allowed))
 
     same : ((n : ℕ) → allow ≡ UnfinishedLine n → ⊥) → whole ≡ allow
     same not = outcome-same (config_of c).outcome _ _
-        (λ e. ap judged_line (whole-text-as-allowed cfg (start_of cfg) t allowed (line-ends (judge_text_of cfg (start_of cfg) t allowed) (λ n q. not n (rw e q)))))
+        (λ e. ap judged_line (whole-as-allowed cfg (start_of cfg) t allowed (line-ends (judge_of cfg (start_of cfg) t allowed) (λ n q. not n (rw e q)))))
 
     go : (a b : Bool) → ltb max_config (length c) ≡ a → ltb max_recording (length t) ≡ b → (pick (either a b) TooLong allow ≡ TooLong → ⊥) → ((n : ℕ) → pick (either a b) TooLong allow ≡ UnfinishedLine n → ⊥)
         → pick a TooLong whole ≡ pick (either a b) TooLong allow

@@ -7,13 +7,12 @@ use Rattle.faces.specs.Types.{Config, State}
 use Rattle.state.specs.Start.{start_of}
 use Rattle.rules.specs.Sound.{sound_of}
 use Rattle.reading.specs.Reading.{config_of}
-use Rattle.moving.specs.Old.{old_of}
 use Rattle.judging.specs.declared.Verdict.{Verdict}
 use Rattle.judging.specs.declared.Verdict.TheVariants.{Accepted, Refused, Unfinished}
 use Rattle.judging.specs.declared.Judged.{Judged}
 use Rattle.judging.specs.declared.Line.{Line}
 use Rattle.judging.specs.declared.Line.TheVariants.{TooLong, Unfinished as UnfinishedLine}
-use Rattle.judging.specs.Judging.{judged, judge_of, judge_text_of}
+use Rattle.judging.specs.Judging.{judged, judge_of}
 use Rattle.judging.specs.Line.{max_config, judged_line, outcome_line, line_of}
 
 -- a verdict with n steps before it: places move by n ("Judging")
@@ -29,10 +28,6 @@ later n j = judged (later_verdict n j.verdict) (n + j.count) j.state
 -- judging without limits: no recording has more steps than bytes ("Judging")
 unfoldable pub whole_of : Config → State → List ℕ → Judged
 whole_of cfg st t = judge_of cfg st t (length t)
-
--- the same for a text of either form: as the recording in the old form that it stands for (W-207)
-unfoldable pub whole_text_of : Config → State → List ℕ → Judged
-whole_text_of cfg st t = judge_text_of cfg st t (length (old_of t))
 
 -- how many steps of a part are judged before more is read: a step has 16 bytes, and 16 bytes more stay for the field that is next ("The files", recording)
 abbrev pub sure : List ℕ → ℕ
@@ -62,9 +57,9 @@ abbrev pub EachLong : List (List ℕ) → Type 0
 EachLong [] = Unit {0}
 EachLong (p ∷ ps) = (step_size ≤ length p) × EachLong ps
 
--- the line for a recording of any length, in either form: the judge's own, but for the two limits of a recording ("Judging", the program; W-207)
+-- the line for a recording of any length: the judge's own, but for the two limits of a recording ("Judging", the program)
 unfoldable pub long_line : List ℕ → List ℕ → Line
-long_line c t = pick (ltb max_config (length c)) TooLong (outcome_line (config_of c).outcome (judged_line (whole_text_of (config_of c).config (start_of (config_of c).config) t)))
+long_line c t = pick (ltb max_config (length c)) TooLong (outcome_line (config_of c).outcome (judged_line (whole_of (config_of c).config (start_of (config_of c).config) t)))
 
 -- THE CLAIM: judged in parts of sixteen bytes or more, wherever they are cut, a recording has the verdict, the count and the state of one judging without limits
 abbrev pub PartsAsOne : Type 0

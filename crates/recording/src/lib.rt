@@ -15,7 +15,7 @@ pub enum Field {
 }
 
 // Neither the argument nor the claim is a bad value.
-pub fn values_good(s: Step) -> bool
+fn values_good(s: Step) -> bool
     ensures { result ≡ values_good s }
 {
     let argument = s.argument;
@@ -61,7 +61,7 @@ fn step_in(t: &[u8]) -> Field
 }
 
 // The end field at the front of a text: nothing follows it.
-pub fn end_in(t: &[u8]) -> Field
+fn end_in(t: &[u8]) -> Field
     ensures { result ≡ end_in t.now }
 {
     if t.len() == numbers::SIZE_END {

@@ -12,7 +12,7 @@ use Rattle.reading.specs.Reading.{config_of}
 use Rattle.judging.specs.declared.Verdict.{Verdict}
 use Rattle.judging.specs.declared.Verdict.TheVariants.{Accepted, Refused as IsRefused, Unfinished}
 use Rattle.judging.specs.declared.Judged.{Judged}
-use Rattle.judging.specs.Judging.{judge_text_of}
+use Rattle.judging.specs.Judging.{judge_of}
 use Rattle.judging.specs.Line.{max_config, allowed}
 use Rattle.posting.specs.declared.Shown.{Shown}
 use Rattle.posting.specs.declared.Shown.TheVariants.{Unjudged}
@@ -33,9 +33,9 @@ verdict_shown Unfinished x = Unjudged
 unfoldable pub judged_shown : ℕ → Judged → Shown
 judged_shown o j = verdict_shown j.verdict (operation_shown (operation_in j.state.operations o))
 
--- the line for the operation o and a recording of either form, judged from the start state with an allowance of steps (W-213, W-207)
+-- the line for the operation o and a recording, judged from the start state with an allowance of steps (W-213)
 unfoldable pub recording_shown : Config → ℕ → List ℕ → ℕ → Shown
-recording_shown cfg o t a = judged_shown o (judge_text_of cfg (start_of cfg) t a)
+recording_shown cfg o t a = judged_shown o (judge_of cfg (start_of cfg) t a)
 
 -- ---- a showing
 

@@ -24,13 +24,13 @@ fn judged_shown(operation: u8, j: Judged) -> Shown
     }
 }
 
-// The line for a recording of either form, judged from the start state.
+// The line for a recording, judged from the start state.
 fn recording_shown(cfg: Config, operation: u8, s: &[u8], allowance: u32) -> Shown
     ensures { result ≡ recording_shown cfg operation s.now allowance }
 {
     judged_shown(
         operation,
-        judging::judge_text(cfg, State::start(cfg), s, allowance),
+        judging::judge(cfg, State::start(cfg), s, allowance),
     )
 }
 

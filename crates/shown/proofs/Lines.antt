@@ -4,7 +4,6 @@
 use Prim.Native.Nat.{ℕ, ◌≤◌, ◌<◌}
 use mathlib.Core.Bool.{false}
 use mathlib.Core.List.{List}
-use mathlib.Core.Logic.{inl, inr}
 use mathlib.Core.Option.{some}
 use mathlib.Core.Path.{◌≡◌, refl, sym, ap, ◌∙◌, subst}
 use native.Mathlib.Decide.{dec_lt}
@@ -12,17 +11,15 @@ use native.Mathlib.Omega.{arith}
 use lib.ListN.{length}
 use borrow.Author.Tests.{lt-ltb, le-ltb}
 use Rattle.numbers.specs.Refusals.{not_there}
-use Rattle.faces.specs.Types.{Step}
 use Rattle.values.specs.Values.{number_v}
 use Rattle.state.specs.Tables.{operation_in}
 use Rattle.reading.specs.declared.Outcome.{Outcome}
 use Rattle.reading.specs.declared.Outcome.TheVariants.{Whole as IsRead, Refused as NotRead}
 use Rattle.reading.specs.Reading.{config_of, outcome_refusal}
 use Rattle.reading.proofs.Sound.{read_number}
-use Rattle.moving.specs.Old.{steps_of}
-use Rattle.moving.specs.Moves.{IsTextOf}
-use Rattle.moving.proofs.Either.{text-either, shorts-length}
-use Rattle.judging.specs.Line.{max_config, max_recording, allowed}
+use Rattle.recording.specs.Whole.{steps_in}
+use Rattle.recording.proofs.Texts.{text-again}
+use Rattle.judging.specs.Line.{max_config, allowed}
 use Rattle.history.specs.History.{How, by_instance, Ending, history_of, latest_on, ends_of, last_on, ended_call, given, delivered, Started, EndedBy, InTime, time_since}
 use Rattle.history.specs.Promises.{Ended}
 use Rattle.history.proofs.Proofs.{done-is-delivered, done-is-final, open-is-unended}
@@ -132,9 +129,9 @@ refused-is-absent c o t b k = (λ h. go h (files c o t b), λ w. back w (files c
 
 module _ (c : List ℕ) (o : ℕ) (t : List ℕ) (n : ℕ) (h : There c o) (w : Whole c t) (no : NoneOpen c o t) (e : Ending) (q : last_on o (after_all c t).endings ≡ some e) (how : e.how ≡ by_instance e.call (number_v n)) where
   closed : (operation_in w.state.operations o).calling ≡ false
-  closed = open-is-unended (config_of c).config (steps_of t) w.state (config-sound c o t h) w.run o (inside c o t h) ∙ none-unended c o t h w no
+  closed = open-is-unended (config_of c).config (steps_in t) w.state (config-sound c o t h) w.run o (inside c o t h) ∙ none-unended c o t h w no
 
-  ended : Ended (config_of c).config (steps_of t) e
+  ended : Ended (config_of c).config (steps_in t) e
   ended = last-ended c o t h w e q
 
   by : EndedBy (history_of (config_of c).config ended.before) ended.step e.on e.call (by_instance e.call (number_v n))
@@ -148,12 +145,12 @@ module _ (c : List ℕ) (o : ℕ) (t : List ℕ) (n : ℕ) (h : There c o) (w : 
       (subst (λ (y : How). InTime (time_since e.call ended.before) (operation_conf_in (config_of c).config.operations e.on).timeout y) how ended.time)
 
   newest : e.call ≡ latest_on (after_all c t) o
-  newest = ap ended_call (sym q) ∙ (done-is-delivered (config_of c).config (steps_of t) w.state (config-sound c o t h) w.run o (inside c o t h) closed).1
+  newest = ap ended_call (sym q) ∙ (done-is-delivered (config_of c).config (steps_in t) w.state (config-sound c o t h) w.run o (inside c o t h) closed).1
 
   ended-once : ends_of e.call (after_all c t).endings ≡ 1
   ended-once =
-      let d = (done-is-delivered (config_of c).config (steps_of t) w.state (config-sound c o t h) w.run o (inside c o t h) closed).0 ∙ ap delivered q ∙ ap given how in
-      let f = done-is-final (config_of c).config (steps_of t) w.state (config-sound c o t h) w.run o n (inside c o t h) closed d in
+      let d = (done-is-delivered (config_of c).config (steps_in t) w.state (config-sound c o t h) w.run o (inside c o t h) closed).0 ∙ ap delivered q ∙ ap given how in
+      let f = done-is-final (config_of c).config (steps_in t) w.state (config-sound c o t h) w.run o n (inside c o t h) closed d in
       let s : f.0 ≡ e = let p = sym f.1 ∙ q in cc in
       ap (λ (x : Ending). ends_of x.call (after_all c t).endings) (sym s) ∙ f.3
 
@@ -162,7 +159,7 @@ module _ (c : List ℕ) (o : ℕ) (t : List ℕ) (n : ℕ) (h : There c o) (w : 
     before = ended.before;
     step = ended.step;
     after = ended.after;
-    text = λ y. text-either t y w.whole;
+    text = λ y. sym (text-again t y w.whole);
     place = ended.whole;
     back = by.0.0;
     plan = by.2;
@@ -190,13 +187,9 @@ judged-whole c o t NoPlan m d = m.0
 judged-whole c o t None m d = m.0
 judged-whole c o t Unjudged m d = absurd (d refl)
 
--- so many steps are within the limit, in either form
-few-short : (t : List ℕ) (ss : List Step) → length ss ≤ allowed → IsTextOf t ss → length t ≤ max_recording
-few-short t ss l (inl e) = omega (arith, l, ap length e, text-length ss)
-few-short t ss l (inr e) = omega (arith, l, ap length e, (shorts-length ss).1)
-
 pub judged-is-accepted : JudgedIsAccepted
 judged-is-accepted c o t b x y h d =
     let m = (line-is-meant c o t b x).0 h in
     let w = judged-whole c o t x m.1 d in
-    ((accepted-is-run c t (length (steps_of t))).1 (((m.0.fits, few-short t (steps_of t) w.few (text-either t y w.whole)), m.0.read), w.whole, refl, w.few, w.state, w.run)).0
+    let l = ap length (sym (text-again t y w.whole)) ∙ text-length (steps_in t) in
+    ((accepted-is-run c t (length (steps_in t))).1 (((m.0.fits, omega (arith, l, w.few)), m.0.read), w.whole, refl, w.few, w.state, w.run)).0

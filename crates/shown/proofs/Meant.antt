@@ -22,11 +22,11 @@ use Rattle.rules.proofs.Configured.{operations-most}
 use Rattle.effects.specs.Step.{step_of}
 use Rattle.reading.specs.Reading.{config_of}
 use Rattle.reading.proofs.Sound.{read-sound, read_number}
-use Rattle.moving.specs.Old.{steps_of}
+use Rattle.recording.specs.Whole.{steps_in}
 use Rattle.judging.specs.declared.Verdict.{Verdict}
 use Rattle.judging.specs.declared.Verdict.TheVariants.{Accepted, Refused, Unfinished}
 use Rattle.judging.specs.declared.Judged.{Judged}
-use Rattle.judging.specs.Judging.{verdict_form, judge_text_of}
+use Rattle.judging.specs.Judging.{verdict_form, judge_of}
 use Rattle.judging.specs.Line.{allowed}
 use Rattle.history.specs.History.{How, by_timeout, by_instance, by_failure, Ending, history_of, latest_on, ends_of, last_on, is_unended, given, delivered, EndedBy}
 use Rattle.history.specs.Promises.{Ended}
@@ -35,7 +35,7 @@ use Rattle.history.proofs.Deeds.{Deed, pass, call, answer, late, end, server, pl
 use Rattle.history.proofs.Accepts.{deed}
 use Rattle.history.proofs.Unended.{started-some}
 use Rattle.history.proofs.Proofs.{ends-properly, done-is-delivered, open-is-unended, unended-is-latest, latest-started}
-use Rattle.claims.proofs.Verdicts.{either-is-whole}
+use Rattle.claims.proofs.Verdicts.{accepted-is-whole}
 use Rattle.posting.specs.declared.Shown.{Shown}
 use Rattle.posting.specs.declared.Shown.TheVariants.{Final, Wait, NoPlan, None, Unjudged}
 use Rattle.posting.specs.Posting.{is_unplanned, done_shown, operation_shown}
@@ -81,7 +81,7 @@ module _ (c : List ℕ) (o : ℕ) (t : List ℕ) (h : There c o) where
   cfg = (config_of c).config
 
   abbrev j : Judged
-  j = judge_text_of (config_of c).config (start_of (config_of c).config) t allowed
+  j = judge_of (config_of c).config (start_of (config_of c).config) t allowed
 
   pub config-sound : config_sound (config_of c).config ≡ true
   config-sound = read-sound c (read_number c h.read)
@@ -95,7 +95,7 @@ module _ (c : List ℕ) (o : ℕ) (t : List ℕ) (h : There c o) where
   shown-unjudged n = go j.verdict refl
     where
       go : (v : Verdict) → j.verdict ≡ v → judged_shown o j ≡ Unjudged
-      go Accepted e = let w = (either-is-whole cfg t allowed j.count j.state config-sound).0 (ap verdict_form e, refl, refl) in absurd (n (record { whole = w.0; few = subst (λ (m : ℕ). m ≤ allowed) w.1 w.2; state = j.state; run = w.3 }))
+      go Accepted e = let w = (accepted-is-whole cfg t allowed j.count j.state config-sound).0 (ap verdict_form e, refl, refl) in absurd (n (record { whole = w.0; few = subst (λ (m : ℕ). m ≤ allowed) w.1 w.2; state = j.state; run = w.3 }))
       go (Refused p k) e = rw e
       go Unfinished e = rw e
 
@@ -104,10 +104,10 @@ module _ (c : List ℕ) (o : ℕ) (t : List ℕ) (h : There c o) where
   whole-or = go j.verdict refl
     where
       other : verdict_form j.verdict ≡ 0 → Whole c t
-      other e = let w = (either-is-whole cfg t allowed j.count j.state config-sound).0 (e, refl, refl) in record { whole = w.0; few = subst (λ (m : ℕ). m ≤ allowed) w.1 w.2; state = j.state; run = w.3 }
+      other e = let w = (accepted-is-whole cfg t allowed j.count j.state config-sound).0 (e, refl, refl) in record { whole = w.0; few = subst (λ (m : ℕ). m ≤ allowed) w.1 w.2; state = j.state; run = w.3 }
 
       never : (verdict_form j.verdict ≡ 0 → ⊥) → Whole c t → ⊥
-      never n w = n ((either-is-whole cfg t allowed (length (steps_of t)) w.state config-sound).1 (w.whole, refl, w.few, w.run)).0
+      never n w = n ((accepted-is-whole cfg t allowed (length (steps_in t)) w.state config-sound).1 (w.whole, refl, w.few, w.run)).0
 
       go : (v : Verdict) → j.verdict ≡ v → Dec (Whole c t)
       go Accepted e = yes (other (ap verdict_form e))
@@ -121,15 +121,15 @@ module _ (c : List ℕ) (o : ℕ) (t : List ℕ) (h : There c o) where
     -- what is shown, by the history
     pub shown_by : recording_shown (config_of c).config o t allowed ≡ pick (is_unended (after_all c t) o) Wait (done_shown (delivered (last_on o (after_all c t).endings)))
     unfolding recording_shown judged_shown operation_shown
-    shown_by = let s = (either-is-whole cfg t allowed (length (steps_of t)) st config-sound).1 (w.whole, refl, w.few, w.run) in rw (is-accepted j.verdict s.0, s.2) (go (operation_in st.operations o).calling refl)
+    shown_by = let s = (accepted-is-whole cfg t allowed (length (steps_in t)) st config-sound).1 (w.whole, refl, w.few, w.run) in rw (is-accepted j.verdict s.0, s.2) (go (operation_in st.operations o).calling refl)
       where
         u : (operation_in st.operations o).calling ≡ is_unended (after_all c t) o
-        u = open-is-unended cfg (steps_of t) st config-sound w.run o inside
+        u = open-is-unended cfg (steps_in t) st config-sound w.run o inside
 
         go : (b : Bool) → (operation_in st.operations o).calling ≡ b
             → pick (operation_in st.operations o).calling Wait (done_shown (operation_in st.operations o).done) ≡ pick (is_unended (after_all c t) o) Wait (done_shown (delivered (last_on o (after_all c t).endings)))
         go true e = rw (e, sym u ∙ e)
-        go false e = rw (e, sym u ∙ e) (ap done_shown (done-is-delivered cfg (steps_of t) st config-sound w.run o inside e).0)
+        go false e = rw (e, sym u ∙ e) (ap done_shown (done-is-delivered cfg (steps_in t) st config-sound w.run o inside e).0)
 
     -- ---- open calls
 
@@ -140,13 +140,13 @@ module _ (c : List ℕ) (o : ℕ) (t : List ℕ) (h : There c o) where
         let x = ltb 0 m in
         let y = eqb (ends_of m (after_all c t).endings) 0 in
         let b = ltb-true 0 m (both_left x y e) in
-        (latest_on (after_all c t) o, (latest-started cfg (steps_of t) st config-sound w.run o inside b, eqb-true (ends_of m (after_all c t).endings) 0 (both_right x y e)))
+        (latest_on (after_all c t) o, (latest-started cfg (steps_in t) st config-sound w.run o inside b, eqb-true (ends_of m (after_all c t).endings) 0 (both_right x y e)))
 
     pub open-unended : (k : ℕ) → Open c o t k → is_unended (after_all c t) o ≡ true
     unfolding is_unended
     open-unended k p =
-        let l = unended-is-latest cfg (steps_of t) st config-sound w.run k o p.0 p.1 in
-        let b : 0 < latest_on (after_all c t) o = omega (arith, l, started-some (steps_of t) k o p.0) in
+        let l = unended-is-latest cfg (steps_in t) st config-sound w.run k o p.0 p.1 in
+        let b : 0 < latest_on (after_all c t) o = omega (arith, l, started-some (steps_in t) k o p.0) in
         let z : ends_of (latest_on (after_all c t) o) (after_all c t).endings ≡ 0 = ap (λ (m : ℕ). ends_of m (after_all c t).endings) (sym l) ∙ p.1 in
         rw (lt-ltb 0 (latest_on (after_all c t) o) b, eq-eqb _ _ z)
 
@@ -162,11 +162,11 @@ module _ (c : List ℕ) (o : ℕ) (t : List ℕ) (h : There c o) where
 
     -- ---- the last ending
 
-    pub last-ended : (x : Ending) → last_on o (after_all c t).endings ≡ some x → Ended (config_of c).config (steps_of t) x
-    last-ended x q = ends-properly cfg (steps_of t) st config-sound w.run x (last-in o (after_all c t).endings x q).0
+    pub last-ended : (x : Ending) → last_on o (after_all c t).endings ≡ some x → Ended (config_of c).config (steps_in t) x
+    last-ended x q = ends-properly cfg (steps_in t) st config-sound w.run x (last-in o (after_all c t).endings x q).0
 
     -- what an instance handed back is Void or a Number, and it was spawned for the call that ended
-    by_call : (x : Ending) (k : ℕ) (v : Value) → Ended cfg (steps_of t) x → x.how ≡ by_instance k v → (k ≡ x.call) × (is_payload v ≡ true)
+    by_call : (x : Ending) (k : ℕ) (v : Value) → Ended cfg (steps_in t) x → x.how ≡ by_instance k v → (k ≡ x.call) × (is_payload v ≡ true)
     by_call x k v d e =
         let b : EndedBy (history_of cfg d.before) d.step x.on x.call (by_instance k v) = subst (λ (y : How). EndedBy (history_of cfg d.before) d.step x.on x.call y) e d.by in
         let m = halves cfg (start_of cfg) st d.before (d.step ∷ d.after) (rw d.whole at w.run) in

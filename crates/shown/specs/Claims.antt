@@ -10,9 +10,7 @@ use Rattle.values.specs.Values.{void_v, number_v}
 use Rattle.config.specs.Tables.{operation_conf_in}
 use Rattle.wire.proofs.Laws.{Bytes}
 use Rattle.reading.specs.Reading.{config_of, outcome_refusal}
-use Rattle.recording.specs.Whole.{is_sound}
-use Rattle.moving.specs.Old.{old_of, steps_of}
-use Rattle.moving.specs.Moves.{IsTextOf}
+use Rattle.recording.specs.Whole.{steps_in, is_sound, text_of}
 use Rattle.judging.specs.Line.{max_config, allowed, line_of, line_form}
 use Rattle.history.specs.History.{How, by_timeout, by_instance, by_failure, Ending, History, history_of, taken_by, failed_by, latest_on, ends_of, last_on, Started, time_since}
 use Rattle.history.specs.Promises.{Run}
@@ -36,20 +34,20 @@ pub record There (c : List ℕ) (o : ℕ) : Type 0 where
   pub read : outcome_refusal (config_of c).outcome ≡ 0
   pub there : o < (config_of c).config.operations.n
 
--- the recording is accepted whole: it is all of its steps, 4,000 at most, and its end, in either form, and every step is accepted (W-213, accepted; W-207)
+-- the recording is accepted whole: it is all of its steps, 4,000 at most, and its end, and every step is accepted (W-213, accepted)
 pub record Whole (c t : List ℕ) : Type 0 where
-  pub whole : is_sound (old_of t) ≡ true
-  pub few : length (steps_of t) ≤ allowed
+  pub whole : is_sound t ≡ true
+  pub few : length (steps_in t) ≤ allowed
   pub state : State
-  pub run : Run (config_of c).config (steps_of t) state
+  pub run : Run (config_of c).config (steps_in t) state
 
 -- what is known after all its steps (W-213, demand 3)
 abbrev pub after_all : List ℕ → List ℕ → History
-after_all c t = history_of (config_of c).config (steps_of t)
+after_all c t = history_of (config_of c).config (steps_in t)
 
 -- the call k on o is open: it was started, and has no ending (W-213, WAIT)
 abbrev pub Open : List ℕ → ℕ → List ℕ → ℕ → Type 0
-Open c o t k = Started (steps_of t) k o × (ends_of k (after_all c t).endings ≡ 0)
+Open c o t k = Started (steps_in t) k o × (ends_of k (after_all c t).endings ≡ 0)
 
 -- no call on o is open (W-213)
 abbrev pub NoneOpen : List ℕ → ℕ → List ℕ → Type 0
@@ -139,9 +137,9 @@ pub record Planned (c : List ℕ) (o : ℕ) (t : List ℕ) (n : ℕ) : Type 0 wh
   pub before : List Step
   pub step : Step
   pub after : List Step
-  -- the recording is exactly its steps and the end, in one of the two forms, and this is one of them
-  pub text : Bytes t → IsTextOf t (steps_of t)
-  pub place : steps_of t ≡ before ++ (step ∷ after)
+  -- the recording is exactly its steps and the end, and this is one of them
+  pub text : Bytes t → t ≡ text_of (steps_in t)
+  pub place : steps_in t ≡ before ++ (step ∷ after)
   -- a hand back of n, answered as one that ends its call
   pub back : step.code ≡ hand_back_code
   pub plan : step.argument ≡ number_v n

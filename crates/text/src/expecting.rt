@@ -1,10 +1,9 @@
 // What could have stood at the place of a mistake.
 ghost use Rattle.std.specs.Prelude.{◌≤◌, length};
 
-use crate::making::{Row, behind_bytes, find_row, line_end, take_row};
+use crate::forms::{after, byte_at, item_end, next_row};
+use crate::making::{behind_bytes, line_end, take_row};
 use crate::putting::{put_byte, put_bytes, put_decimal, put_name, put_part};
-use crate::rows::{after, byte_at, item_end, next_row};
-use crate::shorts::put_wrong;
 use crate::taking;
 use crate::taking::{Took, before_comment, skip_blanks};
 
@@ -126,16 +125,11 @@ fn put_rows(out: &mut [u8], forms: &[u8], line: &[u8], known: &mut [u8], best: u
     at
 }
 
-// What could have stood at a place of a line without its comment. A line that has the form of a row is a step for which the short form has no room.
+// What could have stood at a place of a line without its comment.
 fn put_choices(out: &mut [u8], forms: &[u8], line: &[u8], known: &mut [u8], best: usize) -> usize {
     let b = behind_bytes(line);
     if let Took::To(_) = b {
         return put_bytes(out, 0, b"a number from 0 to 255");
-    }
-    let mut field = [0u8; 16];
-    let r = find_row(forms, line, known, &mut field);
-    if let Row::At(_) = r {
-        return put_wrong(out, 0, &field);
     }
     let at = put_rows(out, forms, line, known, best);
     if best == skip_blanks(line, 0) {

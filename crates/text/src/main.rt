@@ -2,11 +2,10 @@
 // standard input. A mistake of a text is said on standard error, by line and column, and then nothing is printed. `text trip TIMES` reads many
 // files, each behind its length in four bytes, and prints how many of them came back from their text as they were, as they are and so often damaged.
 mod expecting;
+mod forms;
 mod making;
 mod names;
 mod putting;
-mod rows;
-mod shorts;
 mod showing;
 mod taking;
 mod tripping;
@@ -195,6 +194,6 @@ fn run(forms: &[u8], bytes: &mut [u8], text: &mut [u8]) {
 fn main() {
     let mut bytes = [0u8; BYTES_ROOM];
     let mut text = [0u8; TEXT_ROOM];
-    let forms = rows::FORMS;
+    let forms = forms::FORMS;
     run(&forms, &mut bytes, &mut text);
 }

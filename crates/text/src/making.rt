@@ -1,15 +1,12 @@
 // Bytes made of text.
 ghost use Rattle.std.specs.Prelude.{◌<◌, ◌≤◌, length};
 
+use crate::forms::{byte_at, choosing, next_row, size_of, tag_of};
 use crate::names::count_tag;
 use crate::putting::{put_byte, put_part};
-use crate::rows::{byte_at, choosing, next_row, size_of, tag_of};
-use crate::shorts::{is_headed, put_short, wrong_entry};
 use crate::taking::{
-    A_WORD, NOTHING, Number, Took, before_comment, entry_place, skip_blanks, take_form,
-    take_number, take_word,
+    A_WORD, NOTHING, Number, Took, before_comment, skip_blanks, take_form, take_number, take_word,
 };
-use wire::Wrote;
 
 // How far the bytes reach now; or the place in the line, or in the text, of a mistake; or that there is no room.
 #[derive(Drop)]
@@ -29,7 +26,7 @@ pub(crate) enum Row {
 // The field of a row before its line is taken: tag, size and the byte that chooses.
 fn start_field(forms: &[u8], p: usize, field: &mut [u8]) {
     let tag = tag_of(byte_at(forms, p));
-    let choice = crate::rows::after(forms, p, 1);
+    let choice = crate::forms::after(forms, p, 1);
     let mut i: usize = 0;
     while i < 16 {
         put_byte(field, i, 0);
@@ -114,36 +111,11 @@ fn make_row(
         return Made::To(at);
     }
     count_tag(known, tag);
-    if tag == 0x40 && is_headed(out, at) {
-        return make_short(forms, p, line, known, field, out, at);
-    }
     let next = put_part(out, at, field, 0, size_of(tag) as usize + 3);
-    whole(out, next)
-}
-
-// The short field of a step's line; or where the line has something for which the short form has no room.
-fn make_short(
-    forms: &[u8],
-    p: usize,
-    line: &[u8],
-    known: &mut [u8],
-    field: &[u8],
-    out: &mut [u8],
-    at: usize,
-) -> Made
-    requires { p < length forms.now }
-{
-    let w = put_short(field, out, at);
-    match w {
-        Wrote::To(next) => whole(out, next),
-        Wrote::Refused(k) => {
-            if k == numbers::NO_ROOM {
-                return Made::Full;
-            }
-            let n = next_row(forms, p);
-            Made::Wrong(entry_place(forms, p, n, line, known, wrong_entry(field)))
-        }
+    if next < out.len() {
+        return Made::To(next);
     }
+    Made::Full
 }
 
 // The bytes behind the word.

@@ -2,8 +2,8 @@
 // 16 places of 33 bytes for each of eight kinds, a name's length and the name.
 ghost use Rattle.std.specs.Prelude.{◌≤◌};
 
+use crate::forms::byte_at;
 use crate::putting::put_byte;
-use crate::rows::byte_at;
 
 pub(crate) const KNOWN: usize = 4240;
 
@@ -61,7 +61,7 @@ pub(crate) fn is_name(known: &[u8], place: usize, line: &[u8], from: usize, size
     }
     let mut j: usize = 0;
     while j < size {
-        if crate::rows::after(known, place, j + 1) != crate::rows::after(line, from, j) {
+        if crate::forms::after(known, place, j + 1) != crate::forms::after(line, from, j) {
             return false;
         }
         j = j + 1;
@@ -80,7 +80,7 @@ pub(crate) fn keep_name(known: &mut [u8], place: usize, line: &[u8], from: usize
     put_byte(known, place, size as u8);
     let mut j: usize = 0;
     while j < size {
-        put_byte(known, place + 1 + j, crate::rows::after(line, from, j));
+        put_byte(known, place + 1 + j, crate::forms::after(line, from, j));
         j = j + 1;
     }
 }

@@ -1,8 +1,8 @@
 // Lines made of fields.
 ghost use Rattle.std.specs.Prelude.{◌<◌};
 
+use crate::forms::{after, byte_at, item_end, kind_of, next_row, offset_of};
 use crate::names::place_of;
-use crate::rows::{after, byte_at, item_end, kind_of, next_row, offset_of};
 
 // A byte more, where there is room; where the text goes on.
 pub(crate) fn put_byte(out: &mut [u8], at: usize, b: u8) -> usize {

@@ -1,11 +1,10 @@
 // Text made of bytes.
 ghost use Rattle.std.specs.Prelude.{◌+◌, ◌<◌, ◌≤◌, length};
 
+use crate::forms::{after, byte_at, choosing, next_row, size_of, tag_of};
 use crate::making::{Row, find_row};
 use crate::names::count_tag;
 use crate::putting::{put_byte, put_bytes, put_decimal, put_form, put_part};
-use crate::rows::{after, byte_at, choosing, next_row, size_of, tag_of};
-use crate::shorts::{is_headed, is_recording, put_refused, read_as, stretch};
 use reading::Outcome;
 use recording::Field;
 
@@ -16,28 +15,12 @@ pub(crate) struct Damage {
     pub number: u8,
 }
 
-// The size of a field behind the header of the short form, where tag 41 has what its length says, up to the longest step.
-fn short_size(bytes: &[u8], at: usize) -> u8 {
-    let tag = byte_at(bytes, at);
-    if tag != 0x41 {
-        return size_of(tag);
-    }
-    let size = after(bytes, at, 2);
-    if 13 < size {
-        return 255;
-    }
-    size
-}
-
 // How many bytes the field at a place has, with its frame; 0 where no field of either file stands there.
-fn frame(bytes: &[u8], at: usize, headed: bool) -> usize
+fn frame(bytes: &[u8], at: usize) -> usize
     requires { at ≤ length bytes.now }
     ensures { at + result ≤ length bytes.now }
 {
-    let mut size = size_of(byte_at(bytes, at)) as usize;
-    if headed {
-        size = short_size(bytes, at) as usize;
-    }
+    let size = size_of(byte_at(bytes, at)) as usize;
     if size == 255 {
         return 0;
     }
@@ -53,24 +36,12 @@ fn frame(bytes: &[u8], at: usize, headed: bool) -> usize
     size + 3
 }
 
-// Where the steps of a file start: behind the header, if it is a recording that has one.
-fn steps_start(bytes: &[u8]) -> usize
-    ensures { result ≤ length bytes.now }
-{
-    if is_recording(bytes) {
-        if numbers::SIZE_EDITION <= bytes.len() {
-            return numbers::SIZE_EDITION;
-        }
-    }
-    0
-}
-
-// What is refused in a recording of one of the forms. Its header has no place.
-fn recording_damage(bytes: &[u8], short: bool) -> Damage {
-    let mut at: usize = steps_start(bytes);
+// What is refused in a recording.
+fn recording_damage(bytes: &[u8]) -> Damage {
+    let mut at: usize = 0;
     let mut place: usize = 1;
     while at < bytes.len() {
-        let f = read_as(short, bytes, at);
+        let f = recording::read_field(bytes, at);
         match f {
             Field::Step(_, _) => {}
             Field::End => {
@@ -86,7 +57,7 @@ fn recording_damage(bytes: &[u8], short: bool) -> Damage {
                 };
             }
         }
-        let size = frame(bytes, at, short);
+        let size = frame(bytes, at);
         if size == 0 {
             return Damage { place, number: 18 };
         }
@@ -109,14 +80,14 @@ fn config_damage(bytes: &[u8]) -> Damage {
     }
 }
 
-// A file that starts with a step or with the end is taken for a recording, and so is one with a step behind the header; any other for a configuration.
+// A file that starts with a step or with the end is taken for a recording, any other for a configuration.
 pub(crate) fn damage_of(bytes: &[u8]) -> Damage {
     let tag = byte_at(bytes, 0);
-    if tag == 0x40 || tag == 0x7f {
-        return recording_damage(bytes, false);
+    if tag == 0x40 {
+        return recording_damage(bytes);
     }
-    if is_recording(bytes) {
-        return recording_damage(bytes, true);
+    if tag == 0x7f {
+        return recording_damage(bytes);
     }
     config_damage(bytes)
 }
@@ -220,19 +191,12 @@ fn put_raw(out: &mut [u8], at: usize, bytes: &[u8]) -> usize {
     put_byte(out, next, b'\n')
 }
 
-// The line of the field, or the bytes that it stands for.
-fn show_field(
-    forms: &[u8],
-    field: &[u8],
-    bytes: &[u8],
-    known: &mut [u8],
-    out: &mut [u8],
-    at: usize,
-) -> usize {
+// The line of the field, or its bytes.
+fn show_field(forms: &[u8], field: &[u8], known: &mut [u8], out: &mut [u8], at: usize) -> usize {
     let mut line = [0u8; 512];
     let size = put_field(forms, field, known, &mut line);
     if size == 0 {
-        return put_raw(out, at, bytes);
+        return put_raw(out, at, field);
     }
     let tag = byte_at(field, 0);
     count_tag(known, tag);
@@ -240,46 +204,19 @@ fn show_field(
     put_byte(out, next, b'\n')
 }
 
-// The line of the step that a short field is, or its bytes.
-fn show_short(forms: &[u8], field: &[u8], known: &mut [u8], out: &mut [u8], at: usize) -> usize {
-    let mut old = [0u8; 16];
-    if stretch(field, &mut old) {
-        return show_field(forms, &old, field, known, out, at);
-    }
-    put_raw(out, at, field)
-}
-
-// The line of a field behind the header of the short form, or its bytes: a step of the old form has no line there.
-fn show_behind(forms: &[u8], field: &[u8], known: &mut [u8], out: &mut [u8], at: usize) -> usize {
-    match byte_at(field, 0) {
-        0x40 => put_raw(out, at, field),
-        0x41 => show_short(forms, field, known, out, at),
-        _ => show_field(forms, field, field, known, out, at),
-    }
-}
-
-// Why a field whose frame holds is refused, by its tag.
-fn put_unfit(out: &mut [u8], at: usize, bytes: &[u8], tag: u8) -> usize {
-    if byte_at(bytes, 0) == 0x40 {
+// Why a field whose frame holds is refused, by its tag and that of the first field.
+fn put_unfit(out: &mut [u8], at: usize, tag: u8, first: u8) -> usize {
+    if first == 0x40 {
         if tag == 0x40 {
             return put_bytes(out, at, b"a value is bad");
         }
         return put_bytes(out, at, b"this field is none of this file");
     }
     match tag {
-        0x40 => put_old_step(out, at, bytes),
         0x1a => put_bytes(out, at, b"only edition 2 has this field"),
         0x1b => put_bytes(out, at, b"only edition 2 has this field"),
         _ => put_bytes(out, at, b"this field is none of this file"),
     }
-}
-
-// Why a step of the old form is refused that stands behind another field.
-fn put_old_step(out: &mut [u8], at: usize, bytes: &[u8]) -> usize {
-    if is_recording(bytes) {
-        return put_bytes(out, at, b"this is a step of the old form");
-    }
-    put_bytes(out, at, b"this field is none of this file")
 }
 
 // Why a frame is refused.
@@ -290,11 +227,7 @@ fn put_reason(out: &mut [u8], at: usize, bytes: &[u8], i: usize, ended: bool) ->
     if ended {
         return put_bytes(out, at, b"bytes stand behind the end");
     }
-    let tag = byte_at(bytes, i);
-    if tag == 0x41 && is_headed(bytes, bytes.len()) {
-        return put_refused(out, at, bytes, i, bytes.len() - i);
-    }
-    let size = size_of(tag);
+    let size = size_of(byte_at(bytes, i));
     if size == 255 {
         return put_bytes(out, at, b"no field has this tag");
     }
@@ -310,7 +243,7 @@ fn put_reason(out: &mut [u8], at: usize, bytes: &[u8], i: usize, ended: bool) ->
     if bytes.len() - i < size as usize + 3 {
         return put_bytes(out, at, b"the field is cut");
     }
-    put_unfit(out, at, bytes, tag)
+    put_unfit(out, at, byte_at(bytes, i), byte_at(bytes, 0))
 }
 
 // Why a field is one too many.
@@ -362,7 +295,6 @@ fn show_next(
     bytes: &[u8],
     i: usize,
     e: usize,
-    headed: bool,
     known: &mut [u8],
     out: &mut [u8],
     at: usize,
@@ -372,22 +304,18 @@ fn show_next(
     if i == e {
         return put_raw(out, at, &bytes[i..]);
     }
-    if headed {
-        return show_behind(forms, &bytes[i..e], known, out, at);
-    }
-    let field = &bytes[i..e];
-    show_field(forms, field, field, known, out, at)
+    show_field(forms, &bytes[i..e], known, out, at)
 }
 
 // Where the field at a place ends; the place itself where there is none, or where the end came before.
-fn field_end(bytes: &[u8], i: usize, headed: bool, ended: bool) -> usize
+fn field_end(bytes: &[u8], i: usize, ended: bool) -> usize
     requires { i ≤ length bytes.now }
     ensures { (i ≤ result) × (result ≤ length bytes.now) }
 {
     if ended {
         return i;
     }
-    i + frame(bytes, i, headed)
+    i + frame(bytes, i)
 }
 
 // Where the text goes on: behind the field, or, where there is none, at the end.
@@ -401,27 +329,18 @@ fn next_place(bytes: &[u8], i: usize, e: usize) -> usize
     e
 }
 
-// The line of the header, if the steps start behind one.
-fn show_header(out: &mut [u8], start: usize) -> usize {
-    if start == 0 {
-        return 0;
-    }
-    put_bytes(out, 0, b"edition 2\n")
-}
-
 // The text of a file; how long it is. Where it fills the room, it may be cut.
 pub(crate) fn show(forms: &[u8], bytes: &[u8], known: &mut [u8], out: &mut [u8]) -> usize {
     let damage = damage_of(bytes);
-    let headed = is_headed(bytes, bytes.len());
-    let mut i: usize = steps_start(bytes);
-    let mut at: usize = show_header(out, i);
+    let mut i: usize = 0;
+    let mut at: usize = 0;
     let mut place: usize = 1;
     let mut ended = false;
     while i < bytes.len() {
         at = put_damage(out, at, damage, place, bytes, i, ended);
-        let e = field_end(bytes, i, headed, ended);
+        let e = field_end(bytes, i, ended);
         ended = byte_at(bytes, i) == 0x7f;
-        at = show_next(forms, bytes, i, e, headed, known, out, at);
+        at = show_next(forms, bytes, i, e, known, out, at);
         i = next_place(bytes, i, e);
         place = std::num::wrapping_add_usize(place, 1);
     }

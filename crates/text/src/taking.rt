@@ -1,9 +1,9 @@
 // Fields made of lines.
 ghost use Rattle.std.specs.Prelude.{◌<◌, ◌≤◌, length};
 
+use crate::forms::{after, byte_at, item_end, kind_of, next_row, offset_of};
 use crate::names::{LONGEST, is_name, keep_name, place_of};
 use crate::putting::{has_number, put_byte};
-use crate::rows::{after, byte_at, item_end, kind_of, next_row, offset_of};
 
 // Where a line goes on; or where it is not as it should be, what should stand there, and a place that says more of that.
 #[derive(Drop)]
@@ -464,44 +464,6 @@ fn take_item(
         b'!' => take_named(line, at, known, field, kind, learn),
         _ => take_word(forms, i, e, line, at),
     }
-}
-
-// Where a line that has the form of the row from p up to n has the item of a byte of the body, which its digit says; the line's end if it has none.
-pub(crate) fn entry_place(
-    forms: &[u8],
-    p: usize,
-    n: usize,
-    line: &[u8],
-    known: &mut [u8],
-    digit: u8,
-) -> usize {
-    let mut field = [0u8; 16];
-    let mut i = behind_letters(p, n);
-    let mut at = skip_blanks(line, 0);
-    while i < n {
-        if byte_at(forms, i) == b'%' && after(forms, i, 2) == digit {
-            return at;
-        }
-        let e = item_end(forms, i, n);
-        let t = take_item(forms, i, e, line, at, known, &mut field, false);
-        let Took::To(next) = t else {
-            return at;
-        };
-        at = next;
-        i = e;
-    }
-    at
-}
-
-// Where the words of a row start, behind its two letters.
-fn behind_letters(p: usize, n: usize) -> usize {
-    if p < n {
-        if n - p < 3 {
-            return n;
-        }
-        return p + 2;
-    }
-    n
 }
 
 // A line by the form from one place up to another.

@@ -139,10 +139,10 @@ fn trip_file(
 // How long the file is that stands at a place behind its length; the length of what is left where there is none.
 fn file_size(packed: &[u8], at: usize) -> usize {
     wire::number(
-        crate::rows::byte_at(packed, at),
-        crate::rows::after(packed, at, 1),
-        crate::rows::after(packed, at, 2),
-        crate::rows::after(packed, at, 3),
+        crate::forms::byte_at(packed, at),
+        crate::forms::after(packed, at, 1),
+        crate::forms::after(packed, at, 2),
+        crate::forms::after(packed, at, 3),
     ) as usize
 }
 

@@ -1,14 +1,17 @@
 -- `tell` is safe.
 -- Assumes nothing.
-use Rattle.mender.proofs.Rooms.{blank-long}
+use mathlib.Core.Path.{sym}
+use lib.Seq.{length-take-le}
+use borrow.Author.Rules.{rules}
 use Rattle.mend.proofs.tell.Statement.{statement}
 use Rattle.mend.proofs.tell.Tie as tie
 
-slice-aggregate-tell-with : tie.Need-slice-aggregate-tell-with
-slice-aggregate-tell-with c = blank-long 851968
+array-share-prefix-out : tie.Need-array-share-prefix-out
+array-share-prefix-out c = search rules
 
-slice-aggregate-tell-with-2 : tie.Need-slice-aggregate-tell-with-2
-slice-aggregate-tell-with-2 c = blank-long 851968
+slice-aggregate-keep : tie.Need-slice-aggregate-keep
+slice-aggregate-keep c = sym (length-take-le _ _ (array-share-prefix-out c.before))
 
 pub tell-spec : {M : Type 1} → statement M
-tell-spec = tie.close (tie.spec slice-aggregate-tell-with slice-aggregate-tell-with-2 (λ c κs. tt) (λ c. tt))
+tell-spec =
+    tie.close (tie.spec (λ c. search rules) (λ c. search rules) (λ c κs. search rules) (λ c. search rules) (λ c. search rules) (λ c κs. search rules) (λ c. search rules) slice-aggregate-keep (λ c κs. search rules) (λ c. search rules) (λ c κs. search rules) (λ c κs. search rules) (λ c κs. search rules) (λ c. search rules) (λ c. search rules) (λ c. search rules) (λ c. search rules))

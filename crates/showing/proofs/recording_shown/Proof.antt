@@ -8,7 +8,7 @@ use Rattle.showing.proofs.recording_shown.Tie as tie
 
 returns : tie.Need-returns
 unfolding recording_shown
-returns c = c.judged-shown.ensures ∙ rw (c.before.judge-text.ensures, c.before.before.start.ensures)
+returns c = c.judged-shown.ensures ∙ rw (c.before.judge.ensures, c.before.before.start.ensures)
 
 pub recording-shown-spec : {M : Type 1} → statement M
 recording-shown-spec =

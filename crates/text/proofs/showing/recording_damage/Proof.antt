@@ -5,11 +5,11 @@ use Rattle.text.proofs.showing.recording_damage.Statement.{statement}
 use Rattle.text.proofs.showing.recording_damage.Tie as tie
 
 abbrev invariant-loop : tie.invariant-loop
-invariant-loop bytes short at₀ place₀ at place = at ≤ length bytes
+invariant-loop bytes at₀ place₀ at place = at ≤ length bytes
 
 abbrev decreases-loop : tie.decreases-loop
-decreases-loop bytes short at₀ place₀ at place = length bytes - at
+decreases-loop bytes at₀ place₀ at place = length bytes - at
 
 pub recording-damage-spec : {M : Type 1} → statement M
 recording-damage-spec =
-    tie.close (tie.spec invariant-loop decreases-loop (λ c κs. search rules) (λ c. search rules) (λ c κs. search rules) (λ c. search rules) (λ c. search rules) (λ c. search rules) (λ c. search rules) (λ c. search rules) (λ c κs. search rules) (λ c. search rules) (λ c κs. search rules) (λ c. search rules) (λ c. search rules) (λ c κs. search rules) (λ c. search rules) (λ c. search rules) (λ c. search rules))
+    tie.close (tie.spec invariant-loop decreases-loop (λ c. search rules) (λ c κs. search rules) (λ c. search rules) (λ c. search rules) (λ c. search rules) (λ c. search rules) (λ c. search rules) (λ c κs. search rules) (λ c. search rules) (λ c κs. search rules) (λ c. search rules) (λ c. search rules) (λ c κs. search rules) (λ c. search rules) (λ c. search rules) (λ c. search rules))
