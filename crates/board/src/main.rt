@@ -1,5 +1,7 @@
 // The plan board: `board OPERATION CONFIG RECORDING..` prints the line of each recording, in their order, then the history. A recording `-` is standard
 // input. One that can't be read is shown as one without a byte, UNJUDGED, and standard error says why.
+#![tactic(auto)]
+
 ghost use Rattle.std.specs.Prelude.{◌≤◌, length};
 ghost use Rattle.program_io.specs.Got.{Fits};
 

@@ -1,5 +1,7 @@
 // The outside cases of the board, packed on standard input: for each a configuration behind its length in four bytes, the number of showings, and for each showing
 // the operation, in four bytes too, and a recording behind its length. Prints what each showing tells, then the history; a configuration that can't be read has its line alone.
+#![tactic(auto)]
+
 ghost use Rattle.std.specs.Prelude.{length};
 ghost use Rattle.program_io.specs.Got.{Fits};
 

@@ -1,4 +1,6 @@
 // The board's lines and its history as bytes, and printed.
+#![tactic(auto)]
+
 ghost use Rattle.std.specs.Prelude.{◌≡◌, ◌+◌, ◌≤◌, length, take};
 ghost use Rattle.wire.specs.Bytes.{wrote_bytes, Written};
 ghost use Rattle.board_lines.specs.Printed.{shown_line, told_line, history_lines};

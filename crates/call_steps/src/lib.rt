@@ -1,4 +1,6 @@
 // Steps 11 and 12 as code, once refusals 2 to 5 have let them through: a call and its result. Each does what its definition in crate effects says, test for test.
+#![tactic(auto)]
+
 ghost use Rattle.std.specs.Prelude.{◌≡◌, ℕ, leb, ltb};
 ghost use Rattle.laws.specs.Choice.{pick, either, bit};
 ghost use Rattle.laws.specs.Loop.{sum_below};

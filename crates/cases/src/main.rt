@@ -1,4 +1,6 @@
 // The outside cases, packed on standard input: for each a configuration and a recording, each behind its length in four bytes. Prints the line of each.
+#![tactic(auto)]
+
 ghost use Rattle.std.specs.Prelude.{length};
 ghost use Rattle.program_io.specs.Got.{Fits};
 

@@ -1,4 +1,6 @@
 // The cause of a refusal, asked of the machine; and what is allowed in a state.
+#![tactic(auto)]
+
 ghost use Rattle.std.specs.Prelude.{◌≡◌};
 ghost use Rattle.causes.specs.Causes.{claim_cause, cause_of};
 ghost use Rattle.causes.specs.Allowed.{sample_of, probe_of, allowed_of};

@@ -1,4 +1,6 @@
 // The parts of a configuration at their real sizes. Each kind stands in a table of its own, and a table type says how many it holds.
+#![tactic(auto)]
+
 ghost use Rattle.std.specs.Prelude.{◌≡◌, eqb};
 ghost use Rattle.laws.specs.Choice.{bit, both};
 ghost use Rattle.config.specs.Editions.{is_edition, marks_invalid, has_step, lists_elements, has_field};
@@ -15,7 +17,7 @@ pub fn bit(b: bool) -> u8
 // The top of a capacity, and so the places of a queue.
 pub const MAX_CAPACITY: u8 = 16;
 
-#[derive(Drop)]
+#[derive(Clone, Copy)]
 pub struct RunnableConf {
     pub component: u8,
     pub concurrent: bool,
@@ -26,7 +28,7 @@ pub struct RunnableConf {
 }
 
 // The runnables, in the order of the file and counted from 0; the first n places are in use.
-#[derive(Drop)]
+#[derive(Clone, Copy)]
 pub struct RunnableConfs {
     pub n: u8,
     pub at: [RunnableConf; RunnableConfs::MAX],
@@ -95,7 +97,7 @@ impl RunnableConf {
     }
 }
 
-#[derive(Drop)]
+#[derive(Clone, Copy)]
 pub struct VariableConf {
     pub component: u8,
     pub initialed: bool,
@@ -103,7 +105,7 @@ pub struct VariableConf {
 }
 
 // The variables, in the order of the file and counted from 0; the first n places are in use.
-#[derive(Drop)]
+#[derive(Clone, Copy)]
 pub struct VariableConfs {
     pub n: u8,
     pub at: [VariableConf; VariableConfs::MAX],
@@ -156,13 +158,13 @@ impl VariableConf {
     };
 }
 
-#[derive(Drop)]
+#[derive(Clone, Copy)]
 pub struct AreaConf {
     pub component: u8,
 }
 
 // The exclusive areas, in the order of the file and counted from 0; the first n places are in use.
-#[derive(Drop)]
+#[derive(Clone, Copy)]
 pub struct AreaConfs {
     pub n: u8,
     pub at: [AreaConf; AreaConfs::MAX],
@@ -211,14 +213,14 @@ impl AreaConf {
     pub const BLANK: AreaConf = AreaConf { component: 0 };
 }
 
-#[derive(Drop)]
+#[derive(Clone, Copy)]
 pub struct RequiredConf {
     pub component: u8,
     pub capacity: u8,
 }
 
 // The required elements, in the order of the file and counted from 0; the first n places are in use.
-#[derive(Drop)]
+#[derive(Clone, Copy)]
 pub struct RequiredConfs {
     pub n: u8,
     pub at: [RequiredConf; RequiredConfs::MAX],
@@ -270,14 +272,14 @@ impl RequiredConf {
     };
 }
 
-#[derive(Drop)]
+#[derive(Clone, Copy)]
 pub struct ProvidedConf {
     pub component: u8,
     pub queued: bool,
 }
 
 // The provided elements, in the order of the file and counted from 0; the first n places are in use.
-#[derive(Drop)]
+#[derive(Clone, Copy)]
 pub struct ProvidedConfs {
     pub n: u8,
     pub at: [ProvidedConf; ProvidedConfs::MAX],
@@ -329,14 +331,14 @@ impl ProvidedConf {
     };
 }
 
-#[derive(Drop)]
+#[derive(Clone, Copy)]
 pub struct Link {
     pub provided: u8,
     pub required: u8,
 }
 
 // The links, in the order of the file and counted from 0; the first n places are in use.
-#[derive(Drop)]
+#[derive(Clone, Copy)]
 pub struct Links {
     pub n: u8,
     pub at: [Link; Links::MAX],
@@ -388,7 +390,7 @@ impl Link {
     };
 }
 
-#[derive(Drop)]
+#[derive(Clone, Copy)]
 pub struct OperationConf {
     pub component: u8,
     pub asynchronous: bool,
@@ -397,7 +399,7 @@ pub struct OperationConf {
 }
 
 // The operations, in the order of the file and counted from 0; the first n places are in use.
-#[derive(Drop)]
+#[derive(Clone, Copy)]
 pub struct OperationConfs {
     pub n: u8,
     pub at: [OperationConf; OperationConfs::MAX],
@@ -451,14 +453,14 @@ impl OperationConf {
     };
 }
 
-#[derive(Drop)]
+#[derive(Clone, Copy)]
 pub struct TimerConf {
     pub runnable: u8,
     pub period: u32,
 }
 
 // The timers, in the order of the file and counted from 0; the first n places are in use.
-#[derive(Drop)]
+#[derive(Clone, Copy)]
 pub struct TimerConfs {
     pub n: u8,
     pub at: [TimerConf; TimerConfs::MAX],
@@ -510,14 +512,14 @@ impl TimerConf {
     };
 }
 
-#[derive(Drop)]
+#[derive(Clone, Copy)]
 pub struct DataEvent {
     pub runnable: u8,
     pub required: u8,
 }
 
 // The data events, in the order of the file and counted from 0; the first n places are in use.
-#[derive(Drop)]
+#[derive(Clone, Copy)]
 pub struct DataEvents {
     pub n: u8,
     pub at: [DataEvent; DataEvents::MAX],
@@ -569,14 +571,14 @@ impl DataEvent {
     };
 }
 
-#[derive(Drop)]
+#[derive(Clone, Copy)]
 pub struct ReturnEvent {
     pub runnable: u8,
     pub operation: u8,
 }
 
 // The return events, in the order of the file and counted from 0; the first n places are in use.
-#[derive(Drop)]
+#[derive(Clone, Copy)]
 pub struct ReturnEvents {
     pub n: u8,
     pub at: [ReturnEvent; ReturnEvents::MAX],
@@ -629,14 +631,14 @@ impl ReturnEvent {
 }
 
 // An element that a runnable lists: to be copied at its spawn, or to be written at its end.
-#[derive(Drop)]
+#[derive(Clone, Copy)]
 pub struct Listed {
     pub runnable: u8,
     pub element: u8,
 }
 
 // The listed elements, in the order of the file and counted from 0; the first n places are in use.
-#[derive(Drop)]
+#[derive(Clone, Copy)]
 pub struct Lists {
     pub n: u8,
     pub at: [Listed; Lists::MAX],
@@ -771,7 +773,7 @@ impl Listed {
 }
 
 // A configuration: its kinds of parts, and its edition.
-#[derive(Drop)]
+#[derive(Clone, Copy)]
 pub struct Config {
     pub runnables: RunnableConfs,
     pub variables: VariableConfs,

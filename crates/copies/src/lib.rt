@@ -1,4 +1,6 @@
 // Copies of elements that live with an instance: steps 22 and 23, and what spawn and end do with them. Each does what its definition in crate effects says, test for test.
+#![tactic(auto)]
+
 ghost use Rattle.std.specs.Prelude.{◌≡◌};
 ghost use Rattle.laws.specs.Choice.{pick};
 ghost use Rattle.config.specs.Tables.{max_listed};

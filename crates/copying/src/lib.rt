@@ -1,4 +1,6 @@
 // Whole recordings: the test of a text, a text read and written again, and a step written and read back.
+#![tactic(auto)]
+
 ghost use Rattle.std.specs.Prelude.{◌≡◌};
 ghost use Rattle.recording.specs.Recording.{step_written, write_and_read_of};
 ghost use Rattle.recording.specs.Whole.{is_sound, rewrite_to, rewrite_written};

@@ -1,4 +1,6 @@
 // Steps 1 to 10, 20 and 21 as code, once refusals 2 to 5 have let them through: variables, areas, elements with the data events, and waiting for data. Each does what its definition in crate effects says, test for test.
+#![tactic(auto)]
+
 ghost use Rattle.std.specs.Prelude.{◌≡◌};
 ghost use Rattle.state.specs.Tables.{slot_in};
 ghost use Rattle.rules.specs.Sound.{is_waiting};

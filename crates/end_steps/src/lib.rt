@@ -1,4 +1,6 @@
 // Steps 13, 14, 16 and 19 as code, once refusals 2 to 5 have let them through: the two ways in which a call ends, with the return events, the end of an instance and its failure. Each does what its definition in crate effects says, test for test.
+#![tactic(auto)]
+
 ghost use Rattle.std.specs.Prelude.{◌≡◌, ℕ, not, ◌==◌};
 ghost use Rattle.laws.specs.Choice.{pick, both};
 ghost use Rattle.laws.specs.Loop.{any_below};

@@ -1,4 +1,6 @@
 // Entries of a configuration: one shape for every kind of part, and the faults of an entry.
+#![tactic(auto)]
+
 ghost use Rattle.std.specs.Prelude.{◌≡◌, not, leb, ltb, eqb};
 ghost use Rattle.laws.specs.Choice.{both, either, alike, bit};
 ghost use Rattle.config.specs.Tables.{add_runnable_conf, add_variable_conf, add_area_conf, add_required_conf, add_provided_conf, add_link, add_operation_conf, add_timer_conf, add_data_event, add_return_event, add_listed, max_capacity, provided_conf_in};
@@ -11,7 +13,7 @@ use config::{
     ReturnEvents, RunnableConf, RunnableConfs, TimerConf, TimerConfs, VariableConf, VariableConfs,
 };
 
-#[derive(Drop)]
+#[derive(Clone, Copy)]
 pub struct Entry {
     pub first: u8,
     pub second: u8,

@@ -1,1 +1,3 @@
 // Worked examples of the definitions, as theorems that compute. There is no code here.
+
+#![tactic(auto)]

@@ -12,7 +12,7 @@ const SLOTS: usize = 32;
 
 // One operation. Places count from 1, and 0 is none. It ended by its timeout (1), or by the instance in a slot, which handed something back (2) or had
 // failed (3).
-#[derive(Drop)]
+#[derive(Clone, Copy)]
 pub struct Told {
     pub called: usize,
     pub caller: u8,
@@ -37,7 +37,7 @@ impl Told {
     };
 }
 
-#[derive(Drop)]
+#[derive(Clone, Copy)]
 pub struct Calls {
     pub of: [Told; OPERATIONS],
     pub failed: [bool; SLOTS],

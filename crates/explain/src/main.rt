@@ -1,6 +1,8 @@
 // From a line to what happened: `explain WORD CONFIG RECORDING [NAMES]`, where WORD is text, all or page, explains what the judge says of two files.
 // What is shown of the machine is what proved functions say: the verdict (judging), each state and the right answer (machine), the cause and what is allowed
 // (causes), the guess (mending). The words and the layout are tested.
+#![tactic(auto)]
+
 mod calls;
 mod damaged;
 mod names;
@@ -25,7 +27,7 @@ use values::{Step, Value};
 use whys::Cause;
 
 // What the call asks for.
-#[derive(Drop)]
+#[derive(Clone, Copy)]
 struct Asked {
     all: bool,
     page: bool,

@@ -66,7 +66,7 @@ fn behind(text: &[u8], at: usize, n: usize) -> usize {
 }
 
 // A kind of part and where its word ends; tag 0 where there is none.
-#[derive(Drop)]
+#[derive(Clone, Copy)]
 struct Word {
     tag: u8,
     end: usize,

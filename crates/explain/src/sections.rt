@@ -395,7 +395,7 @@ fn put_lasted(out: &mut [u8], at: usize, from: u64, to: u64) -> usize {
 
 // How often calls of an operation were started, ended by an instance, ended by the timeout, ended by an instance that had failed, and handed back too
 // late; and what a walk has seen.
-#[derive(Drop)]
+#[derive(Clone, Copy)]
 struct Sums {
     calls: Calls,
     ms: u64,

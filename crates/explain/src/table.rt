@@ -13,7 +13,7 @@ use values::{Answer, Step, Value};
 use whys::Cause;
 
 // How wide each column is; 0 for one that is not shown.
-#[derive(Drop)]
+#[derive(Clone, Copy)]
 pub struct Widths {
     pub scheduler: u16,
     pub lanes: [u16; 32],
@@ -21,7 +21,7 @@ pub struct Widths {
 }
 
 // What the refused step is about; 255 for nothing of the kind.
-#[derive(Drop)]
+#[derive(Clone, Copy)]
 pub struct Focus {
     pub slot: u8,
     pub operation: u8,
@@ -32,7 +32,7 @@ pub struct Focus {
 
 // What is shown: how many steps were accepted; whether all rows are, or those that bear on the focus, from which of them on; whether it is a page; whether
 // slots share one column.
-#[derive(Drop)]
+#[derive(Clone, Copy)]
 pub struct Plan {
     pub steps: usize,
     pub all: bool,
@@ -43,7 +43,7 @@ pub struct Plan {
 }
 
 // A walk through the steps, to measure the columns of those that bear on the focus, or to show them.
-#[derive(Drop)]
+#[derive(Clone, Copy)]
 pub struct Walk {
     pub shows: bool,
     pub state: State,

@@ -1,1 +1,3 @@
 // The types of the ground under one name, for definitions and proofs. There is no code here.
+
+#![tactic(auto)]

@@ -1,4 +1,6 @@
 // A value goes to every linked element, for all steps that hand one over: the elements after it, and the runnables that data events wake.
+#![tactic(auto)]
+
 ghost use Rattle.std.specs.Prelude.{◌≡◌, not, ℕ, ltb};
 ghost use Rattle.laws.specs.Choice.{either};
 ghost use Rattle.laws.specs.Loop.{any_below};
@@ -97,7 +99,7 @@ pub fn fed_elements(cfg: Config, p: u8, v: Value, t: Elements) -> Elements
 }
 
 // Which required elements take one more value. Past the last place there is none, and nothing holds a value back.
-#[derive(Drop)]
+#[derive(Clone, Copy)]
 pub struct Rooms {
     pub at: [bool; RequiredConfs::MAX],
 }

@@ -1,10 +1,12 @@
 // Gaps in a recording, where steps of the scheduler were lost: definitions alone, and the types that they speak of.
 
 // How long a note of the report is.
+#![tactic(auto)]
+
 pub const NOTE: usize = 16;
 
 // How many parts there are to spawn, to time out and to tick.
-#[derive(Drop)]
+#[derive(Clone, Copy)]
 pub struct Choices {
     pub spawns: u8,
     pub timeouts: u8,
@@ -12,7 +14,7 @@ pub struct Choices {
 }
 
 // Mended, with the steps of the text and the notes of the report; or refused, with a place and a number.
-#[derive(Drop)]
+#[derive(Clone, Copy)]
 pub enum Mended {
     Whole(usize, usize),
     Refused(usize, u8),

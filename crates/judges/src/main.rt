@@ -1,5 +1,7 @@
 // The judge for many recordings: `judges HOW CONFIG RECORDING..` prints a line for each recording, in their order. Where HOW is `named`, each stands
 // behind its recording's name. A recording `-` is standard input. One that can't be read has no line: standard error says why.
+#![tactic(auto)]
+
 ghost use Rattle.std.specs.Prelude.{length};
 ghost use Rattle.program_io.specs.Got.{Fits};
 

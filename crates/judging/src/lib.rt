@@ -1,4 +1,6 @@
 // Judging: a recording's verdict with its count and state, and the line that the program prints for two files.
+#![tactic(auto)]
+
 ghost use Rattle.std.specs.Prelude.{◌≡◌};
 ghost use Rattle.judging.specs.Judging.{judged, judge_from, judge_of};
 ghost use Rattle.judging.specs.Line.{allowed, verdict_line, judged_line, line_of};
@@ -12,7 +14,7 @@ use state::State;
 use values::Answer;
 
 // Accepted to its end; refused, with the place of the field and the number; or unfinished, because the allowance ran out.
-#[derive(Drop)]
+#[derive(Clone, Copy)]
 pub enum Verdict {
     Accepted,
     Refused(usize, u8),
@@ -20,7 +22,7 @@ pub enum Verdict {
 }
 
 // A verdict, how many steps were taken, and the state that they led to.
-#[derive(Drop)]
+#[derive(Clone, Copy)]
 pub struct Judged {
     pub verdict: Verdict,
     pub count: usize,
@@ -28,7 +30,7 @@ pub struct Judged {
 }
 
 // The line that the program prints. Places come before numbers of refusal.
-#[derive(Drop)]
+#[derive(Clone, Copy)]
 pub enum Line {
     Accepted(usize),
     Refused(usize, u8),

@@ -1,4 +1,6 @@
 // The lent state: a step taken in place, for a board that keeps one state only.
+#![tactic(auto)]
+
 ghost use Rattle.std.specs.Prelude.{◌≡◌};
 ghost use Rattle.effects.specs.Step.{step_of};
 

@@ -1,4 +1,6 @@
 // Lines of text put into a lent buffer: a word, then numbers in decimal behind a space each, then a line feed.
+#![tactic(auto)]
+
 ghost use Rattle.std.specs.Prelude.{◌≡◌, ◌+◌, ◌≤◌, ltb, length, take};
 ghost use Rattle.laws.specs.Choice.{pick};
 ghost use Rattle.wire.specs.Bytes.{put_at, Written};

@@ -1,5 +1,7 @@
 // The judge for a recording of any length: `long CONFIG` judges the recording on standard input in parts, with the state carried on, in the memory of
 // one part, and prints the line of one judging without limits (`parts-as-one` in crate parts).
+#![tactic(auto)]
+
 ghost use Rattle.std.specs.Prelude.{◌≡◌, ◌≤◌, length, drop};
 ghost use Rattle.std.proofs.Math.Seq.{paste};
 ghost use Rattle.numbers.specs.Tags.{step_size};
@@ -26,7 +28,7 @@ const HELD: usize = ROOM - numbers::SIZE_STEP;
 const PARTS: u32 = 4000000000;
 
 // The line that a recording came to, or that a read failed.
-#[derive(Drop)]
+#[derive(Clone, Copy)]
 enum Came {
     To(Line),
     Nothing,

@@ -1,4 +1,6 @@
 // One step: refusals 2 to 5, what it does by its code, its claim, and before all the test of soundness.
+#![tactic(auto)]
+
 ghost use Rattle.std.specs.Prelude.{◌≡◌};
 ghost use Rattle.rules.specs.Refusals.{refusal_of};
 ghost use Rattle.effects.specs.Step.{possible_of, is_older, agrees, inner_of, step_of};

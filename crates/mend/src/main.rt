@@ -1,4 +1,6 @@
 // The mender: reads rte.cfg, and from standard input a recording; prints the report and a last line, and leaves a mended text in the file mended.rec.
+#![tactic(auto)]
+
 use libc::STDIN_FILENO;
 use mender::Told;
 use program_io::Got;

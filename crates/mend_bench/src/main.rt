@@ -1,4 +1,6 @@
 // The benchmark of mending: takes rte.cfg and the recording from where the mender takes them, mends it as often as it is given words, its own name among them, and prints the last line.
+#![tactic(auto)]
+
 use libc::STDIN_FILENO;
 use mender::Told;
 use program_io::Got;

@@ -1,4 +1,6 @@
 // The outside cases of mending, packed on standard input as the judge's are. Prints the report of each with its last line, and behind it, where there is one, a sum over the bytes of the mended text.
+#![tactic(auto)]
+
 ghost use Rattle.std.specs.Prelude.{length};
 ghost use Rattle.program_io.specs.Got.{Fits};
 

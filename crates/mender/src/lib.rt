@@ -1,4 +1,6 @@
 // The mender at work on two files: the answer, the report line by line, and the mended text.
+#![tactic(auto)]
+
 ghost use Rattle.std.specs.Prelude.{◌≡◌, [], ◌∷◌, length, ◌*◌, ◌+◌, ◌≤◌};
 ghost use Rattle.wire.specs.Bytes.{Written};
 ghost use Rattle.lines.specs.Lines.{line_bytes};
@@ -12,7 +14,7 @@ use state::State;
 use wire::Wrote;
 
 // What came of two files: mended, with the steps of the text and the notes of the report; refused; a configuration that can't be used; or a file that is too long.
-#[derive(Drop)]
+#[derive(Clone, Copy)]
 pub enum Told {
     Mended(usize, usize),
     Refused(usize, u8),

@@ -1,4 +1,6 @@
 // Mending: the scheduler's steps that a recorder lost, put back as the search finds them.
+#![tactic(auto)]
+
 ghost use Rattle.std.specs.Prelude.{◌≡◌, ◌+◌, ◌*◌, ◌≤◌, leb, length};
 ghost use Rattle.numbers.specs.Tags.{step_size, end_size};
 ghost use Rattle.laws.specs.Choice.{both};
@@ -18,14 +20,14 @@ use values::{Answer, Step, Value};
 use wire::Wrote;
 
 // The state behind a gap and its step, and how many steps were inserted.
-#[derive(Drop)]
+#[derive(Clone, Copy)]
 pub struct Crossed {
     pub state: State,
     pub inserted: usize,
 }
 
 // A sequence of at most three choices, by their numbers.
-#[derive(Drop)]
+#[derive(Clone, Copy)]
 pub struct Picks {
     pub length: u8,
     pub first: usize,

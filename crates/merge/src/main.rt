@@ -1,4 +1,6 @@
 // Merges neighbouring waits: reads a recording from standard input, prints how many steps are left or what is refused, and leaves the merged recording in the file merged.rec.
+#![tactic(auto)]
+
 ghost use Rattle.std.specs.Prelude.{◌≤◌, length};
 
 use libc::{STDIN_FILENO, STDOUT_FILENO};

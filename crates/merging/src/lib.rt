@@ -1,4 +1,6 @@
 // Neighbouring waits of a recording merged into one, as recorders do it: the recording that is left is judged as the one that came.
+#![tactic(auto)]
+
 ghost use Rattle.std.specs.Prelude.{◌≡◌, ◌+◌, ◌*◌, ◌≤◌, leb, length};
 ghost use Rattle.numbers.specs.Tags.{step_size, end_size};
 ghost use Rattle.wire.specs.Bytes.{put_at};
@@ -13,7 +15,7 @@ use recording::Field;
 use values::{Step, Value};
 
 // What merging comes to: how many steps are left, or a refusal with its place and number.
-#[derive(Drop)]
+#[derive(Clone, Copy)]
 pub enum Merged {
     Whole(usize),
     Refused(usize, u8),

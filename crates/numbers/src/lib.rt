@@ -2,6 +2,8 @@
 // specs/ has them for definitions, by the same stems.
 
 // Refusals of a step and of a field of a recording.
+#![tactic(auto)]
+
 pub const NOT_SOUND: u8 = 1;
 
 pub const MALFORMED: u8 = 2;

@@ -1,4 +1,6 @@
 // How far time may go, and which count lets no more of it pass.
+#![tactic(auto)]
+
 ghost use Rattle.std.specs.Prelude.{◌≡◌};
 ghost use Rattle.passing.specs.Passing.{least, operation_left, slot_left, operations_pass, timers_pass, slots_pass, passes_of, operation_stops, timer_stops, slot_stops, operation_stop, timer_stop, slot_stop};
 

@@ -1,4 +1,6 @@
 // The plan board itself: the line that is shown of an operation, and the last eight lines, newest first.
+#![tactic(auto)]
+
 ghost use Rattle.std.specs.Prelude.{◌≡◌};
 ghost use Rattle.posting.specs.Posting.{is_unplanned, done_shown, operation_shown, no_board, rows_of, row_in, post_of, leaves};
 
@@ -7,7 +9,7 @@ use values::Value;
 
 // The line of the board: a plan that is final; a call that is open; a call that ended without a plan; no call that brought anything; or nothing, as the
 // recording is refused or unfinished.
-#[derive(Drop)]
+#[derive(Clone, Copy)]
 pub enum Shown {
     Final(u32),
     Wait,
@@ -17,20 +19,20 @@ pub enum Shown {
 }
 
 // A row of the board.
-#[derive(Drop)]
+#[derive(Clone, Copy)]
 pub struct Row {
     pub shown: Shown,
 }
 
 // The last lines, the newest in row 0; the first `count` rows have one.
-#[derive(Drop)]
+#[derive(Clone, Copy)]
 pub struct Board {
     pub count: u8,
     pub at: [Row; Board::ROWS],
 }
 
 // What a showing tells: its line; 3, where the operation is not there; or that the configuration can't be used, as the judge says it.
-#[derive(Drop)]
+#[derive(Clone, Copy)]
 pub enum Told {
     Line(Shown),
     Refused(u8),
@@ -39,7 +41,7 @@ pub enum Told {
 }
 
 // A showing: what it tells, and the board after it.
-#[derive(Drop)]
+#[derive(Clone, Copy)]
 pub struct Posted {
     pub told: Told,
     pub board: Board,

@@ -1,4 +1,6 @@
 // The judge's line as bytes, put into a lent buffer, so that it goes out in one write.
+#![tactic(auto)]
+
 ghost use Rattle.std.specs.Prelude.{[], ◌∷◌};
 ghost use Rattle.wire.specs.Bytes.{Written};
 ghost use Rattle.lines.specs.Lines.{line_bytes};

@@ -1,4 +1,6 @@
 // What the programs share: an input read to its end, and never half of it; and a line printed in one write.
+#![tactic(auto)]
+
 ghost use Rattle.std.specs.Prelude.{◌≡◌, length};
 ghost use Rattle.judging.specs.Line.{line_of};
 ghost use Rattle.program_io.specs.Got.{Fits};
@@ -8,7 +10,7 @@ use libc::{STDIN_FILENO, STDOUT_FILENO};
 use wire::Wrote;
 
 // How many bytes came before the end of the input, or that a read failed.
-#[derive(Drop)]
+#[derive(Clone, Copy)]
 pub enum Got {
     Bytes(usize),
     Failed,

@@ -1,4 +1,6 @@
 // Reading a configuration's file: any bytes, to a whole configuration or the first refusal and its place.
+#![tactic(auto)]
+
 ghost use Rattle.std.specs.Prelude.{◌≡◌, get_or};
 ghost use Rattle.reading.specs.Reading.{size_of, size_in, number_at, runnable_read, variable_read, area_read, operation_read, timer_read, pair_read, entry_read, in_order, head_with, head_of, body_fault, refused_at, config_of};
 
@@ -6,21 +8,21 @@ use config::Config;
 use entries::Entry;
 
 // How a reading ended: with a whole configuration, or with the place of a field, from 1, and a number of refusal.
-#[derive(Drop)]
+#[derive(Clone, Copy)]
 pub enum Outcome {
     Whole,
     Refused(usize, u8),
 }
 
 // A refused reading has the blank configuration beside it.
-#[derive(Drop)]
+#[derive(Clone, Copy)]
 pub struct Reading {
     pub outcome: Outcome,
     pub config: Config,
 }
 
 // What a text begins with: a part's tag and how long its body is, the end, or why it is no field.
-#[derive(Drop)]
+#[derive(Clone, Copy)]
 pub enum Head {
     Field(u8, usize),
     End,

@@ -1,4 +1,6 @@
 // Recordings: their fields and whole texts, read and written, and both round trips.
+#![tactic(auto)]
+
 ghost use Rattle.std.specs.Prelude.{◌≡◌, drop};
 ghost use Rattle.wire.specs.Bytes.{end_bytes, Written};
 ghost use Rattle.recording.specs.Recording.{values_good, tested, step_in, end_in, field_of, step_to, step_written};
@@ -7,7 +9,7 @@ use values::{Step, Value};
 use wire::Wrote;
 
 // What stands next in a recording: a step and the size of its field, the end, or a refusal: how many places past the field asked for it stands, and its number.
-#[derive(Drop)]
+#[derive(Clone, Copy)]
 pub enum Field {
     Step(Step, usize),
     End,

@@ -1,4 +1,6 @@
 // Refusals 2 to 5, and 30 behind 2; a slot's steps have all of them, the scheduler's steps have refusals 2 and 3 only. What a code's entries are to be, whether the edition has it, whether the parts are there, whose they are, and what an instance may do as it lives.
+#![tactic(auto)]
+
 ghost use Rattle.std.specs.Prelude.{◌≡◌, not};
 ghost use Rattle.laws.specs.Choice.{either};
 ghost use Rattle.rules.specs.Sound.{is_waiting};

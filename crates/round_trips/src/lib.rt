@@ -1,4 +1,6 @@
 // Both round trips of configurations: bytes read and written again, and a configuration written and read back.
+#![tactic(auto)]
+
 ghost use Rattle.std.specs.Prelude.{◌≡◌};
 ghost use Rattle.reading.specs.Reading.{config_of};
 ghost use Rattle.writing.specs.Writing.{config_to, config_written};

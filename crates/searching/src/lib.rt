@@ -1,4 +1,6 @@
 // The search for lost steps: the scheduler's steps by their numbers, and what is passed over before the first sequence that fills a gap.
+#![tactic(auto)]
+
 ghost use Rattle.std.specs.Prelude.{◌≡◌, ◌-◌, ◌*◌, ◌%◌, ◌≤◌, drop};
 ghost use Rattle.effects.specs.Step.{inner_of};
 ghost use Rattle.gaps.specs.Orders.{passed_over, behind, sequences, up_to_three};

@@ -1,4 +1,6 @@
 // What the code of all steps shares: a step refused or taken, what an instance waits for, a runnable woken, and how far a loop over a table goes.
+#![tactic(auto)]
+
 ghost use Rattle.std.specs.Prelude.{◌≡◌, ◌≤◌, ltb};
 ghost use Rattle.laws.specs.Choice.{pick};
 ghost use Rattle.effects.specs.Steps.{awaited};

@@ -1,4 +1,6 @@
 // The plan board at work: the line for a recording that is judged, and the board after it.
+#![tactic(auto)]
+
 ghost use Rattle.std.specs.Prelude.{◌≡◌};
 ghost use Rattle.showing.specs.Showing.{judged_shown, recording_shown, show_of, show_files_of};
 

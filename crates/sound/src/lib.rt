@@ -1,6 +1,8 @@
 // The test of a state: the slots are walked once, with a tally that is carried by value, and every other table once behind them, against the tally.
 // What is tested of one part is a sentence of "A sound state" and does what its definition in crate rules says, test for test.
 // Where a test reads one table of the configuration its function is handed that table alone, and promises the test of a configuration with that table.
+#![tactic(auto)]
+
 ghost use Rattle.std.specs.Prelude.{◌≡◌, not, ◌==◌, nat_le, nat_lt, slice_index};
 ghost use Rattle.laws.specs.Choice.{pick, both, either, bit, all_of};
 ghost use Rattle.laws.specs.Row.{place_filled, filled};
@@ -639,7 +641,7 @@ fn slot_walked(cfg: Config, x: Slot, i: Copies, o: Copies) -> bool
 // ---- the tally of the slots
 
 // The clients that instances serve, by operation and number, in the order of the slots; the first `n` places are in use.
-#[derive(Drop)]
+#[derive(Clone, Copy)]
 struct Noted {
     n: u8,
     operations: [u8; Slots::MAX],
@@ -647,13 +649,13 @@ struct Noted {
 }
 
 // How often each area stands in a stack.
-#[derive(Drop)]
+#[derive(Clone, Copy)]
 struct Held {
     at: [u16; AreaConfs::MAX],
 }
 
 // What the walk over the slots remembers: how many instances each runnable has, how many wait on each operation, how often each area stands in a stack, and the clients.
-#[derive(Drop)]
+#[derive(Clone, Copy)]
 struct Tally {
     instances: [u8; RunnableConfs::MAX],
     waiters: [u8; OperationConfs::MAX],
@@ -677,7 +679,7 @@ impl Tally {
 }
 
 // What the walk comes to: whether every slot is sound, with its copies, and if so the tally of all.
-#[derive(Drop)]
+#[derive(Clone, Copy)]
 struct Walked {
     sound: bool,
     tally: Tally,

@@ -1,5 +1,7 @@
 // The state of a control unit at its real size: nine tables, and the queues and stacks inside their parts.
 // A table is read by `get`, which gives the blank part past its end, and changed by `with`, which changes nothing there.
+#![tactic(auto)]
+
 ghost use Rattle.std.specs.Prelude.{◌≡◌, ◌-◌, slice_index_or};
 ghost use Rattle.state.specs.Tables.{runnable_in, variable_in, area_in, element_in, operation_in, timer_in, slot_in, copy_in, copies_in, with_copy, with_copies, with_runnable, with_variable, with_area, with_element, with_operation, with_timer, with_slot};
 ghost use Rattle.state.specs.Queues.{up_one, push_request, first_request, rest_requests, push_value, first_value, rest_values, push_area, top_area, pop_area};
@@ -15,7 +17,7 @@ use config::{
 use values::{Answer, Value};
 
 // A client: the operation called, the number of the call, and what the caller handed over.
-#[derive(Drop)]
+#[derive(Clone, Copy)]
 pub struct Client {
     pub operation: u8,
     pub number: u16,
@@ -31,7 +33,7 @@ impl Client {
 }
 
 // The requests that wait at a server, oldest first; the first `queued` places are in use.
-#[derive(Drop)]
+#[derive(Clone, Copy)]
 pub struct Requests {
     pub queued: u8,
     pub at: [Client; Requests::MAX],
@@ -93,7 +95,7 @@ impl Requests {
 }
 
 // The state of a runnable: what is left of its start interval, how many activations are pending, how many instances it has, and its requests.
-#[derive(Drop)]
+#[derive(Clone, Copy)]
 pub struct Runnable {
     pub interval: u32,
     pub pending: u8,
@@ -110,7 +112,7 @@ impl Runnable {
     };
 }
 
-#[derive(Drop)]
+#[derive(Clone, Copy)]
 pub struct Variable {
     pub value: Value,
 }
@@ -119,7 +121,7 @@ impl Variable {
     pub const BLANK: Variable = Variable { value: Value::VOID };
 }
 
-#[derive(Drop)]
+#[derive(Clone, Copy)]
 pub struct Area {
     pub taken: bool,
 }
@@ -129,7 +131,7 @@ impl Area {
 }
 
 // The values that wait in a queued element, oldest first; the first `queued` places are in use.
-#[derive(Drop)]
+#[derive(Clone, Copy)]
 pub struct Values {
     pub queued: u8,
     pub at: [Value; Values::MAX],
@@ -180,7 +182,7 @@ impl Values {
 }
 
 // The state of a required element: the value and the flag of an unqueued one, the queue of a queued one.
-#[derive(Drop)]
+#[derive(Clone, Copy)]
 pub struct Element {
     pub value: Value,
     pub updated: bool,
@@ -196,7 +198,7 @@ impl Element {
 }
 
 // The state of an operation: the number of its next or open call; Calling with a count, or Done with a value.
-#[derive(Drop)]
+#[derive(Clone, Copy)]
 pub struct Operation {
     pub number: u16,
     pub calling: bool,
@@ -213,7 +215,7 @@ impl Operation {
     };
 }
 
-#[derive(Drop)]
+#[derive(Clone, Copy)]
 pub struct Timer {
     pub count: u32,
 }
@@ -223,7 +225,7 @@ impl Timer {
 }
 
 // What an instance waits for: the tag of its kind of part, 0 while it waits for nothing, its number, and how long at most, for data alone.
-#[derive(Drop)]
+#[derive(Clone, Copy)]
 pub struct Awaited {
     pub part: u8,
     pub on: u8,
@@ -239,7 +241,7 @@ impl Awaited {
 }
 
 // How an instance lives: whose it is, what it waits for, whether it is finished, whether it has failed.
-#[derive(Drop)]
+#[derive(Clone, Copy)]
 pub struct Life {
     pub runnable: u8,
     pub awaited: Awaited,
@@ -257,7 +259,7 @@ impl Life {
 }
 
 // The client that an instance serves, if it serves one.
-#[derive(Drop)]
+#[derive(Clone, Copy)]
 pub struct Owed {
     pub serving: bool,
     pub client: Client,
@@ -271,7 +273,7 @@ impl Owed {
 }
 
 // The areas that an instance holds, the last entered last; the first `held` places are in use.
-#[derive(Drop)]
+#[derive(Clone, Copy)]
 pub struct Stack {
     pub held: u8,
     pub at: [u8; AreaConfs::MAX],
@@ -324,7 +326,7 @@ impl Stack {
 }
 
 // An instance slot: empty, or with an instance in it.
-#[derive(Drop)]
+#[derive(Clone, Copy)]
 pub struct Slot {
     pub used: bool,
     pub life: Life,
@@ -342,7 +344,7 @@ impl Slot {
 }
 
 // The runnables, by their numbers.
-#[derive(Drop)]
+#[derive(Clone, Copy)]
 pub struct Runnables {
     pub at: [Runnable; RunnableConfs::MAX],
 }
@@ -374,7 +376,7 @@ impl Runnables {
 }
 
 // The variables, by their numbers.
-#[derive(Drop)]
+#[derive(Clone, Copy)]
 pub struct Variables {
     pub at: [Variable; VariableConfs::MAX],
 }
@@ -406,7 +408,7 @@ impl Variables {
 }
 
 // The exclusive areas, by their numbers.
-#[derive(Drop)]
+#[derive(Clone, Copy)]
 pub struct Areas {
     pub at: [Area; AreaConfs::MAX],
 }
@@ -438,7 +440,7 @@ impl Areas {
 }
 
 // The required elements, by their numbers.
-#[derive(Drop)]
+#[derive(Clone, Copy)]
 pub struct Elements {
     pub at: [Element; RequiredConfs::MAX],
 }
@@ -470,7 +472,7 @@ impl Elements {
 }
 
 // The operations, by their numbers.
-#[derive(Drop)]
+#[derive(Clone, Copy)]
 pub struct Operations {
     pub at: [Operation; OperationConfs::MAX],
 }
@@ -502,7 +504,7 @@ impl Operations {
 }
 
 // The timers, by their numbers.
-#[derive(Drop)]
+#[derive(Clone, Copy)]
 pub struct Timers {
     pub at: [Timer; TimerConfs::MAX],
 }
@@ -534,7 +536,7 @@ impl Timers {
 }
 
 // The instance slots, by their numbers.
-#[derive(Drop)]
+#[derive(Clone, Copy)]
 pub struct Slots {
     pub at: [Slot; Slots::MAX],
 }
@@ -568,7 +570,7 @@ impl Slots {
 }
 
 // What one instance has copied of the elements that its runnable lists, or has set: in the places of the list, and NeverReceived where there is none, or where none was set.
-#[derive(Drop)]
+#[derive(Clone, Copy)]
 pub struct Copies {
     pub at: [Value; Copies::MAX],
 }
@@ -606,7 +608,7 @@ impl Copies {
 }
 
 // The copies of all instances, by their slots.
-#[derive(Drop)]
+#[derive(Clone, Copy)]
 pub struct Copied {
     pub at: [Copies; Slots::MAX],
 }
@@ -637,7 +639,7 @@ impl Copied {
     }
 }
 
-#[derive(Drop)]
+#[derive(Clone, Copy)]
 pub struct State {
     pub runnables: Runnables,
     pub variables: Variables,
@@ -651,7 +653,7 @@ pub struct State {
 }
 
 // What a step came to: its answer, and the state after it, which is the state before it where it was refused.
-#[derive(Drop)]
+#[derive(Clone, Copy)]
 pub struct Stepped {
     pub answer: Answer,
     pub state: State,

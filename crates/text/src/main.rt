@@ -1,6 +1,8 @@
 // The text form of configurations and recordings. `text show FILE [NAMES]` prints the text of bytes, `text make FILE` the bytes of a text. A FILE `-` is
 // standard input. A mistake of a text is said on standard error, by line and column, and then nothing is printed. `text trip TIMES` reads many
 // files, each behind its length in four bytes, and prints how many of them came back from their text as they were, as they are and so often damaged.
+#![tactic(auto)]
+
 mod expecting;
 mod forms;
 mod making;

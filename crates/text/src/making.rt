@@ -9,7 +9,7 @@ use crate::taking::{
 };
 
 // How far the bytes reach now; or the place in the line, or in the text, of a mistake; or that there is no room.
-#[derive(Drop)]
+#[derive(Clone, Copy)]
 pub(crate) enum Made {
     To(usize),
     Wrong(usize),
@@ -17,7 +17,7 @@ pub(crate) enum Made {
 }
 
 // The row that a line has the form of, or how far it came at best.
-#[derive(Drop)]
+#[derive(Clone, Copy)]
 pub(crate) enum Row {
     At(usize),
     None(usize),

@@ -9,7 +9,7 @@ use reading::Outcome;
 use recording::Field;
 
 // The place of the field that is refused, and the number; place 0 where none is.
-#[derive(Drop)]
+#[derive(Clone, Copy)]
 pub(crate) struct Damage {
     pub place: usize,
     pub number: u8,

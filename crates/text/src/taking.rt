@@ -6,7 +6,7 @@ use crate::names::{LONGEST, is_name, keep_name, place_of};
 use crate::putting::{has_number, put_byte};
 
 // Where a line goes on; or where it is not as it should be, what should stand there, and a place that says more of that.
-#[derive(Drop)]
+#[derive(Clone, Copy)]
 pub(crate) enum Took {
     To(usize),
     Missed(usize, u8, usize),
@@ -37,7 +37,7 @@ pub(crate) const NOTHING: u8 = 9;
 pub(crate) const NAMED: u8 = 10;
 
 // A number and where the line goes on, or none.
-#[derive(Drop)]
+#[derive(Clone, Copy)]
 pub(crate) enum Number {
     Is(u32, usize),
     None,

@@ -8,7 +8,7 @@ use crate::putting::put_byte;
 use crate::showing::{is_same, show};
 
 // How many came back as they were, and how many did not.
-#[derive(Drop)]
+#[derive(Clone, Copy)]
 pub(crate) struct Tally {
     pub same: u32,
     pub other: u32,

@@ -1,4 +1,6 @@
 // Steps 15, 17 and 18 as code, once refusals 2 to 5 have let them through: spawn, tick and wait. Each does what its definition in crate effects says, test for test.
+#![tactic(auto)]
+
 ghost use Rattle.std.specs.Prelude.{◌≡◌, ◌-◌};
 ghost use Rattle.laws.specs.Choice.{both};
 ghost use Rattle.effects.specs.Steps.{is_due, may_spawn, starting, fresh, instance_of, found_empty, spawn_of, tick_of, operation_lets, timer_lets, slot_lets, operations_let, timers_let, slots_let, operation_after, timer_after, runnable_after, slot_after, operations_after, timers_after, runnables_after, slots_after, wait_of};

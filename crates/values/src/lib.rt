@@ -1,8 +1,10 @@
 // Values, payloads, the recorded step and the answer to one. A value is its kind and its number, so that a bad value can be held, tested and refused.
+#![tactic(auto)]
+
 ghost use Rattle.std.specs.Prelude.{◌≡◌};
 ghost use Rattle.values.specs.Values.{number_v, full_v, is_void, says_full, is_payload, is_kind, is_mask, is_good, same_value};
 
-#[derive(Drop)]
+#[derive(Clone, Copy)]
 pub struct Value {
     pub kind: u8,
     pub number: u32,
@@ -109,7 +111,7 @@ fn is_mask(m: u32) -> bool
 }
 
 // A recorded step: its code, who takes it, what it is about, its argument and the answer that it claims.
-#[derive(Drop)]
+#[derive(Clone, Copy)]
 pub struct Step {
     pub code: u8,
     pub who: u8,
@@ -119,7 +121,7 @@ pub struct Step {
 }
 
 // The answer to a step: it was taken, with this value, or refused, with this number.
-#[derive(Drop)]
+#[derive(Clone, Copy)]
 pub enum Answer {
     Taken(Value),
     Refused(u8),

@@ -1,4 +1,6 @@
 // Why a step is refused, finer than its number, number by number: which slot, which need, which count.
+#![tactic(auto)]
+
 ghost use Rattle.std.specs.Prelude.{◌≡◌, get_or};
 ghost use Rattle.config.specs.Tables.{runnable_conf_in};
 ghost use Rattle.state.specs.Tables.{runnable_in, slot_in};
@@ -10,7 +12,7 @@ use state::{Life, Owed, Runnable, Slots, Stack, State};
 use values::{Step, Value};
 
 // Why a step is refused, by the numbers of refusal in brackets, with what tells one case from the next.
-#[derive(Drop)]
+#[derive(Clone, Copy)]
 pub enum Cause {
     // it is not refused
     NoCause,

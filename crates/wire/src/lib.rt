@@ -1,9 +1,11 @@
 // What every file is made of: numbers as bytes, the high byte first, and runs of bytes put into a lent buffer.
+#![tactic(auto)]
+
 ghost use Rattle.std.specs.Prelude.{◌≡◌, ◌+◌, ◌≤◌, length};
 ghost use Rattle.wire.specs.Bytes.{length_of, number_of, put_at, Written};
 
 // How far the text reaches now, or the number under which writing it was refused.
-#[derive(Drop)]
+#[derive(Clone, Copy)]
 pub enum Wrote {
     To(usize),
     Refused(u8),

@@ -1,4 +1,6 @@
 // A configuration written as its text into a lent buffer: the edition, the entries of each kind, the end.
+#![tactic(auto)]
+
 ghost use Rattle.std.specs.Prelude.{◌≡◌, ◌+◌, leb};
 ghost use Rattle.wire.specs.Bytes.{end_bytes, Written};
 ghost use Rattle.writing.specs.Writing.{runnable_bytes, variable_bytes, area_bytes, operation_bytes, timer_bytes, pair_bytes, field_size, entry_bytes, kind_size, kind_bytes, parts_size, parts_bytes, edition_bytes, config_to, config_written};

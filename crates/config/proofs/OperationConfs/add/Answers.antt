@@ -1,0 +1,14 @@
+-- `config::OperationConfs::add` meets its contract.
+-- Assumes nothing.
+use borrow.Author.Rules.{rules}
+use borrow.Author.Tests.{lt-ltb, le-ltb}
+use Rattle.config.specs.Tables.{add_operation_conf}
+use Rattle.config.proofs.OperationConfs.add.Goals as goal
+
+pub returns-then-k-lt-MAX : goal.returns-then-k-lt-MAX
+unfolding add_operation_conf
+returns-then-k-lt-MAX c = rw (lt-ltb _ _ c.if-k-lt-MAX.true)
+
+pub returns : goal.returns
+unfolding add_operation_conf
+returns c = rw (le-ltb _ _ c.if-k-lt-MAX.false)

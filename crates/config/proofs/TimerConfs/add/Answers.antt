@@ -1,0 +1,14 @@
+-- `config::TimerConfs::add` meets its contract.
+-- Assumes nothing.
+use borrow.Author.Rules.{rules}
+use borrow.Author.Tests.{lt-ltb, le-ltb}
+use Rattle.config.specs.Tables.{add_timer_conf}
+use Rattle.config.proofs.TimerConfs.add.Goals as goal
+
+pub returns-then-k-lt-MAX : goal.returns-then-k-lt-MAX
+unfolding add_timer_conf
+returns-then-k-lt-MAX c = rw (lt-ltb _ _ c.if-k-lt-MAX.true)
+
+pub returns : goal.returns
+unfolding add_timer_conf
+returns c = rw (le-ltb _ _ c.if-k-lt-MAX.false)

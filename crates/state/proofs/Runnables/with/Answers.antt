@@ -1,0 +1,18 @@
+-- `state::Runnables::with` meets its contract.
+-- Assumes nothing.
+use Rattle.std.proofs.Common.{◌≡◌, List, length, sym, refl, ap, rules}
+use Rattle.laws.proofs.Places.{past-set, length-mapped}
+use Rattle.state.specs.declared.Runnable.{Runnable}
+use Rattle.state.specs.Tables.{with_runnable}
+use Rattle.state.proofs.Runnables.with.Goals as goal
+
+pub returns-then-k-lt-MAX : goal.returns-then-k-lt-MAX
+unfolding with_runnable
+returns-then-k-lt-MAX c = refl
+
+pub returns : goal.returns
+unfolding with_runnable
+returns c =
+    let a = c.args in
+    let e : length a.self.at ≡ 16 = search (rules, length-mapped) in
+    sym (ap (λ (l : List Runnable). record { at = l }) (past-set a.self.at a.i 16 a.x e c.if-k-lt-MAX.false))

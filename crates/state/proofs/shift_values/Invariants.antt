@@ -1,0 +1,11 @@
+-- `state::shift_values` meets its contract.
+-- Assumes nothing.
+use Rattle.std.proofs.Common.{◌≡◌, ◌-◌, ◌≤◌, length, arith, rules}
+use Rattle.laws.proofs.Places.{halfway, halfway-none, halfway-more, halfway-done, length-mapped}
+use Rattle.state.proofs.shift_values.Given as goal
+
+abbrev pub invariant-loop-k : goal.invariant-loop-k
+invariant-loop-k l = (l.k ≤ 15) × (l.t ≡ halfway l.q l.k)
+
+abbrev pub decreases-loop-k : goal.decreases-loop-k
+decreases-loop-k l = 15 - l.k

@@ -1,0 +1,19 @@
+-- `state::start_elements` meets its contract.
+-- Assumes nothing.
+use Rattle.std.proofs.Common.{◌≡◌, ℕ, ◌-◌, ◌≤◌, arith, rules}
+use Rattle.laws.specs.Row.{each_below}
+use Rattle.laws.proofs.Places.{each_none, each_more}
+use Rattle.config.specs.Tables.{required_conf_in}
+use Rattle.state.specs.Parts.{no_element, no_values}
+use Rattle.state.specs.Tables.{no_elements}
+use Rattle.state.specs.Start.{start_element, start_elements}
+use Rattle.state.specs.declared.Element.{Element}
+use Rattle.state.specs.declared.Elements.{Elements}
+use Rattle.state.proofs.Ends.{each-end}
+use Rattle.state.proofs.start_elements.Given as goal
+
+abbrev pub invariant-loop-k : goal.invariant-loop-k
+invariant-loop-k l = (l.k ≤ l.n) × (◌≡◌ {A = Elements} l.s (record { at = each_below (λ (j : ℕ) (x : Element). start_element (required_conf_in l.t j)) no_element l.k no_elements.at }))
+
+abbrev pub decreases-loop-k : goal.decreases-loop-k
+decreases-loop-k l = l.n - l.k
