@@ -1,0 +1,16 @@
+-- `entries::parts_sound` meets its contract.
+-- Assumes nothing.
+use mathlib.Core.Path.{◌≡◌, sym, ◌∙◌}
+use mathlib.Core.Bool.{true}
+use native.Mathlib.Omega.{arith}
+use Prim.Native.Nat.{ℕ, ◌≤◌, ◌-◌, ◌+◌}
+use Rattle.laws.specs.Loop.{all_below}
+use Rattle.laws.proofs.Looping.{all_none, all_more, all-fails}
+use Rattle.entries.specs.Faults.{kind_sound, parts_sound}
+use Rattle.entries.proofs.parts_sound.Given as goal
+
+abbrev pub invariant-loop-j : goal.invariant-loop-j
+invariant-loop-j l = (l.j ≤ 12) × (all_below (λ (k : ℕ). kind_sound l.cfg (0x10 + k)) l.j ≡ true)
+
+abbrev pub decreases-loop-j : goal.decreases-loop-j
+decreases-loop-j l = 12 - l.j

@@ -1,0 +1,13 @@
+-- `recording::values_good` meets its contract.
+-- Assumes nothing.
+use Rattle.recording.specs.Recording.{values_good}
+use borrow.Author.Rules.{rules}
+use Rattle.recording.proofs.values_good.Goals as goal
+
+pub returns-then-is_good : goal.returns-then-is_good
+unfolding values_good
+returns-then-is_good c = rw (← c.is_good.ensures, c.if-is_good.true, ← c.is_good-then-is_good.ensures)
+
+pub returns : goal.returns
+unfolding values_good
+returns c = rw (← c.is_good.ensures, c.if-is_good.false)
