@@ -104,37 +104,37 @@ act_by read_copy cfg st i k v = read_copy_of cfg st i k
 act_by write_copy cfg st i k v = write_copy_of cfg st i k v
 
 -- it is what the match over codes does
-act_by : {n : ℕ} (c : Code n) (cfg : Config) (st : State) (i k : ℕ) (v : Value) → act_of cfg st n i k v ≡ act_by c cfg st i k v
+act-by : {n : ℕ} (c : Code n) (cfg : Config) (st : State) (i k : ℕ) (v : Value) → act_of cfg st n i k v ≡ act_by c cfg st i k v
 unfolding act_of
-act_by read_variable cfg st i k v = refl
-act_by write_variable cfg st i k v = refl
-act_by enter cfg st i k v = refl
-act_by exit cfg st i k v = refl
-act_by read cfg st i k v = refl
-act_by write cfg st i k v = refl
-act_by updated cfg st i k v = refl
-act_by invalidate cfg st i k v = refl
-act_by receive cfg st i k v = refl
-act_by send cfg st i k v = refl
-act_by call cfg st i k v = refl
-act_by result cfg st i k v = refl
-act_by hand_back cfg st i k v = refl
-act_by end cfg st i k v = refl
-act_by spawn cfg st i k v = refl
-act_by timeout cfg st i k v = refl
-act_by tick cfg st i k v = refl
-act_by wait cfg st i k v = refl
-act_by fail cfg st i k v = refl
-act_by hold cfg st i k v = refl
-act_by give_up cfg st i k v = refl
-act_by read_copy cfg st i k v = refl
-act_by write_copy cfg st i k v = refl
+act-by read_variable cfg st i k v = refl
+act-by write_variable cfg st i k v = refl
+act-by enter cfg st i k v = refl
+act-by exit cfg st i k v = refl
+act-by read cfg st i k v = refl
+act-by write cfg st i k v = refl
+act-by updated cfg st i k v = refl
+act-by invalidate cfg st i k v = refl
+act-by receive cfg st i k v = refl
+act-by send cfg st i k v = refl
+act-by call cfg st i k v = refl
+act-by result cfg st i k v = refl
+act-by hand_back cfg st i k v = refl
+act-by end cfg st i k v = refl
+act-by spawn cfg st i k v = refl
+act-by timeout cfg st i k v = refl
+act-by tick cfg st i k v = refl
+act-by wait cfg st i k v = refl
+act-by fail cfg st i k v = refl
+act-by hold cfg st i k v = refl
+act-by give_up cfg st i k v = refl
+act-by read_copy cfg st i k v = refl
+act-by write_copy cfg st i k v = refl
 
 module _ (cfg : Config) (st : State) (s : Step) where
   -- a step that they let through does what its code says
   pub possible-by : {n : ℕ} (c : Code n) → s.code ≡ n → refusal_of cfg st.slots s ≡ 0 → possible_of cfg st s ≡ act_by c cfg st s.who s.what s.argument
   unfolding possible_of
-  possible-by {n} c e h = rw (h, e) (act_by c cfg st s.who s.what s.argument)
+  possible-by {n} c e h = rw (h, e) (act-by c cfg st s.who s.what s.argument)
 
   -- one that they do not is refused with their number
   pub possible-barred : (refusal_of cfg st.slots s ≡ 0 → ⊥) → possible_of cfg st s ≡ refused (refusal_of cfg st.slots s) st

@@ -32,9 +32,9 @@ each_same f g d zero l h = refl
 each_same f g d (suc n) l h = rw (each_same f g d n l h, h n (get_or (each_below g d n l) n d))
 
 module _ (cfg : Config) (t : Elements) (e : length cfg.required.at ≡ 16) where
-  pub room_in : (q : ℕ) → room_in (rooms_of cfg t) q ≡ accepts cfg q (element_in t q)
+  pub room-in : (q : ℕ) → room_in (rooms_of cfg t) q ≡ accepts cfg q (element_in t q)
   unfolding room_in rooms_of accepts is_queued required_conf_in
-  room_in q = go (dec_lt q 16)
+  room-in q = go (dec_lt q 16)
     where
       f : ℕ → Bool → Bool
       f k b = accepts cfg k (element_in t k)
@@ -48,7 +48,7 @@ module _ (cfg : Config) (t : Elements) (e : length cfg.required.at ≡ 16) where
 
   feeds-by : (p r k : ℕ) → feeds_by cfg (rooms_of cfg t) p r k ≡ feeds cfg t p r k
   unfolding feeds_by feeds
-  feeds-by p r k = rw (room_in (data_event_in cfg.devents k).required)
+  feeds-by p r k = rw (room-in (data_event_in cfg.devents k).required)
 
   -- some data event is one that p feeds
   pub fed_by : (p r : ℕ) → is_fed_by cfg (rooms_of cfg t) p r ≡ is_fed cfg t p r
@@ -63,7 +63,7 @@ module _ (cfg : Config) (t : Elements) (e : length cfg.required.at ≡ 16) where
 
   full_by : (p q : ℕ) → is_full_by cfg (rooms_of cfg t) p q ≡ is_full cfg t p q
   unfolding is_full_by is_full
-  full_by p q = rw (room_in q)
+  full_by p q = rw (room-in q)
 
   -- which linked queues are full
   pub full-mask-by : (p : ℕ) → full_mask_by cfg (rooms_of cfg t) p ≡ full_mask cfg t p

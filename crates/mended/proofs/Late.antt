@@ -214,9 +214,9 @@ mend_seen cfg t = record {
   report = mend_reported cfg (start_of cfg) t (zeros 115) (zeros 48);
 }
 
-seen_by : (cfg : Config) (t : List ℕ) → sound_of cfg (start_of cfg) ≡ true → mend_seen cfg t ≡ seen_by (turns_for cfg t) t
+seen-by : (cfg : Config) (t : List ℕ) → sound_of cfg (start_of cfg) ≡ true → mend_seen cfg t ≡ seen_by (turns_for cfg t) t
 unfolding mend_seen seen_by answer_by turns_for mend_to survey_of
-seen_by cfg t h = rw (h, turns-once cfg (start_of cfg) h (steps_in t))
+seen-by cfg t h = rw (h, turns-once cfg (start_of cfg) h (steps_in t))
 
 module _ {A B : Type 0} (f g : A → B) where
   same_at : (l : List A) → map f l ≡ map g l → (x : A) → Memᴰ x l → f x ≡ g x
@@ -226,6 +226,6 @@ module _ {A B : Type 0} (f g : A → B) where
 -- every row of the table: read, mended and written
 pub late-mended : (x : Row) → Memᴰ x table → mend_seen (config_of config_bytes).config x.recording ≡ x.seen
 late-mended x m =
-    seen_by (config_of config_bytes).config x.recording late-sound
+    seen-by (config_of config_bytes).config x.recording late-sound
     ∙ ap (λ (ts : List Turn). seen_by ts x.recording) (same_at (λ (y : Row). turns_for (config_of config_bytes).config y.recording) (λ (y : Row). y.turns) table late-turns x m)
     ∙ same_at (λ (y : Row). seen_by y.turns y.recording) (λ (y : Row). y.seen) table turns-seen x m

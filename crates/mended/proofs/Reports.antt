@@ -22,10 +22,10 @@ use Rattle.mended.proofs.Notes.{insert_notes, notes_of_turn, notes_from, report-
 
 -- ---- a number of a list
 
-is_one : (m : ℕ) (ps : List ℕ) → Memᴰ m ps → is_one m ps ≡ true
+is-one : (m : ℕ) (ps : List ℕ) → Memᴰ m ps → is_one m ps ≡ true
 unfolding is_one
-is_one m (p ∷ ps) (mathlib.Core.List.Memᴰ.head e) = rw (eq-eqb p m (sym e))
-is_one m (p ∷ ps) (mathlib.Core.List.Memᴰ.tail k) = either-more (eqb p m) (is_one m ps) (is_one m ps k)
+is-one m (p ∷ ps) (mathlib.Core.List.Memᴰ.head e) = rw (eq-eqb p m (sym e))
+is-one m (p ∷ ps) (mathlib.Core.List.Memᴰ.tail k) = either-more (eqb p m) (is_one m ps) (is-one m ps k)
 
 is_none : (m : ℕ) (ps : List ℕ) → ((p : ℕ) → Memᴰ p ps → p ≡ m → ⊥) → is_one m ps ≡ false
 unfolding is_one
@@ -117,7 +117,7 @@ module _ (ps : List ℕ) where
       let l : length (turn_steps t) ≡ length xs + 1 = turn-length n t ts in
       let split : ps ≡ pre ++ (here ++ more) = e ∙ ap (λ (q : List ℕ). pre ++ q) (places-cons n t ts (b t (mathlib.Core.List.Memᴰ.head refl))) in
       let rest : AllBare ts = λ x j. b x (mathlib.Core.List.Memᴰ.tail j) in
-      let skip : (m : ℕ) → n < m → m ≤ n + length xs → is_one m ps ≡ true = λ m g h. is_one m ps (subst (λ (q : List ℕ). Memᴰ m q) (sym split) (mathlib.Core.List.Memᴰ.append_right pre (mathlib.Core.List.Memᴰ.append_left more (insert_all n xs m g h)))) in
+      let skip : (m : ℕ) → n < m → m ≤ n + length xs → is_one m ps ≡ true = λ m g h. is-one m ps (subst (λ (q : List ℕ). Memᴰ m q) (sym split) (mathlib.Core.List.Memᴰ.append_right pre (mathlib.Core.List.Memᴰ.append_left more (insert_all n xs m g h)))) in
       let none : is_one (n + length xs + 1) ps ≡ false =
       is_none (n + length xs + 1) ps
       (λ p m q. ⊎_elim (λ (k : Memᴰ p pre). omega (arith, low p k, q))

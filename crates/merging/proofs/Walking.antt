@@ -65,10 +65,10 @@ pub next_last : (t : List ℕ) (at : ℕ) (x : Step) (size : ℕ) → field_of (
 next_last t at x size e = ap (λ (v : Whole). v.last) (whole-step (drop at t) x size e) ∙ ap (λ (u : List ℕ). (whole_of u).last) (drop-drop size at t)
 
 -- a field whose tag is not that of a step is all that is left
-pub no_step : (t : List ℕ) (f : Field) → OneOf (1 ∷ 2 ∷ []) (tag_of the_type f) → f ≡ field_of t → whole_of t ≡ record { steps = []; last = f }
-no_step t (IsStep x n) p e = ⊎_elim (λ q. absurd (omega arith)) (λ q. absurd (omega arith)) p
-no_step t End p e = whole-end t (sym e)
-no_step t (NoField n k) p e = whole-refused t k n (sym e)
+pub no-step : (t : List ℕ) (f : Field) → OneOf (1 ∷ 2 ∷ []) (tag_of the_type f) → f ≡ field_of t → whole_of t ≡ record { steps = []; last = f }
+no-step t (IsStep x n) p e = ⊎_elim (λ q. absurd (omega arith)) (λ q. absurd (omega arith)) p
+no-step t End p e = whole-end t (sym e)
+no-step t (NoField n k) p e = whole-refused t k n (sym e)
 
 -- ---- the walk that counts
 

@@ -42,9 +42,9 @@ use Rattle.round_trips.proofs.Standing.{Stands, stands-start, stands-grow, stand
 Reads : Config → ℕ → ℕ → List ℕ → Type 0
 Reads cfg tag i u = (fuel : ℕ) (p : Config) (last place : ℕ) → length u < fuel → Stands cfg p tag i → (last ≡ 0 → ⊥) → last ≤ tag → read_from fuel u p last place ≡ whole_of cfg
 
-in_order : (last tag : ℕ) → (last ≡ 0 → ⊥) → last ≤ tag → (tag ≡ 0x01 → ⊥) → in_order last tag ≡ true
+in-order : (last tag : ℕ) → (last ≡ 0 → ⊥) → last ≤ tag → (tag ≡ 0x01 → ⊥) → in_order last tag ≡ true
 unfolding in_order
-in_order last tag n l d = rw (ne_eqb last 0 n, le-leb last tag l, ne_eqb tag 0x01 d)
+in-order last tag n l d = rw (ne_eqb last 0 n, le-leb last tag l, ne_eqb tag 0x01 d)
 
 -- a turn of the reading at a field without fault
 turn : (fuel : ℕ) (t : List ℕ) (p : Config) (last place tag size : ℕ) → head_of p.edition t last ≡ Field tag size → body_fault p tag t ≡ 0
@@ -103,7 +103,7 @@ module _ (cfg : Config) (s : config_sound cfg ≡ true) (v : (i : ℕ) → (get_
   part-reads tag i low high l u rest (suc fuel) p last place b f n up =
       let lead = entry-leads tag low high (entry_of cfg tag i) u in
       let m : length u < fuel = omega (arith, b, lead.room, length-append (entry_bytes tag (entry_of cfg tag i)) u, ap length lead.behind, length-drop (3 + size_of tag) (entry_bytes tag (entry_of cfg tag i) ++ u)) in
-      turn fuel (entry_bytes tag (entry_of cfg tag i) ++ u) p last place tag (size_of tag) (frame-head p.edition _ last tag (size_of tag) (leads-frame p.edition tag (entry_of cfg tag i) u last lead (there tag i low high l p f u) (in_order last tag n up (λ q. omega (arith, q, low))))) (body tag i low high l p f u)
+      turn fuel (entry_bytes tag (entry_of cfg tag i) ++ u) p last place tag (size_of tag) (frame-head p.edition _ last tag (size_of tag) (leads-frame p.edition tag (entry_of cfg tag i) u last lead (there tag i low high l p f u) (in-order last tag n up (λ q. omega (arith, q, low))))) (body tag i low high l p f u)
       ∙ ap (λ (x : List ℕ). read_from fuel x (placed p tag (entry_read tag (entry_bytes tag (entry_of cfg tag i) ++ u))) tag (place + 1)) lead.behind
       ∙ rest fuel (placed p tag (entry_read tag (entry_bytes tag (entry_of cfg tag i) ++ u))) tag (place + 1) m
       (stands-grow cfg p (placed p tag (entry_read tag (entry_bytes tag (entry_of cfg tag i) ++ u))) tag i f (grows tag i low high l p f u))
@@ -141,7 +141,7 @@ module _ (cfg : Config) (s : config_sound cfg ≡ true) (v : (i : ℕ) → (get_
   unfolding Reads read_from head_of size_of size_in has_field
   end_reads zero p last place b f n up = absurd (not-suc-le-zero b)
   end_reads (suc fuel) p last place b f n up =
-      let o = in_order last 0x7f n (omega arith) (λ q. omega (arith, q)) in
+      let o = in-order last 0x7f n (omega arith) (λ q. omega (arith, q)) in
       rw o (ap whole_of (stands-all cfg p s f))
 
   -- the edition, and then all parts
