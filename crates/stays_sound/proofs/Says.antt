@@ -1,6 +1,6 @@
 -- What a step may rely on that is not refused: from the refusals that all steps share, and from its own, its record of facts. No other proof reads the tests of a refusal.
 -- Assumes nothing.
-use Prim.Native.Nat.{ℕ, zero}
+use Prim.Native.Nat.{ℕ}
 use mathlib.Core.Bool.{Bool, true, false, not}
 use mathlib.Core.Path.{◌≡◌, refl}
 use native.Mathlib.Omega.{arith}
