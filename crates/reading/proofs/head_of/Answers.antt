@@ -2,7 +2,6 @@
 -- Assumes nothing.
 use Rattle.reading.specs.Reading.{head_of}
 use borrow.Author.Tests.{lt-ltb, le-ltb}
-use borrow.Author.Rules.{rules}
 use Rattle.reading.proofs.head_of.Goals as goal
 
 pub returns-then-t-lt3 : goal.returns-then-t-lt3

@@ -1,13 +1,11 @@
 -- `reading::read_config` meets its contract. The loop knows what was read and what is ahead (`Ahead`); its measure is the bytes that are left.
 -- Assumes nothing.
-use Rattle.reading.proofs.Ahead.{Ahead, ahead-starts, turn-bad, turn_end, turn-behind, turn-fault, turn-room, turn_on}
+use Rattle.reading.proofs.Ahead.{ahead-starts, turn-bad, turn_end, turn-behind, turn-fault, turn-room, turn_on}
 use Rattle.wire.proofs.Laws.{rest-is}
 use Rattle.reading.specs.Reading.{refused_at}
-use lib.ListN.{length}
 use mathlib.Core.Path.{sym, ap, ◌∙◌}
-use Prim.Native.Nat.{ℕ, ◌+◌, ◌-◌, ◌≤◌}
+use Prim.Native.Nat.{ℕ}
 use native.Mathlib.Omega.{arith}
-use borrow.Author.Rules.{rules}
 use Rattle.reading.proofs.read_config.Goals as goal
 
 pub loop-number-init : goal.loop-number-init
