@@ -1,12 +1,9 @@
 -- `passing::operation_stop` meets its contract.
 -- Assumes nothing.
-use Prim.Native.Nat.{ℕ, ◌-◌, ◌≤◌}
 use mathlib.Core.Path.{◌≡◌, sym, ◌∙◌}
 use native.Mathlib.Omega.{arith}
-use Rattle.laws.specs.Loop.{first_below}
 use Rattle.laws.proofs.Looping.{first-none, first_more, first-here}
-use Rattle.state.specs.Tables.{operation_in}
-use Rattle.passing.specs.Passing.{operation_stops, operation_stop}
+use Rattle.passing.specs.Passing.{operation_stop}
 use borrow.Author.Rules.{rules}
 use Rattle.passing.proofs.operation_stop.Goals as goal
 

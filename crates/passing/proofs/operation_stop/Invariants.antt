@@ -1,13 +1,10 @@
 -- `passing::operation_stop` meets its contract.
 -- Assumes nothing.
 use Prim.Native.Nat.{ℕ, ◌-◌, ◌≤◌}
-use mathlib.Core.Path.{◌≡◌, sym, ◌∙◌}
-use native.Mathlib.Omega.{arith}
+use mathlib.Core.Path.{◌≡◌}
 use Rattle.laws.specs.Loop.{first_below}
-use Rattle.laws.proofs.Looping.{first-none, first_more, first-here}
 use Rattle.state.specs.Tables.{operation_in}
-use Rattle.passing.specs.Passing.{operation_stops, operation_stop}
-use borrow.Author.Rules.{rules}
+use Rattle.passing.specs.Passing.{operation_stops}
 use Rattle.passing.proofs.operation_stop.Given as goal
 
 abbrev pub invariant-loop-o : goal.invariant-loop-o

@@ -1,10 +1,8 @@
 -- `passing::operations_pass` meets its contract.
 -- Assumes nothing.
-use Prim.Native.Nat.{ℕ, ◌-◌, ◌≤◌}
 use mathlib.Core.Path.{◌≡◌, sym}
 use native.Mathlib.Omega.{arith}
-use Rattle.state.specs.Tables.{operation_in}
-use Rattle.passing.specs.Passing.{least_below, operation_left, operations_pass}
+use Rattle.passing.specs.Passing.{operations_pass}
 use Rattle.passing.proofs.Passing.{least-none, least_more}
 use borrow.Author.Rules.{rules}
 use Rattle.passing.proofs.operations_pass.Goals as goal

@@ -1,12 +1,9 @@
 -- `passing::operations_pass` meets its contract.
 -- Assumes nothing.
 use Prim.Native.Nat.{ℕ, ◌-◌, ◌≤◌}
-use mathlib.Core.Path.{◌≡◌, sym}
-use native.Mathlib.Omega.{arith}
+use mathlib.Core.Path.{◌≡◌}
 use Rattle.state.specs.Tables.{operation_in}
-use Rattle.passing.specs.Passing.{least_below, operation_left, operations_pass}
-use Rattle.passing.proofs.Passing.{least-none, least_more}
-use borrow.Author.Rules.{rules}
+use Rattle.passing.specs.Passing.{least_below, operation_left}
 use Rattle.passing.proofs.operations_pass.Given as goal
 
 abbrev pub invariant-loop-o : goal.invariant-loop-o

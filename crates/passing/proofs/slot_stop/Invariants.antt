@@ -1,13 +1,10 @@
 -- `passing::slot_stop` meets its contract.
 -- Assumes nothing.
 use Prim.Native.Nat.{ℕ, ◌-◌, ◌≤◌}
-use mathlib.Core.Path.{◌≡◌, sym, ◌∙◌}
-use native.Mathlib.Omega.{arith}
+use mathlib.Core.Path.{◌≡◌}
 use Rattle.laws.specs.Loop.{first_below}
-use Rattle.laws.proofs.Looping.{first-none, first_more, first-here}
 use Rattle.state.specs.Tables.{slot_in}
-use Rattle.passing.specs.Passing.{slot_stops, slot_stop}
-use borrow.Author.Rules.{rules}
+use Rattle.passing.specs.Passing.{slot_stops}
 use Rattle.passing.proofs.slot_stop.Given as goal
 
 abbrev pub invariant-loop-i : goal.invariant-loop-i

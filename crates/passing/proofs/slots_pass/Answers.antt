@@ -1,10 +1,8 @@
 -- `passing::slots_pass` meets its contract.
 -- Assumes nothing.
-use Prim.Native.Nat.{ℕ, ◌-◌, ◌≤◌}
 use mathlib.Core.Path.{◌≡◌, sym}
 use native.Mathlib.Omega.{arith}
-use Rattle.state.specs.Tables.{slot_in}
-use Rattle.passing.specs.Passing.{least_below, slot_left, slots_pass}
+use Rattle.passing.specs.Passing.{slots_pass}
 use Rattle.passing.proofs.Passing.{least-none, least_more}
 use borrow.Author.Rules.{rules}
 use Rattle.passing.proofs.slots_pass.Goals as goal

@@ -1,13 +1,10 @@
 -- `passing::timer_stop` meets its contract.
 -- Assumes nothing.
 use Prim.Native.Nat.{ℕ, ◌-◌, ◌≤◌}
-use mathlib.Core.Path.{◌≡◌, sym, ◌∙◌}
-use native.Mathlib.Omega.{arith}
+use mathlib.Core.Path.{◌≡◌}
 use Rattle.laws.specs.Loop.{first_below}
-use Rattle.laws.proofs.Looping.{first-none, first_more, first-here}
 use Rattle.state.specs.Tables.{timer_in}
-use Rattle.passing.specs.Passing.{timer_stops, timer_stop}
-use borrow.Author.Rules.{rules}
+use Rattle.passing.specs.Passing.{timer_stops}
 use Rattle.passing.proofs.timer_stop.Given as goal
 
 abbrev pub invariant-loop-k : goal.invariant-loop-k

@@ -1,10 +1,8 @@
 -- `passing::timers_pass` meets its contract.
 -- Assumes nothing.
-use Prim.Native.Nat.{ℕ, ◌-◌, ◌≤◌}
 use mathlib.Core.Path.{◌≡◌, sym}
 use native.Mathlib.Omega.{arith}
-use Rattle.state.specs.Tables.{timer_in}
-use Rattle.passing.specs.Passing.{least_below, timers_pass}
+use Rattle.passing.specs.Passing.{timers_pass}
 use Rattle.passing.proofs.Passing.{least-none, least_more}
 use borrow.Author.Rules.{rules}
 use Rattle.passing.proofs.timers_pass.Goals as goal

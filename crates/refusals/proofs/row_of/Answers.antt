@@ -3,7 +3,6 @@
 use Prim.Native.Nat.{ℕ}
 use mathlib.Core.List.{List, [], ◌∷◌, map}
 use mathlib.Core.Path.{refl, sym}
-use borrow.Author.Rules.{rules}
 use lib.ListN.{get_or, get_or-map}
 use Rattle.laws.proofs.Places.{past}
 use Rattle.rules.specs.declared.Row.{Row}

@@ -1,12 +1,11 @@
 -- `sound::areas_tallied` meets its contract.
 -- Assumes nothing.
-use Rattle.std.proofs.Common.{◌≡◌, ℕ, ◌-◌, ◌≤◌, true, length, get_or, sym, ◌∙◌, arith, rules}
-use Rattle.laws.specs.Loop.{all_below}
+use Rattle.std.proofs.Common.{◌≡◌, length, sym, ◌∙◌, arith, rules}
 use Rattle.laws.proofs.Looping.{all_none, all_more, all-fails}
 use Rattle.laws.proofs.Places.{inside, length-mapped}
 use Rattle.state.specs.Parts.{no_area}
 use Rattle.state.specs.Tables.{area_in}
-use Rattle.sound.specs.Walk.{area_tallied, areas_tallied}
+use Rattle.sound.specs.Walk.{areas_tallied}
 use Rattle.sound.proofs.areas_tallied.Goals as goal
 
 pub loop-k-init : goal.loop-k-init

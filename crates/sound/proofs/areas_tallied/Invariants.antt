@@ -1,12 +1,9 @@
 -- `sound::areas_tallied` meets its contract.
 -- Assumes nothing.
-use Rattle.std.proofs.Common.{◌≡◌, ℕ, ◌-◌, ◌≤◌, true, length, get_or, sym, ◌∙◌, arith, rules}
+use Rattle.std.proofs.Common.{◌≡◌, ℕ, ◌-◌, ◌≤◌, true, get_or}
 use Rattle.laws.specs.Loop.{all_below}
-use Rattle.laws.proofs.Looping.{all_none, all_more, all-fails}
-use Rattle.laws.proofs.Places.{inside, length-mapped}
-use Rattle.state.specs.Parts.{no_area}
 use Rattle.state.specs.Tables.{area_in}
-use Rattle.sound.specs.Walk.{area_tallied, areas_tallied}
+use Rattle.sound.specs.Walk.{area_tallied}
 use Rattle.sound.proofs.areas_tallied.Given as goal
 
 abbrev pub invariant-loop-k : goal.invariant-loop-k

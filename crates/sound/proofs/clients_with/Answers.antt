@@ -1,6 +1,5 @@
 -- `sound::clients_with` meets its contract.
 -- Assumes nothing.
-use Rattle.std.proofs.Common.{rules}
 use Rattle.sound.specs.Walk.{clients_with}
 use Rattle.sound.proofs.clients_with.Goals as goal
 

@@ -1,6 +1,6 @@
 -- `sound::copies_sound` meets its contract.
 -- Assumes nothing.
-use Rattle.std.proofs.Common.{◌≡◌, ℕ, ◌-◌, ◌<◌, ◌≤◌, true, false, eqb, length, sym, ◌∙◌, arith, rules, eq-eqb}
+use Rattle.std.proofs.Common.{◌≡◌, ℕ, ◌<◌, true, false, eqb, length, sym, ◌∙◌, arith, rules, eq-eqb}
 use Rattle.laws.specs.Loop.{all_below}
 use Rattle.laws.proofs.Choosing.{both-make, both-no}
 use Rattle.laws.proofs.Looping.{all_none, all_more, all-fails}

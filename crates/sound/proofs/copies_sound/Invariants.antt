@@ -1,12 +1,8 @@
 -- `sound::copies_sound` meets its contract.
 -- Assumes nothing.
-use Rattle.std.proofs.Common.{◌≡◌, ℕ, ◌-◌, ◌<◌, ◌≤◌, true, false, eqb, length, sym, ◌∙◌, arith, rules, eq-eqb}
+use Rattle.std.proofs.Common.{◌≡◌, ◌-◌, ◌≤◌, true}
 use Rattle.laws.specs.Loop.{all_below}
-use Rattle.laws.proofs.Choosing.{both-make, both-no}
-use Rattle.laws.proofs.Looping.{all_none, all_more, all-fails}
-use Rattle.laws.proofs.Places.{length-mapped}
-use Rattle.faces.specs.Types.{Lists, Slot, Copies}
-use Rattle.rules.specs.Sound.{copy_sound, copies_sound}
+use Rattle.rules.specs.Sound.{copy_sound}
 use Rattle.sound.proofs.copies_sound.Given as goal
 
 abbrev pub invariant-loop-j : goal.invariant-loop-j

@@ -1,13 +1,11 @@
 -- `sound::elements_sound` meets its contract.
 -- Assumes nothing.
-use Rattle.std.proofs.Common.{◌≡◌, ℕ, ◌-◌, ◌≤◌, true, length, sym, ◌∙◌, arith, rules}
-use Rattle.laws.specs.Loop.{all_below}
+use Rattle.std.proofs.Common.{◌≡◌, length, sym, ◌∙◌, arith, rules}
 use Rattle.laws.proofs.Looping.{all_none, all_more, all-fails}
 use Rattle.laws.proofs.Places.{inside, length-mapped}
 use Rattle.state.specs.Parts.{no_element, no_values}
 use Rattle.state.specs.Tables.{element_in}
-use Rattle.rules.specs.Sound.{element_sound, elements_sound}
-use Rattle.sound.specs.Only.{only_required}
+use Rattle.rules.specs.Sound.{elements_sound}
 use Rattle.sound.proofs.elements_sound.Goals as goal
 
 pub loop-k-init : goal.loop-k-init

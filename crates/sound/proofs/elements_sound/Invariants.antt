@@ -1,12 +1,9 @@
 -- `sound::elements_sound` meets its contract.
 -- Assumes nothing.
-use Rattle.std.proofs.Common.{◌≡◌, ℕ, ◌-◌, ◌≤◌, true, length, sym, ◌∙◌, arith, rules}
+use Rattle.std.proofs.Common.{◌≡◌, ℕ, ◌-◌, ◌≤◌, true}
 use Rattle.laws.specs.Loop.{all_below}
-use Rattle.laws.proofs.Looping.{all_none, all_more, all-fails}
-use Rattle.laws.proofs.Places.{inside, length-mapped}
-use Rattle.state.specs.Parts.{no_element, no_values}
 use Rattle.state.specs.Tables.{element_in}
-use Rattle.rules.specs.Sound.{element_sound, elements_sound}
+use Rattle.rules.specs.Sound.{element_sound}
 use Rattle.sound.specs.Only.{only_required}
 use Rattle.sound.proofs.elements_sound.Given as goal
 

@@ -1,8 +1,7 @@
 -- `sound::held_by` meets its contract.
 -- Assumes nothing.
-use Rattle.std.proofs.Common.{◌≡◌, ◌-◌, ◌≤◌, refl, add-one, arith, rules}
+use Rattle.std.proofs.Common.{◌≡◌, refl, add-one, arith, rules}
 use Rattle.sound.specs.Tally.{held_below}
-use Rattle.sound.specs.declared.Held.{Held}
 use Rattle.sound.proofs.held_by.Goals as goal
 
 pub loop-j-init : goal.loop-j-init

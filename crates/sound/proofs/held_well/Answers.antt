@@ -1,7 +1,6 @@
 -- `sound::held_well` meets its contract.
 -- Assumes nothing.
 use Rattle.std.proofs.Common.{le-ltb, lt-ltb, eq-eqb, ne_eqb}
-use borrow.Author.Tests.{not-true, not-false}
 use Rattle.config.specs.Tables.{runnable_conf_in}
 use Rattle.laws.specs.Choice.{all_of}
 use Rattle.laws.proofs.Choosing.{both_true}

@@ -1,6 +1,5 @@
 -- `sound::instances_fit` meets its contract.
 -- Assumes nothing.
-use Rattle.std.proofs.Common.{rules}
 use Rattle.sound.proofs.instances_fit.Goals as goal
 
 pub returns : goal.returns

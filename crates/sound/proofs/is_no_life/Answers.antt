@@ -1,7 +1,6 @@
 -- `sound::is_no_life` meets its contract.
 -- Assumes nothing.
 use Rattle.std.proofs.Common.{eq-eqb, ne_eqb}
-use borrow.Author.Tests.{not-true, not-false}
 use Rattle.laws.specs.Choice.{all_of}
 use Rattle.laws.proofs.Choosing.{both_true}
 use Rattle.rules.specs.Sound.{is_no_life}

@@ -1,7 +1,6 @@
 -- `sound::life_sound` meets its contract.
 -- Assumes nothing.
 use Rattle.std.proofs.Common.{le-ltb, lt-ltb}
-use borrow.Author.Tests.{not-true, not-false}
 use Rattle.laws.specs.Choice.{all_of}
 use Rattle.laws.proofs.Choosing.{both_true}
 use Rattle.rules.specs.Sound.{life_sound}

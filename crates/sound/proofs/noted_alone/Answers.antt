@@ -1,11 +1,9 @@
 -- `sound::noted_alone` meets its contract.
 -- Assumes nothing.
-use Rattle.std.proofs.Common.{◌≡◌, ℕ, ◌-◌, ◌≤◌, true, sym, ◌∙◌, arith, rules}
-use Rattle.laws.specs.Loop.{all_below}
+use Rattle.std.proofs.Common.{◌≡◌, sym, ◌∙◌, arith, rules}
 use Rattle.laws.proofs.Looping.{all_none, all_more, all-fails}
 use Rattle.state.specs.Parts.{no_requests}
-use Rattle.sound.specs.Tally.{noted_at}
-use Rattle.sound.specs.Walk.{client_alone, noted_alone}
+use Rattle.sound.specs.Walk.{noted_alone}
 use Rattle.sound.proofs.noted_alone.Goals as goal
 
 pub loop-j-init : goal.loop-j-init

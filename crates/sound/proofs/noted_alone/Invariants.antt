@@ -1,11 +1,10 @@
 -- `sound::noted_alone` meets its contract.
 -- Assumes nothing.
-use Rattle.std.proofs.Common.{◌≡◌, ℕ, ◌-◌, ◌≤◌, true, sym, ◌∙◌, arith, rules}
+use Rattle.std.proofs.Common.{◌≡◌, ℕ, ◌-◌, ◌≤◌, true}
 use Rattle.laws.specs.Loop.{all_below}
-use Rattle.laws.proofs.Looping.{all_none, all_more, all-fails}
 use Rattle.state.specs.Parts.{no_requests}
 use Rattle.sound.specs.Tally.{noted_at}
-use Rattle.sound.specs.Walk.{client_alone, noted_alone}
+use Rattle.sound.specs.Walk.{client_alone}
 use Rattle.sound.proofs.noted_alone.Given as goal
 
 abbrev pub invariant-loop-j : goal.invariant-loop-j

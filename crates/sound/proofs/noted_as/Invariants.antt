@@ -1,11 +1,9 @@
 -- `sound::noted_as` meets its contract.
 -- Assumes nothing.
-use Rattle.std.proofs.Common.{◌≡◌, ℕ, ◌-◌, ◌≤◌, sym, ◌∙◌, arith, rules}
+use Rattle.std.proofs.Common.{◌≡◌, ℕ, ◌-◌, ◌≤◌}
 use Rattle.laws.specs.Loop.{count_below}
-use Rattle.laws.proofs.Choosing.{bit-most}
-use Rattle.laws.proofs.Looping.{sum-none, sum_more, count_most}
 use Rattle.rules.specs.Sound.{is_client}
-use Rattle.sound.specs.Tally.{noted_at, noted_as}
+use Rattle.sound.specs.Tally.{noted_at}
 use Rattle.sound.proofs.noted_as.Given as goal
 
 abbrev pub invariant-loop-j : goal.invariant-loop-j

@@ -1,6 +1,5 @@
 -- `sound::operation_tallied` meets its contract.
 -- Assumes nothing.
-use borrow.Author.Tests.{not-true, not-false}
 use Rattle.sound.specs.Walk.{operation_tallied}
 use Rattle.sound.proofs.operation_tallied.Goals as goal
 

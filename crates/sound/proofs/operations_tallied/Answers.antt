@@ -1,13 +1,11 @@
 -- `sound::operations_tallied` meets its contract.
 -- Assumes nothing.
-use Rattle.std.proofs.Common.{◌≡◌, ℕ, ◌-◌, ◌≤◌, true, length, get_or, sym, ◌∙◌, arith, rules}
-use Rattle.laws.specs.Loop.{all_below}
+use Rattle.std.proofs.Common.{◌≡◌, length, sym, ◌∙◌, arith, rules}
 use Rattle.laws.proofs.Looping.{all_none, all_more, all-fails}
 use Rattle.laws.proofs.Places.{inside, length-mapped}
 use Rattle.state.specs.Parts.{no_operation}
 use Rattle.state.specs.Tables.{operation_in}
-use Rattle.sound.specs.Walk.{operation_tallied, operations_tallied}
-use Rattle.sound.specs.Only.{only_operations}
+use Rattle.sound.specs.Walk.{operations_tallied}
 use Rattle.sound.proofs.operations_tallied.Goals as goal
 
 pub loop-k-init : goal.loop-k-init

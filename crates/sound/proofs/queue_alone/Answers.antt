@@ -1,10 +1,8 @@
 -- `sound::queue_alone` meets its contract.
 -- Assumes nothing.
-use Rattle.std.proofs.Common.{◌≡◌, ℕ, ◌-◌, ◌≤◌, true, get_or, sym, ◌∙◌, arith, rules}
-use Rattle.laws.specs.Loop.{all_below}
+use Rattle.std.proofs.Common.{◌≡◌, sym, ◌∙◌, arith, rules}
 use Rattle.laws.proofs.Looping.{all_none, all_more, all-fails}
-use Rattle.state.specs.Parts.{no_client}
-use Rattle.sound.specs.Walk.{client_alone, queue_alone}
+use Rattle.sound.specs.Walk.{queue_alone}
 use Rattle.sound.proofs.queue_alone.Goals as goal
 
 pub loop-j-init : goal.loop-j-init

@@ -1,10 +1,9 @@
 -- `sound::queue_alone` meets its contract.
 -- Assumes nothing.
-use Rattle.std.proofs.Common.{◌≡◌, ℕ, ◌-◌, ◌≤◌, true, get_or, sym, ◌∙◌, arith, rules}
+use Rattle.std.proofs.Common.{◌≡◌, ℕ, ◌-◌, ◌≤◌, true, get_or}
 use Rattle.laws.specs.Loop.{all_below}
-use Rattle.laws.proofs.Looping.{all_none, all_more, all-fails}
 use Rattle.state.specs.Parts.{no_client}
-use Rattle.sound.specs.Walk.{client_alone, queue_alone}
+use Rattle.sound.specs.Walk.{client_alone}
 use Rattle.sound.proofs.queue_alone.Given as goal
 
 abbrev pub invariant-loop-j : goal.invariant-loop-j

@@ -1,7 +1,6 @@
 -- `sound::queued_as` meets its contract.
 -- Assumes nothing.
-use Rattle.std.proofs.Common.{◌≡◌, ℕ, ◌-◌, ◌≤◌, get_or, sym, ◌∙◌, arith, rules}
-use Rattle.laws.specs.Loop.{count_below}
+use Rattle.std.proofs.Common.{◌≡◌, ℕ, get_or, sym, ◌∙◌, arith, rules}
 use Rattle.laws.proofs.Choosing.{bit-most}
 use Rattle.laws.proofs.Looping.{sum-none, sum_more, count_most}
 use Rattle.state.specs.Parts.{no_client}

@@ -1,11 +1,9 @@
 -- `sound::queued_as` meets its contract.
 -- Assumes nothing.
-use Rattle.std.proofs.Common.{◌≡◌, ℕ, ◌-◌, ◌≤◌, get_or, sym, ◌∙◌, arith, rules}
+use Rattle.std.proofs.Common.{◌≡◌, ℕ, ◌-◌, ◌≤◌, get_or}
 use Rattle.laws.specs.Loop.{count_below}
-use Rattle.laws.proofs.Choosing.{bit-most}
-use Rattle.laws.proofs.Looping.{sum-none, sum_more, count_most}
 use Rattle.state.specs.Parts.{no_client}
-use Rattle.rules.specs.Sound.{is_client, queued_as}
+use Rattle.rules.specs.Sound.{is_client}
 use Rattle.sound.proofs.queued_as.Given as goal
 
 abbrev pub invariant-loop-j : goal.invariant-loop-j

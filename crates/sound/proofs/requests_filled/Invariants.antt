@@ -1,14 +1,11 @@
 -- `sound::requests_filled` meets its contract.
 -- Assumes nothing.
-use Rattle.std.proofs.Common.{◌≡◌, ◌-◌, ◌≤◌, true, length, sym, ◌∙◌, arith, rules}
+use Rattle.std.proofs.Common.{◌≡◌, ◌-◌, ◌≤◌, true}
 use Rattle.laws.specs.Loop.{all_below}
 use Rattle.laws.specs.Row.{place_filled}
-use Rattle.laws.proofs.Looping.{all_none, all_more}
-use Rattle.laws.proofs.Places.{length-mapped}
 use Rattle.state.specs.Parts.{no_client}
 use Rattle.rules.specs.Sound.{is_no_client, client_fits}
 use Rattle.sound.specs.Only.{only_operations}
-use Rattle.sound.proofs.Rows.{row-fails, row-passes}
 use Rattle.sound.proofs.requests_filled.Given as goal
 
 abbrev pub invariant-loop-j : goal.invariant-loop-j

@@ -1,6 +1,5 @@
 -- `sound::rest_sound` meets its contract.
 -- Assumes nothing.
-use borrow.Author.Tests.{not-true, not-false}
 use Rattle.laws.specs.Choice.{all_of}
 use Rattle.laws.proofs.Choosing.{both_true}
 use Rattle.sound.proofs.Whole.{variables-only, elements-only, operations-only, timers-only}

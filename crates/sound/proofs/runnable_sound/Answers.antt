@@ -1,7 +1,7 @@
 -- `sound::runnable_sound` meets its contract.
 -- Assumes nothing.
 use Rattle.std.proofs.Common.{le-leb}
-use borrow.Author.Tests.{not-true, not-false, lt-leb}
+use borrow.Author.Tests.{lt-leb}
 use Rattle.laws.specs.Choice.{all_of}
 use Rattle.laws.proofs.Choosing.{both_true}
 use Rattle.rules.specs.Sound.{runnable_sound}

@@ -1,7 +1,6 @@
 -- `sound::runnable_tallied` meets its contract.
 -- Assumes nothing.
 use Rattle.std.proofs.Common.{eq-eqb, ne_eqb}
-use borrow.Author.Tests.{not-true, not-false}
 use Rattle.sound.specs.Walk.{runnable_tallied}
 use Rattle.sound.proofs.runnable_tallied.Goals as goal
 

@@ -1,12 +1,11 @@
 -- `sound::runnables_tallied` meets its contract.
 -- Assumes nothing.
-use Rattle.std.proofs.Common.{◌≡◌, ℕ, ◌-◌, ◌≤◌, true, length, get_or, sym, ◌∙◌, arith, rules}
-use Rattle.laws.specs.Loop.{all_below}
+use Rattle.std.proofs.Common.{◌≡◌, length, sym, ◌∙◌, arith, rules}
 use Rattle.laws.proofs.Looping.{all_none, all_more, all-fails}
 use Rattle.laws.proofs.Places.{inside, length-mapped}
 use Rattle.state.specs.Parts.{no_runnable, no_requests}
 use Rattle.state.specs.Tables.{runnable_in}
-use Rattle.sound.specs.Walk.{runnable_tallied, runnables_tallied}
+use Rattle.sound.specs.Walk.{runnables_tallied}
 use Rattle.sound.proofs.runnables_tallied.Goals as goal
 
 pub loop-k-init : goal.loop-k-init

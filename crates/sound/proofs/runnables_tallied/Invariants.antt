@@ -1,12 +1,9 @@
 -- `sound::runnables_tallied` meets its contract.
 -- Assumes nothing.
-use Rattle.std.proofs.Common.{◌≡◌, ℕ, ◌-◌, ◌≤◌, true, length, get_or, sym, ◌∙◌, arith, rules}
+use Rattle.std.proofs.Common.{◌≡◌, ℕ, ◌-◌, ◌≤◌, true, get_or}
 use Rattle.laws.specs.Loop.{all_below}
-use Rattle.laws.proofs.Looping.{all_none, all_more, all-fails}
-use Rattle.laws.proofs.Places.{inside, length-mapped}
-use Rattle.state.specs.Parts.{no_runnable, no_requests}
 use Rattle.state.specs.Tables.{runnable_in}
-use Rattle.sound.specs.Walk.{runnable_tallied, runnables_tallied}
+use Rattle.sound.specs.Walk.{runnable_tallied}
 use Rattle.sound.proofs.runnables_tallied.Given as goal
 
 abbrev pub invariant-loop-k : goal.invariant-loop-k

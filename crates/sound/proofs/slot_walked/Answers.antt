@@ -1,6 +1,5 @@
 -- `sound::slot_walked` meets its contract.
 -- Assumes nothing.
-use borrow.Author.Tests.{not-true, not-false}
 use Rattle.sound.specs.Walk.{slot_walked}
 use Rattle.sound.proofs.slot_walked.Goals as goal
 

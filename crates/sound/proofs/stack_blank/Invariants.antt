@@ -1,11 +1,9 @@
 -- `sound::stack_blank` meets its contract.
 -- Assumes nothing.
-use Rattle.std.proofs.Common.{◌≡◌, ◌-◌, ◌≤◌, true, length, sym, arith, rules, eq-eqb, ne_eqb}
+use Rattle.std.proofs.Common.{◌≡◌, ◌-◌, ◌≤◌, true}
 use Rattle.laws.specs.Loop.{all_below}
 use Rattle.laws.specs.Row.{place_filled}
-use Rattle.laws.proofs.Looping.{all_none, all_more}
 use Rattle.rules.specs.Sound.{is_zero}
-use Rattle.sound.proofs.Rows.{row-fails, row-passes, zero-place}
 use Rattle.sound.proofs.stack_blank.Given as goal
 
 abbrev pub invariant-loop-j : goal.invariant-loop-j

@@ -1,11 +1,7 @@
 -- `sound::stack_filled` meets its contract.
 -- Assumes nothing.
-use Rattle.std.proofs.Common.{◌≡◌, ◌-◌, ◌≤◌, true, length, sym, ◌∙◌, arith, rules}
-use Rattle.laws.specs.Loop.{all_below}
-use Rattle.laws.specs.Row.{place_filled}
+use Rattle.std.proofs.Common.{◌≡◌, length, sym, ◌∙◌, arith, rules}
 use Rattle.laws.proofs.Looping.{all_none, all_more}
-use Rattle.rules.specs.Sound.{area_fits, is_zero}
-use Rattle.sound.specs.Only.{only_areas}
 use Rattle.sound.proofs.Rows.{row-fails, row-passes}
 use Rattle.sound.proofs.stack_filled.Goals as goal
 

@@ -1,11 +1,8 @@
 -- `sound::timers_sound` meets its contract.
 -- Assumes nothing.
-use Rattle.std.proofs.Common.{◌≡◌, ℕ, ◌-◌, ◌≤◌, true, sym, ◌∙◌, arith, rules}
-use Rattle.laws.specs.Loop.{all_below}
+use Rattle.std.proofs.Common.{◌≡◌, sym, ◌∙◌, arith, rules}
 use Rattle.laws.proofs.Looping.{all_none, all_more, all-fails}
-use Rattle.state.specs.Tables.{timer_in}
-use Rattle.rules.specs.Sound.{timer_sound, timers_sound}
-use Rattle.sound.specs.Only.{only_timers}
+use Rattle.rules.specs.Sound.{timers_sound}
 use Rattle.sound.proofs.timers_sound.Goals as goal
 
 pub loop-k-init : goal.loop-k-init

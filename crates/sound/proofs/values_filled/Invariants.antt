@@ -1,12 +1,9 @@
 -- `sound::values_filled` meets its contract.
 -- Assumes nothing.
-use Rattle.std.proofs.Common.{◌≡◌, ◌-◌, ◌≤◌, true, length, sym, ◌∙◌, arith, rules}
+use Rattle.std.proofs.Common.{◌≡◌, ◌-◌, ◌≤◌, true}
 use Rattle.laws.specs.Loop.{all_below}
 use Rattle.laws.specs.Row.{place_filled}
-use Rattle.laws.proofs.Looping.{all_none, all_more}
-use Rattle.laws.proofs.Places.{length-mapped}
 use Rattle.values.specs.Values.{void_v, is_void, is_payload}
-use Rattle.sound.proofs.Rows.{row-fails, row-passes}
 use Rattle.sound.proofs.values_filled.Given as goal
 
 abbrev pub invariant-loop-j : goal.invariant-loop-j

@@ -1,11 +1,8 @@
 -- `sound::variables_sound` meets its contract.
 -- Assumes nothing.
-use Rattle.std.proofs.Common.{◌≡◌, ℕ, ◌-◌, ◌≤◌, true, sym, ◌∙◌, arith, rules}
-use Rattle.laws.specs.Loop.{all_below}
+use Rattle.std.proofs.Common.{◌≡◌, sym, ◌∙◌, arith, rules}
 use Rattle.laws.proofs.Looping.{all_none, all_more, all-fails}
-use Rattle.state.specs.Tables.{variable_in}
-use Rattle.rules.specs.Sound.{variable_sound, variables_sound}
-use Rattle.sound.specs.Only.{only_variables}
+use Rattle.rules.specs.Sound.{variables_sound}
 use Rattle.sound.proofs.variables_sound.Goals as goal
 
 pub loop-k-init : goal.loop-k-init

@@ -1,10 +1,9 @@
 -- `sound::variables_sound` meets its contract.
 -- Assumes nothing.
-use Rattle.std.proofs.Common.{◌≡◌, ℕ, ◌-◌, ◌≤◌, true, sym, ◌∙◌, arith, rules}
+use Rattle.std.proofs.Common.{◌≡◌, ℕ, ◌-◌, ◌≤◌, true}
 use Rattle.laws.specs.Loop.{all_below}
-use Rattle.laws.proofs.Looping.{all_none, all_more, all-fails}
 use Rattle.state.specs.Tables.{variable_in}
-use Rattle.rules.specs.Sound.{variable_sound, variables_sound}
+use Rattle.rules.specs.Sound.{variable_sound}
 use Rattle.sound.specs.Only.{only_variables}
 use Rattle.sound.proofs.variables_sound.Given as goal
 

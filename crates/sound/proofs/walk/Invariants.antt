@@ -1,14 +1,11 @@
 -- `sound::walk` meets its contract.
 -- Assumes nothing.
-use Rattle.std.proofs.Common.{◌≡◌, ℕ, ◌-◌, ◌≤◌, true, length, sym, refl, ◌∙◌, add-one, arith, rules}
+use Rattle.std.proofs.Common.{◌≡◌, ℕ, ◌-◌, ◌≤◌, true}
 use Rattle.laws.specs.Loop.{all_below}
-use Rattle.laws.proofs.Looping.{all_none, all_more, all-fails}
-use Rattle.laws.proofs.Places.{inside, length-mapped}
-use Rattle.state.specs.Parts.{no_slot, no_stack, no_copies}
 use Rattle.state.specs.Tables.{slot_in, copies_in}
 use Rattle.sound.specs.declared.Tally.{Tally}
-use Rattle.sound.specs.Tally.{no_tally, tally_of}
-use Rattle.sound.specs.Walk.{slot_walked, slots_walked, walk_of}
+use Rattle.sound.specs.Tally.{tally_of}
+use Rattle.sound.specs.Walk.{slot_walked}
 use Rattle.sound.proofs.walk.Given as goal
 
 abbrev pub invariant-loop-k : goal.invariant-loop-k
