@@ -1,0 +1,26 @@
+-- `passing::slots_pass` meets its contract.
+-- Assumes nothing.
+use mathlib.Core.Path.{◌≡◌, sym}
+use native.Mathlib.Omega.{arith}
+use Rattle.passing.specs.Passing.{slots_pass}
+use Rattle.passing.proofs.Passing.{least-none, least_more}
+use borrow.Author.Rules.{rules}
+use Rattle.passing.proofs.slots_pass.Goals as goal
+
+pub loop-i-init : goal.loop-i-init
+loop-i-init c = (search rules, sym (least-none _ _))
+
+pub overflow_add-i : goal.overflow_add-i
+overflow_add-i c = omega arith
+
+pub loop-i-smaller : goal.loop-i-smaller
+loop-i-smaller c = omega arith
+
+pub loop-i-preserved : goal.loop-i-preserved
+loop-i-preserved c = (omega arith, rw (c.less_of-u.ensures, c.slot_left.ensures, c.get.ensures, c.loop-i.invariant.1, least_more))
+
+pub returns : goal.returns
+unfolding slots_pass
+returns c =
+    let e : c.loop-i.i ≡ 32 = omega arith in
+    rw e at c.loop-i.invariant.1

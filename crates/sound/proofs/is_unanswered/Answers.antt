@@ -1,0 +1,10 @@
+-- `sound::is_unanswered` meets its contract.
+-- Assumes nothing.
+use Rattle.std.proofs.Common.{eq-eqb, ne_eqb}
+use Rattle.sound.proofs.is_unanswered.Goals as goal
+
+pub returns-then-kind : goal.returns-then-kind
+returns-then-kind c = rw (eq-eqb _ _ c.if-kind.true)
+
+pub returns-else-kind : goal.returns-else-kind
+returns-else-kind c = rw (ne_eqb _ _ c.if-kind.false)
