@@ -1,6 +1,5 @@
 -- `shared_steps::one_more` meets its contract.
 -- Assumes nothing.
-use borrow.Author.Rules.{rules}
 use borrow.Author.Tests.{lt-ltb, le-ltb}
 use Rattle.effects.specs.Steps.{one_more}
 use Rattle.shared_steps.proofs.one_more.Goals as goal

@@ -1,6 +1,5 @@
 -- `shared_steps::woken_if` meets its contract.
 -- Assumes nothing.
-use borrow.Author.Rules.{rules}
 use Rattle.shared_steps.proofs.woken_if.Goals as goal
 
 pub returns-then-b : goal.returns-then-b
