@@ -1,14 +1,11 @@
 -- `feeding::fed_elements` meets its contract. The loop has been over the places below its counter (`each_below`), and takes one more by `each-put`.
 -- Assumes nothing.
-use Prim.Native.Nat.{◌-◌, ◌≤◌}
 use borrow.Author.Rules.{rules}
 use lib.ListN.{length}
 use mathlib.Core.Path.{◌∙◌, ◌≡◌}
 use native.Mathlib.Omega.{arith}
 use Rattle.laws.proofs.Places.{each_none, length-mapped}
-use Rattle.laws.specs.Row.{each_below}
-use Rattle.effects.specs.Steps.{fed_element, fed_elements}
-use Rattle.state.specs.Parts.{no_element}
+use Rattle.effects.specs.Steps.{fed_elements}
 use Rattle.shared_steps.proofs.Stopping.{each-put, each_within, elements-made}
 use Rattle.feeding.proofs.fed_elements.Goals as goal
 

@@ -1,13 +1,10 @@
 -- `feeding::is_fed` meets its contract.
 -- Assumes nothing.
-use Prim.Native.Nat.{◌-◌, ◌≤◌}
 use borrow.Author.Rules.{rules}
-use mathlib.Core.Bool.{false}
 use mathlib.Core.Path.{◌∙◌, ◌≡◌, sym}
 use native.Mathlib.Omega.{arith}
 use Rattle.laws.proofs.Looping.{any_here, any-more, any_none}
-use Rattle.laws.specs.Loop.{any_below}
-use Rattle.feeding.specs.Rooms.{feeds_by, is_fed_by}
+use Rattle.feeding.specs.Rooms.{is_fed_by}
 use Rattle.feeding.proofs.is_fed.Goals as goal
 
 pub loop-e-init : goal.loop-e-init

@@ -1,12 +1,9 @@
 -- `feeding::linked` meets its contract.
 -- Assumes nothing.
 use Prim.Native.Nat.{◌-◌, ◌≤◌, ℕ}
-use borrow.Author.Rules.{rules}
 use mathlib.Core.Bool.{false}
-use mathlib.Core.Path.{◌∙◌, ◌≡◌, sym}
-use native.Mathlib.Omega.{arith}
+use mathlib.Core.Path.{◌≡◌}
 use Rattle.config.specs.Tables.{link_in}
-use Rattle.laws.proofs.Looping.{any_here, any-more, any_none}
 use Rattle.laws.specs.Loop.{any_below}
 use Rattle.effects.specs.Steps.{joins}
 use Rattle.feeding.proofs.linked.Given as goal

@@ -1,22 +1,14 @@
 -- `feeding::Rooms::of` meets its contract. The loop has noted the elements below its counter (`each_below`).
 -- Assumes nothing.
-use Prim.Native.Nat.{◌-◌, ◌≤◌, ℕ, ◌<◌}
-use borrow.Author.Rules.{rules}
+use Prim.Native.Nat.{◌-◌, ◌≤◌, ℕ}
 use lib.Dec.{ltb}
-use lib.ListN.{replicate, length}
+use lib.ListN.{replicate}
 use mathlib.Core.Bool.{Bool, not, true}
-use mathlib.Core.Path.{◌≡◌, refl}
-use native.Mathlib.Omega.{arith}
+use mathlib.Core.Path.{◌≡◌}
 use Rattle.config.specs.Tables.{required_conf_in}
-use Rattle.entries.specs.Faults.{is_queued}
-use Rattle.laws.proofs.Places.{each_none, length-mapped}
 use Rattle.laws.specs.Choice.{either}
 use Rattle.laws.specs.Row.{each_below}
-use Rattle.effects.specs.Steps.{accepts}
 use Rattle.state.specs.Tables.{element_in}
-use Rattle.feeding.proofs.Noted.{rooms-made}
-use Rattle.shared_steps.proofs.Stopping.{each-put, element-here}
-use Rattle.feeding.specs.Rooms.{rooms_of}
 use Rattle.feeding.proofs.Rooms.of.Given as goal
 
 abbrev pub invariant-loop-k : goal.invariant-loop-k
