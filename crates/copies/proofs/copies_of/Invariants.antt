@@ -1,15 +1,12 @@
 -- `copies::copies_of` meets its contract. The loop has been over the places below its counter (`each_below`), and takes one more by `each_more`.
 -- Assumes nothing.
 use Prim.Native.Nat.{ℕ, ◌-◌, ◌≤◌}
-use borrow.Author.Rules.{rules}
 use mathlib.Core.Path.{◌≡◌}
-use native.Mathlib.Omega.{arith}
-use Rattle.laws.proofs.Places.{each_none, each_more}
 use Rattle.laws.specs.Row.{each_below}
 use Rattle.values.specs.Values.{never_received_v}
 use Rattle.faces.specs.Types.{Value, Copies}
 use Rattle.state.specs.Parts.{no_copies}
-use Rattle.effects.specs.Steps.{copy_of, copies_of}
+use Rattle.effects.specs.Steps.{copy_of}
 use Rattle.copies.proofs.copies_of.Given as goal
 
 abbrev pub invariant-loop-j : goal.invariant-loop-j

@@ -1,11 +1,8 @@
 -- `copies::given_elements` meets its contract. The loop has been over the places below its counter, and takes one more by `given-more`.
 -- Assumes nothing.
 use Prim.Native.Nat.{◌-◌, ◌≤◌}
-use borrow.Author.Rules.{rules}
-use mathlib.Core.Path.{◌∙◌, ◌≡◌}
-use native.Mathlib.Omega.{arith}
+use mathlib.Core.Path.{◌≡◌}
 use Rattle.effects.specs.Steps.{given_elements}
-use Rattle.copies.proofs.Given.{given-none, given-more}
 use Rattle.copies.proofs.given_elements.Given as goal
 
 abbrev pub invariant-loop-j : goal.invariant-loop-j

@@ -1,19 +1,14 @@
 -- `copies::given_runnables` meets its contract. The loop has been over the places below its counter (`each_below`), and takes one more by `each-put`.
 -- Assumes nothing.
 use Prim.Native.Nat.{◌-◌, ◌≤◌, ℕ}
-use borrow.Author.Rules.{rules}
-use lib.ListN.{length}
-use mathlib.Core.Path.{◌∙◌, ◌≡◌}
-use native.Mathlib.Omega.{arith}
+use mathlib.Core.Path.{◌≡◌}
 use Rattle.config.specs.Tables.{runnable_conf_in}
-use Rattle.laws.proofs.Places.{each_none, length-mapped}
 use Rattle.laws.specs.Choice.{pick}
 use Rattle.laws.specs.Row.{each_below}
 use Rattle.effects.specs.Steps.{woken}
 use Rattle.state.specs.Parts.{no_runnable}
 use Rattle.faces.specs.Types.{Runnable}
-use Rattle.shared_steps.proofs.Stopping.{each-put, each_within, runnables-made}
-use Rattle.copies.specs.Given.{is_given_by, given_runnables_by}
+use Rattle.copies.specs.Given.{is_given_by}
 use Rattle.copies.proofs.given_runnables.Given as goal
 
 abbrev pub invariant-loop-k : goal.invariant-loop-k

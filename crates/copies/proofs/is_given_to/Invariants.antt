@@ -1,13 +1,10 @@
 -- `copies::is_given_to` meets its contract.
 -- Assumes nothing.
 use Prim.Native.Nat.{◌-◌, ◌≤◌}
-use borrow.Author.Rules.{rules}
 use mathlib.Core.Bool.{false}
-use mathlib.Core.Path.{◌∙◌, ◌≡◌, sym}
-use native.Mathlib.Omega.{arith}
-use Rattle.laws.proofs.Looping.{any_here, any-more, any_none}
+use mathlib.Core.Path.{◌≡◌}
 use Rattle.laws.specs.Loop.{any_below}
-use Rattle.copies.specs.Given.{gives_by, is_given_by}
+use Rattle.copies.specs.Given.{gives_by}
 use Rattle.copies.proofs.is_given_to.Given as goal
 
 abbrev pub invariant-loop-j : goal.invariant-loop-j

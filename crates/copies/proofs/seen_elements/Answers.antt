@@ -1,17 +1,11 @@
 -- `copies::seen_elements` meets its contract. The loop has been over the places below its counter (`each_below`), and takes one more by `each-put`.
 -- Assumes nothing.
-use Prim.Native.Nat.{ℕ, ◌-◌, ◌≤◌}
 use borrow.Author.Rules.{rules}
 use lib.ListN.{length}
 use mathlib.Core.Path.{◌∙◌, ◌≡◌}
 use native.Mathlib.Omega.{arith}
 use Rattle.laws.proofs.Places.{each_none, length-mapped}
-use Rattle.laws.specs.Choice.{pick}
-use Rattle.laws.specs.Row.{each_below}
-use Rattle.faces.specs.Types.{Element}
-use Rattle.config.specs.Lists.{is_listed}
-use Rattle.state.specs.Parts.{no_element}
-use Rattle.effects.specs.Steps.{seen, seen_elements}
+use Rattle.effects.specs.Steps.{seen_elements}
 use Rattle.shared_steps.proofs.Stopping.{each-put, each_within, elements-made}
 use Rattle.copies.proofs.seen_elements.Goals as goal
 
