@@ -11,8 +11,7 @@ use Rattle.config.specs.Tables.{max_runnable_confs}
 use Rattle.faces.specs.Types.{Runnables, Slots}
 use Rattle.state.specs.Tables.{max_slots, runnable_in, slot_in}
 use Rattle.rules.specs.Sound.{queued_as, served_as, clients_as}
-use Rattle.call_steps.proofs.is_borne.Statement.{statement}
-use Rattle.call_steps.proofs.is_borne.Tie as tie
+use Rattle.call_steps.proofs.is_borne.Goals as goal
 
 module _ (rs : Runnables) (ss : Slots) (o m : ℕ) where
   abbrev queued : ℕ
@@ -30,12 +29,8 @@ module _ (rs : Runnables) (ss : Slots) (o m : ℕ) where
   unfolding clients_as
   on-instance h = let e : served ≡ queued + served = omega (arith, ltb-false 0 queued h) in ap (ltb 0) e
 
-returns : tie.Need-returns
-returns c = c.if1.true ∙ sym (in-queue _ _ _ _ (sym c.before.before.any-queued-as.ensures ∙ c.if1.true))
+pub returns-then-queued : goal.returns-then-queued
+returns-then-queued c = c.if-queued.true ∙ sym (in-queue _ _ _ _ (sym c.any_queued_as-queued.ensures ∙ c.if-queued.true))
 
-returns-2 : tie.Need-returns-2
-returns-2 c = c.before.any-served-as.ensures ∙ on-instance _ _ _ _ (sym c.before.before.any-queued-as.ensures ∙ c.if1.false)
-
-pub is-borne-spec : {M : Type 1} → statement M
-is-borne-spec =
-    tie.close (tie.spec (λ c κs. tt) (λ c κs. tt) returns returns-2)
+pub returns-else-queued : goal.returns-else-queued
+returns-else-queued c = c.any_served_as-served.ensures ∙ on-instance _ _ _ _ (sym c.any_queued_as-queued.ensures ∙ c.if-queued.false)
