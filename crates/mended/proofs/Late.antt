@@ -220,6 +220,7 @@ seen-by cfg t h = rw (h, turns-once cfg (start_of cfg) h (steps_in t))
 
 module _ {A B : Type 0} (f g : A → B) where
   same_at : (l : List A) → map f l ≡ map g l → (x : A) → Memᴰ x l → f x ≡ g x
+  same_at [] e x m = absurd (mathlib.Core.List.Memᴰ.not-nil m)
   same_at (y ∷ l) e x (Memᴰ.head q) = let z : f y ≡ g y = cc in ap f q ∙ z ∙ sym (ap g q)
   same_at (y ∷ l) e x (Memᴰ.tail m) = same_at l (let z : map f l ≡ map g l = cc in z) x m
 

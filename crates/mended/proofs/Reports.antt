@@ -24,6 +24,7 @@ use Rattle.mended.proofs.Notes.{insert_notes, notes_of_turn, notes_from, report-
 
 is-one : (m : ℕ) (ps : List ℕ) → Memᴰ m ps → is_one m ps ≡ true
 unfolding is_one
+is-one m [] k = absurd (mathlib.Core.List.Memᴰ.not-nil k)
 is-one m (p ∷ ps) (mathlib.Core.List.Memᴰ.head e) = rw (eq-eqb p m (sym e))
 is-one m (p ∷ ps) (mathlib.Core.List.Memᴰ.tail k) = either-more (eqb p m) (is_one m ps) (is-one m ps k)
 
@@ -150,6 +151,7 @@ gap-noted n (b ∷ bs) after t l =
 
 -- a member stands between what is before it and what is behind
 split-at-member : {A : Type 0} (l : List A) {x : A} → Memᴰ x l → (before : List A) × (after : List A) × (l ≡ before ++ (x ∷ after))
+split-at-member [] m = absurd (mathlib.Core.List.Memᴰ.not-nil m)
 split-at-member {A} (y ∷ l) {x} (mathlib.Core.List.Memᴰ.head e) = ([], l, ap (λ (z : A). z ∷ l) (sym e))
 split-at-member {A} (y ∷ l) (mathlib.Core.List.Memᴰ.tail m) = let r = split-at-member l m in (y ∷ r.0, r.1, ap (λ (q : List A). y ∷ q) r.2)
 
