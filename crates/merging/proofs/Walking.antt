@@ -3,11 +3,8 @@
 use Prim.Native.Nat.{ℕ, ◌+◌, ◌*◌, ◌≤◌}
 use mathlib.Core.Bool.{Bool, true, false}
 use mathlib.Core.List.{List, [], ◌∷◌, ◌++◌}
-use mathlib.Core.Logic.{⊎_elim}
 use mathlib.Core.Path.{◌≡◌, refl, sym, ap, ap₂, ◌∙◌}
 use native.Mathlib.Omega.{arith}
-use types.Run.{OneOf}
-use denote.Enum.Declared.{tag_of}
 use lib.ListN.{length, take, drop, length-append, length-drop}
 use lib.Seq.{drop-drop, drop_at, length-take-le, take-length}
 use lib.Dec.{leb}
@@ -18,7 +15,6 @@ use Rattle.values.specs.declared.Step.{Step}
 use Rattle.wire.specs.Bytes.{end_bytes, put_at, wrote_bytes, Written}
 use Rattle.wire.specs.declared.Wrote.{Wrote}
 use Rattle.wire.proofs.Laws.{grown}
-use Rattle.recording.specs.contracts.Field.{the_type}
 use Rattle.recording.specs.declared.Field.{Field}
 use Rattle.recording.specs.declared.Field.TheVariants.{Step as IsStep, End, Refused as NoField}
 use Rattle.recording.specs.Recording.{values_good, field_of, bytes_of, step_written}
@@ -64,9 +60,9 @@ next-steps t at x size e = ap (λ (v : Whole). v.steps) (whole-step (drop at t) 
 pub next_last : (t : List ℕ) (at : ℕ) (x : Step) (size : ℕ) → field_of (drop at t) ≡ IsStep x size → (whole_of (drop at t)).last ≡ (whole_of (drop (at + size) t)).last
 next_last t at x size e = ap (λ (v : Whole). v.last) (whole-step (drop at t) x size e) ∙ ap (λ (u : List ℕ). (whole_of u).last) (drop-drop size at t)
 
--- a field whose tag is not that of a step is all that is left
-pub no-step : (t : List ℕ) (f : Field) → OneOf (1 ∷ 2 ∷ []) (tag_of the_type f) → f ≡ field_of t → whole_of t ≡ record { steps = []; last = f }
-no-step t (IsStep x n) p e = ⊎_elim (λ q. absurd (omega arith)) (λ q. absurd (omega arith)) p
+-- a field that is no step is all that is left
+pub no-step : (t : List ℕ) (f : Field) → ((x : Step) (n : ℕ) → f ≡ IsStep x n → ⊥) → f ≡ field_of t → whole_of t ≡ record { steps = []; last = f }
+no-step t (IsStep x n) p e = absurd (p x n refl)
 no-step t End p e = whole-end t (sym e)
 no-step t (NoField n k) p e = whole-refused t k n (sym e)
 
