@@ -1,0 +1,9 @@
+-- `whys::still_cause` meets its contract.
+-- Assumes nothing.
+use Rattle.whys.specs.Whys.{still_cause}
+use borrow.Author.Rules.{rules}
+use Rattle.whys.proofs.still_cause.Goals as goal
+
+pub returns : goal.returns
+unfolding still_cause
+returns c = rw (c.top.ensures, ← c.get-x.ensures)
