@@ -1,13 +1,10 @@
 -- `whys::bearer` meets its contract.
 -- Assumes nothing.
 use Prim.Native.Nat.{ℕ, ◌-◌, ◌≤◌}
-use mathlib.Core.Path.{◌≡◌, sym, ◌∙◌}
-use native.Mathlib.Omega.{arith}
+use mathlib.Core.Path.{◌≡◌}
 use Rattle.laws.specs.Loop.{first_below}
-use Rattle.laws.proofs.Looping.{first-none, first_more, first-here}
 use Rattle.state.specs.Tables.{slot_in}
-use Rattle.whys.specs.Whys.{serves_as, bearer_of}
-use borrow.Author.Rules.{rules}
+use Rattle.whys.specs.Whys.{serves_as}
 use Rattle.whys.proofs.bearer.Given as goal
 
 abbrev pub invariant-loop-k : goal.invariant-loop-k

@@ -2,7 +2,6 @@
 -- Assumes nothing.
 use borrow.Author.Tests.{eq-eqb, ne_eqb}
 use Rattle.whys.specs.Whys.{code_cause}
-use borrow.Author.Rules.{rules}
 use Rattle.whys.proofs.code_cause.Goals as goal
 
 pub returns-then-row-eq-A_SLOT : goal.returns-then-row-eq-A_SLOT

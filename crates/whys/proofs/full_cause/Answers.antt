@@ -1,7 +1,6 @@
 -- `whys::full_cause` meets its contract.
 -- Assumes nothing.
 use Rattle.whys.specs.Whys.{full_cause}
-use borrow.Author.Rules.{rules}
 use Rattle.whys.proofs.full_cause.Goals as goal
 
 pub returns : goal.returns

@@ -1,7 +1,6 @@
 -- `whys::owed_cause` meets its contract.
 -- Assumes nothing.
 use Rattle.whys.specs.Whys.{owed_cause}
-use borrow.Author.Rules.{rules}
 use Rattle.whys.proofs.owed_cause.Goals as goal
 
 pub returns-then-w : goal.returns-then-w

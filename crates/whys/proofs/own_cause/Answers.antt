@@ -4,7 +4,6 @@ use mathlib.Core.Path.{ap}
 use borrow.Author.Tests.{eq-eqb, ne_eqb, lt-ltb, le-ltb}
 use Rattle.faces.specs.Types.{RunnableConf}
 use Rattle.whys.specs.Whys.{own_cause}
-use borrow.Author.Rules.{rules}
 use Rattle.whys.proofs.own_cause.Goals as goal
 
 pub returns-then-e-gt0 : goal.returns-then-e-gt0

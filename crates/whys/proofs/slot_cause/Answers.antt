@@ -1,7 +1,6 @@
 -- `whys::slot_cause` meets its contract.
 -- Assumes nothing.
 use Rattle.whys.specs.Whys.{slot_cause}
-use borrow.Author.Rules.{rules}
 use Rattle.whys.proofs.slot_cause.Goals as goal
 
 pub returns-then-formed : goal.returns-then-formed

@@ -2,7 +2,6 @@
 -- Assumes nothing.
 use borrow.Author.Tests.{lt-ltb, le-ltb}
 use Rattle.whys.specs.Whys.{spawn_cause}
-use borrow.Author.Rules.{rules}
 use Rattle.whys.proofs.spawn_cause.Goals as goal
 
 pub returns-then-x-gt0 : goal.returns-then-x-gt0

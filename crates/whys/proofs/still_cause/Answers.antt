@@ -1,7 +1,6 @@
 -- `whys::still_cause` meets its contract.
 -- Assumes nothing.
 use Rattle.whys.specs.Whys.{still_cause}
-use borrow.Author.Rules.{rules}
 use Rattle.whys.proofs.still_cause.Goals as goal
 
 pub returns : goal.returns

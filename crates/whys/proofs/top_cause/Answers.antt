@@ -2,7 +2,6 @@
 -- Assumes nothing.
 use borrow.Author.Tests.{lt-ltb, le-ltb}
 use Rattle.whys.specs.Whys.{top_cause}
-use borrow.Author.Rules.{rules}
 use Rattle.whys.proofs.top_cause.Goals as goal
 
 pub returns-then-t-gt0 : goal.returns-then-t-gt0

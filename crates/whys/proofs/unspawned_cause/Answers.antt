@@ -1,6 +1,5 @@
 -- `whys::unspawned_cause` meets its contract.
 -- Assumes nothing.
-use borrow.Author.Rules.{rules}
 use Rattle.whys.proofs.unspawned_cause.Goals as goal
 
 pub returns : goal.returns

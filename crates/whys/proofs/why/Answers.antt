@@ -2,7 +2,6 @@
 -- Assumes nothing.
 use borrow.Author.Tests.{ne_eqb}
 use Rattle.whys.specs.Whys.{why_of}
-use borrow.Author.Rules.{rules}
 use Rattle.whys.proofs.why.Goals as goal
 
 pub returns-in-2 : goal.returns-in-2
