@@ -68,6 +68,7 @@ map-told {A} {B} f (a ∷ l) {y} m =
     ⊎_elim (λ (e : y ≡ f a). (a, mathlib.Core.List.Memᴰ.head refl, e)) (λ (r : Memᴰ y (map f l)). let t = map-told f l r in (t.0, mathlib.Core.List.Memᴰ.tail t.1, t.2)) (mathlib.Core.List.Memᴰ.cases_cons m)
 
 pub map-has : {A B : Type 0} (f : A → B) (l : List A) {x : A} → Memᴰ x l → Memᴰ (f x) (map f l)
+map-has f [] m = absurd (mathlib.Core.List.Memᴰ.not-nil m)
 map-has f (a ∷ l) (mathlib.Core.List.Memᴰ.head e) = mathlib.Core.List.Memᴰ.head (ap f e)
 map-has f (a ∷ l) (mathlib.Core.List.Memᴰ.tail m) = mathlib.Core.List.Memᴰ.tail (map-has f l m)
 
@@ -82,6 +83,7 @@ module _ {A : Type 0} where
 
   behind-has : (xs : List A) (ls : List (List A)) {x : A} {l : List A} → Memᴰ x xs → Memᴰ l ls → Memᴰ (x ∷ l) (behind xs ls)
   unfolding behind
+  behind-has [] ls m k = absurd (mathlib.Core.List.Memᴰ.not-nil m)
   behind-has (a ∷ xs) ls {x} {l} (mathlib.Core.List.Memᴰ.head e) k = mathlib.Core.List.Memᴰ.cast (ap (λ (y : A). y ∷ l) e) (mathlib.Core.List.Memᴰ.append_left (behind xs ls) (map-has (λ (l : List A). a ∷ l) ls k))
   behind-has (a ∷ xs) ls (mathlib.Core.List.Memᴰ.tail m) k = mathlib.Core.List.Memᴰ.append_right (map (λ (l : List A). a ∷ l) ls) (behind-has xs ls m k)
 
@@ -132,5 +134,6 @@ module _ {A : Type 0} where
   at-member (x ∷ l) (suc k) d h = mathlib.Core.List.Memᴰ.tail (at-member l k d (omega arith))
 
   pub member-at : (l : List A) (d : A) {x : A} → Memᴰ x l → (k : ℕ) × (k < length l) × (get_or l k d ≡ x)
+  member-at [] d m = absurd (mathlib.Core.List.Memᴰ.not-nil m)
   member-at (y ∷ l) d (mathlib.Core.List.Memᴰ.head e) = (0, omega arith, sym e)
   member-at (y ∷ l) d (mathlib.Core.List.Memᴰ.tail m) = let t = member-at l d m in let h = t.1 in (suc t.0, omega arith, t.2)

@@ -1,8 +1,8 @@
 // Gaps in a recording, where steps of the scheduler were lost: definitions alone, and the types that they speak of.
 
-// How long a note of the report is.
 #![tactic(auto)]
 
+// How long a note of the report is.
 pub const NOTE: usize = 16;
 
 // How many parts there are to spawn, to time out and to tick.

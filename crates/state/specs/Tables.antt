@@ -1,7 +1,7 @@
 -- The nine tables of a state: what stands at a place, and one place changed ("The parts, and how many").
 -- Past its end a table gives the blank part, and a change there changes nothing.
 -- Assumes nothing.
-use Rattle.std.specs.Prelude.{ℕ, set, replicate, slice_index_or, slice_set}
+use Rattle.std.specs.Prelude.{ℕ, replicate, slice_index_or, slice_set}
 use Rattle.config.specs.Tables.{max_runnable_confs, max_variable_confs, max_area_confs, max_required_confs, max_operation_confs, max_timer_confs}
 use Rattle.values.specs.Values.{never_received_v}
 use Rattle.state.specs.Parts.{no_runnable, no_variable, no_area, no_element, no_operation, no_timer, no_slot, no_copies}

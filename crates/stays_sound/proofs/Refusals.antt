@@ -29,7 +29,7 @@ module _ (cfg : Config) (st : State) where
 
   -- ---- each way to be refused, and each step
 
-  barred-fair : {n k : ℕ} {s : Step} → Barred cfg st s n k → 0 < k
+  barred-fair : {n : ℕ} {s : Step} {k : ℕ} → Barred cfg st s n k → 0 < k
   barred-fair (shared n) = omega (arith, n)
   barred-fair (enter_taken e) = omega arith
   barred-fair (exit_other e) = omega arith

@@ -1,6 +1,6 @@
 -- What a step may rely on that is not refused: from the refusals that all steps share, and from its own, its record of facts. No other proof reads the tests of a refusal.
 -- Assumes nothing.
-use Prim.Native.Nat.{ℕ, zero}
+use Prim.Native.Nat.{ℕ}
 use mathlib.Core.Bool.{Bool, true, false, not}
 use mathlib.Core.Path.{◌≡◌, refl}
 use native.Mathlib.Omega.{arith}
@@ -191,7 +191,7 @@ module _ (cfg : Config) (st : State) (i k : ℕ) (v : Value) where
     who = acts cfg st call_code i k v z refl refl refl refl refl;
     fine = rests (has_failed st i) false refl (all_told _ z.life).1.1.0;
     inside = ltb-true _ _ z.part;
-    own_val = eqb-true _ _ (both_left (eqb (operation_conf_in cfg.operations k).component (component_of cfg (slot_in st.slots i).life.runnable)) true z.own);
+    own = eqb-true _ _ (both_left (eqb (operation_conf_in cfg.operations k).component (component_of cfg (slot_in st.slots i).life.runnable)) true z.own);
     payload = z.form;
     shut = (either-no (is_open st k) _ a).0;
     free = omega (arith, ltb-false 0 (waiters_of st.slots k) (either-no (is_open st k) _ a).1);

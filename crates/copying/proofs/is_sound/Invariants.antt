@@ -1,11 +1,8 @@
 -- `copying::is_sound` meets its contract.
 -- Assumes nothing.
-use borrow.Author.Rules.{rules}
-use native.Mathlib.Omega.{arith}
 use Prim.Native.Nat.{◌-◌}
-use mathlib.Core.Path.{sym, ◌∙◌}
 use lib.ListN.{length}
-use Rattle.recording.proofs.Loops.{Reading, reading-starts, step_room, reading_step, reading-end, reading-refused}
+use Rattle.recording.proofs.Loops.{Reading}
 use Rattle.copying.proofs.is_sound.Given as goal
 
 abbrev pub invariant-loop-size : goal.invariant-loop-size

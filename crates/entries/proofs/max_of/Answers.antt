@@ -2,7 +2,6 @@
 -- Assumes nothing.
 use Rattle.entries.specs.Entries.{max_of}
 use borrow.Author.Tests.{ne_eqb}
-use borrow.Author.Rules.{rules}
 use Rattle.entries.proofs.max_of.Goals as goal
 
 pub returns-in-16 : goal.returns-in-16

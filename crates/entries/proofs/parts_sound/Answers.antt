@@ -1,12 +1,9 @@
 -- `entries::parts_sound` meets its contract.
 -- Assumes nothing.
 use mathlib.Core.Path.{◌≡◌, sym, ◌∙◌}
-use mathlib.Core.Bool.{true}
 use native.Mathlib.Omega.{arith}
-use Prim.Native.Nat.{ℕ, ◌≤◌, ◌-◌, ◌+◌}
-use Rattle.laws.specs.Loop.{all_below}
 use Rattle.laws.proofs.Looping.{all_none, all_more, all-fails}
-use Rattle.entries.specs.Faults.{kind_sound, parts_sound}
+use Rattle.entries.specs.Faults.{parts_sound}
 use Rattle.entries.proofs.parts_sound.Goals as goal
 
 pub loop-j-init : goal.loop-j-init

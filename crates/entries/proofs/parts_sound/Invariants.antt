@@ -1,12 +1,10 @@
 -- `entries::parts_sound` meets its contract.
 -- Assumes nothing.
-use mathlib.Core.Path.{◌≡◌, sym, ◌∙◌}
+use mathlib.Core.Path.{◌≡◌}
 use mathlib.Core.Bool.{true}
-use native.Mathlib.Omega.{arith}
 use Prim.Native.Nat.{ℕ, ◌≤◌, ◌-◌, ◌+◌}
 use Rattle.laws.specs.Loop.{all_below}
-use Rattle.laws.proofs.Looping.{all_none, all_more, all-fails}
-use Rattle.entries.specs.Faults.{kind_sound, parts_sound}
+use Rattle.entries.specs.Faults.{kind_sound}
 use Rattle.entries.proofs.parts_sound.Given as goal
 
 abbrev pub invariant-loop-j : goal.invariant-loop-j

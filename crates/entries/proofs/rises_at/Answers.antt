@@ -2,7 +2,6 @@
 -- Assumes nothing.
 use Rattle.entries.specs.Faults.{rises_at}
 use borrow.Author.Tests.{eq-eqb, ne_eqb}
-use borrow.Author.Rules.{rules}
 use Rattle.entries.proofs.rises_at.Goals as goal
 
 pub returns-then-i-eq0 : goal.returns-then-i-eq0

@@ -2,7 +2,6 @@
 -- Assumes nothing.
 use Rattle.laws.proofs.Choosing.{tests}
 use Rattle.recording.specs.Recording.{field_of}
-use borrow.Author.Rules.{rules}
 use Rattle.recording.proofs.field_of.Goals as goal
 
 pub returns-then-t-lt-HEAD : goal.returns-then-t-lt-HEAD

@@ -7,7 +7,6 @@ use lib.ListN.{drop, drop_of_length-le}
 use Rattle.wire.proofs.Laws.{rest-is}
 use Rattle.recording.specs.Recording.{field_of}
 use Rattle.recording.proofs.OneField.{none_ahead}
-use borrow.Author.Rules.{rules}
 use Rattle.recording.proofs.read_field.Goals as goal
 
 pub returns-then-s-at : goal.returns-then-s-at

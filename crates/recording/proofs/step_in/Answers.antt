@@ -2,7 +2,6 @@
 -- Assumes nothing.
 use Rattle.laws.proofs.Choosing.{tests}
 use Rattle.recording.specs.Recording.{step_in}
-use borrow.Author.Rules.{rules}
 use Rattle.recording.proofs.step_in.Goals as goal
 
 pub returns-then-t-lt-SIZE_STEP : goal.returns-then-t-lt-SIZE_STEP

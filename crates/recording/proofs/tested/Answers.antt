@@ -1,7 +1,6 @@
 -- `recording::tested` meets its contract.
 -- Assumes nothing.
 use Rattle.recording.specs.Recording.{tested}
-use borrow.Author.Rules.{rules}
 use Rattle.recording.proofs.tested.Goals as goal
 
 pub returns-then-values_good : goal.returns-then-values_good

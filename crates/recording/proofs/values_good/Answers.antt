@@ -1,7 +1,6 @@
 -- `recording::values_good` meets its contract.
 -- Assumes nothing.
 use Rattle.recording.specs.Recording.{values_good}
-use borrow.Author.Rules.{rules}
 use Rattle.recording.proofs.values_good.Goals as goal
 
 pub returns-then-is_good : goal.returns-then-is_good

@@ -3,7 +3,6 @@
 use mathlib.Core.Bool.{true, false}
 use mathlib.Core.Path.{◌≡◌, sym, ◌∙◌}
 use Rattle.recording.specs.Recording.{values_good}
-use borrow.Author.Rules.{rules}
 use Rattle.recording.proofs.write_step.Goals as goal
 
 pub returns-then-values_good : goal.returns-then-values_good

@@ -1,7 +1,7 @@
 -- `state::shift_clients` meets its contract.
 -- Assumes nothing.
-use Rattle.std.proofs.Common.{◌≡◌, ◌-◌, ◌≤◌, length, arith, rules}
-use Rattle.laws.proofs.Places.{halfway, halfway-none, halfway-more, halfway-done, length-mapped}
+use Rattle.std.proofs.Common.{◌≡◌, ◌-◌, ◌≤◌}
+use Rattle.laws.proofs.Places.{halfway}
 use Rattle.state.proofs.shift_clients.Given as goal
 
 abbrev pub invariant-loop-k : goal.invariant-loop-k

@@ -1,7 +1,7 @@
 -- `state::shift_values` meets its contract.
 -- Assumes nothing.
-use Rattle.std.proofs.Common.{◌≡◌, ◌-◌, ◌≤◌, length, arith, rules}
-use Rattle.laws.proofs.Places.{halfway, halfway-none, halfway-more, halfway-done, length-mapped}
+use Rattle.std.proofs.Common.{◌≡◌, length, arith, rules}
+use Rattle.laws.proofs.Places.{halfway-none, halfway-more, halfway-done, length-mapped}
 use Rattle.state.proofs.shift_values.Goals as goal
 
 pub loop-k-init : goal.loop-k-init

@@ -1,15 +1,13 @@
 -- `state::start_elements` meets its contract.
 -- Assumes nothing.
-use Rattle.std.proofs.Common.{◌≡◌, ℕ, ◌-◌, ◌≤◌, arith, rules}
+use Rattle.std.proofs.Common.{◌≡◌, ℕ, ◌-◌, ◌≤◌}
 use Rattle.laws.specs.Row.{each_below}
-use Rattle.laws.proofs.Places.{each_none, each_more}
 use Rattle.config.specs.Tables.{required_conf_in}
-use Rattle.state.specs.Parts.{no_element, no_values}
+use Rattle.state.specs.Parts.{no_element}
 use Rattle.state.specs.Tables.{no_elements}
-use Rattle.state.specs.Start.{start_element, start_elements}
+use Rattle.state.specs.Start.{start_element}
 use Rattle.state.specs.declared.Element.{Element}
 use Rattle.state.specs.declared.Elements.{Elements}
-use Rattle.state.proofs.Ends.{each-end}
 use Rattle.state.proofs.start_elements.Given as goal
 
 abbrev pub invariant-loop-k : goal.invariant-loop-k

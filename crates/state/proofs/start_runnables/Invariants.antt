@@ -1,15 +1,13 @@
 -- `state::start_runnables` meets its contract.
 -- Assumes nothing.
-use Rattle.std.proofs.Common.{◌≡◌, ℕ, ◌-◌, ◌≤◌, arith, rules}
+use Rattle.std.proofs.Common.{◌≡◌, ℕ, ◌-◌, ◌≤◌}
 use Rattle.laws.specs.Row.{each_below}
-use Rattle.laws.proofs.Places.{each_none, each_more}
 use Rattle.config.specs.Tables.{runnable_conf_in}
-use Rattle.state.specs.Parts.{no_requests, no_runnable}
+use Rattle.state.specs.Parts.{no_runnable}
 use Rattle.state.specs.Tables.{no_runnables}
-use Rattle.state.specs.Start.{start_runnable, start_runnables}
+use Rattle.state.specs.Start.{start_runnable}
 use Rattle.state.specs.declared.Runnable.{Runnable}
 use Rattle.state.specs.declared.Runnables.{Runnables}
-use Rattle.state.proofs.Ends.{each-end}
 use Rattle.state.proofs.start_runnables.Given as goal
 
 abbrev pub invariant-loop-k : goal.invariant-loop-k

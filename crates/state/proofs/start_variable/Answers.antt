@@ -1,6 +1,5 @@
 -- `state::start_variable` meets its contract.
 -- Assumes nothing.
-use Rattle.std.proofs.Common.{rules}
 use Rattle.state.specs.Start.{start_variable}
 use Rattle.state.proofs.start_variable.Goals as goal
 

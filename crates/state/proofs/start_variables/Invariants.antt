@@ -1,12 +1,11 @@
 -- `state::start_variables` meets its contract.
 -- Assumes nothing.
-use Rattle.std.proofs.Common.{◌≡◌, ℕ, ◌-◌, ◌≤◌, arith, rules}
+use Rattle.std.proofs.Common.{◌≡◌, ℕ, ◌-◌, ◌≤◌}
 use Rattle.laws.specs.Row.{each_below}
-use Rattle.laws.proofs.Places.{each_none, each_more}
 use Rattle.config.specs.Tables.{variable_conf_in}
 use Rattle.state.specs.Parts.{no_variable}
-use Rattle.state.specs.Tables.{no_variables, with_variable}
-use Rattle.state.specs.Start.{start_variable, start_variables}
+use Rattle.state.specs.Tables.{no_variables}
+use Rattle.state.specs.Start.{start_variable}
 use Rattle.state.specs.declared.Variable.{Variable}
 use Rattle.state.specs.declared.Variables.{Variables}
 use Rattle.state.proofs.start_variables.Given as goal

@@ -4,7 +4,6 @@ use Prim.Native.Nat.{◌+◌, ◌<◌, ◌≤◌}
 use native.Mathlib.Omega.{arith}
 use lib.ListN.{length}
 use Rattle.laws.proofs.Choosing.{tests}
-use borrow.Author.Rules.{rules}
 use Rattle.wire.proofs.write.Goals as goal
 
 pub returns-then-room-size : goal.returns-then-room-size

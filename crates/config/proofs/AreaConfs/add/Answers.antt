@@ -1,6 +1,5 @@
 -- `config::AreaConfs::add` meets its contract.
 -- Assumes nothing.
-use borrow.Author.Rules.{rules}
 use borrow.Author.Tests.{lt-ltb, le-ltb}
 use Rattle.config.specs.Tables.{add_area_conf}
 use Rattle.config.proofs.AreaConfs.add.Goals as goal

@@ -1,6 +1,5 @@
 -- `config::DataEvents::add` meets its contract.
 -- Assumes nothing.
-use borrow.Author.Rules.{rules}
 use borrow.Author.Tests.{lt-ltb, le-ltb}
 use Rattle.config.specs.Tables.{add_data_event}
 use Rattle.config.proofs.DataEvents.add.Goals as goal

@@ -1,6 +1,5 @@
 -- `config::Links::add` meets its contract.
 -- Assumes nothing.
-use borrow.Author.Rules.{rules}
 use borrow.Author.Tests.{lt-ltb, le-ltb}
 use Rattle.config.specs.Tables.{add_link}
 use Rattle.config.proofs.Links.add.Goals as goal

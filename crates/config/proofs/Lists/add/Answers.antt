@@ -1,6 +1,5 @@
 -- `config::Lists::add` meets its contract.
 -- Assumes nothing.
-use borrow.Author.Rules.{rules}
 use borrow.Author.Tests.{lt-ltb, le-ltb}
 use Rattle.config.specs.Tables.{add_listed}
 use Rattle.config.proofs.Lists.add.Goals as goal

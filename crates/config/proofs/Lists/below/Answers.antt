@@ -1,11 +1,10 @@
 -- `config::Lists::below` meets its contract.
 -- Assumes nothing.
-use Prim.Native.Nat.{ℕ, ◌≤◌, ◌-◌}
+use Prim.Native.Nat.{ℕ}
 use mathlib.Core.Path.{◌≡◌, sym, ◌∙◌}
 use native.Mathlib.Omega.{arith}
 use lib.Dec.{eqb}
 use borrow.Author.Rules.{rules}
-use Rattle.laws.specs.Loop.{count_below}
 use Rattle.laws.proofs.Choosing.{bit-most}
 use Rattle.laws.proofs.Looping.{sum-none, sum_more, count_most}
 use Rattle.config.specs.Tables.{listed_in}

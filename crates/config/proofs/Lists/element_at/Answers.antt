@@ -1,6 +1,5 @@
 -- `config::Lists::element_at` meets its contract.
 -- Assumes nothing.
-use borrow.Author.Rules.{rules}
 use Rattle.config.specs.Lists.{element_at}
 use Rattle.config.proofs.Lists.element_at.Goals as goal
 

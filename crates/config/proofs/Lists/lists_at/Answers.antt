@@ -1,6 +1,5 @@
 -- `config::Lists::lists_at` meets its contract.
 -- Assumes nothing.
-use borrow.Author.Rules.{rules}
 use borrow.Author.Tests.{lt-ltb, le-ltb}
 use Rattle.config.specs.Lists.{lists_at}
 use Rattle.config.proofs.Lists.lists_at.Goals as goal

@@ -1,14 +1,10 @@
 -- `config::Lists::place` meets its contract.
 -- Assumes nothing.
-use Prim.Native.Nat.{ℕ, ◌-◌, ◌≤◌}
 use mathlib.Core.Path.{◌≡◌, sym, ◌∙◌}
 use native.Mathlib.Omega.{arith}
-use lib.Dec.{eqb}
 use borrow.Author.Rules.{rules}
-use Rattle.laws.specs.Choice.{both}
-use Rattle.laws.specs.Loop.{first_below}
 use Rattle.laws.proofs.Looping.{first-none, first_more, first-here}
-use Rattle.config.specs.Lists.{lists_at, element_at, place_of}
+use Rattle.config.specs.Lists.{place_of}
 use Rattle.config.proofs.Lists.place.Goals as goal
 
 pub loop-j-init : goal.loop-j-init

@@ -1,14 +1,11 @@
 -- `config::Lists::place` meets its contract.
 -- Assumes nothing.
 use Prim.Native.Nat.{ℕ, ◌-◌, ◌≤◌}
-use mathlib.Core.Path.{◌≡◌, sym, ◌∙◌}
-use native.Mathlib.Omega.{arith}
+use mathlib.Core.Path.{◌≡◌}
 use lib.Dec.{eqb}
-use borrow.Author.Rules.{rules}
 use Rattle.laws.specs.Choice.{both}
 use Rattle.laws.specs.Loop.{first_below}
-use Rattle.laws.proofs.Looping.{first-none, first_more, first-here}
-use Rattle.config.specs.Lists.{lists_at, element_at, place_of}
+use Rattle.config.specs.Lists.{lists_at, element_at}
 use Rattle.config.proofs.Lists.place.Given as goal
 
 abbrev pub invariant-loop-j : goal.invariant-loop-j

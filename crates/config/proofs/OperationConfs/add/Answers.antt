@@ -1,6 +1,5 @@
 -- `config::OperationConfs::add` meets its contract.
 -- Assumes nothing.
-use borrow.Author.Rules.{rules}
 use borrow.Author.Tests.{lt-ltb, le-ltb}
 use Rattle.config.specs.Tables.{add_operation_conf}
 use Rattle.config.proofs.OperationConfs.add.Goals as goal

@@ -1,6 +1,5 @@
 -- `config::ProvidedConfs::add` meets its contract.
 -- Assumes nothing.
-use borrow.Author.Rules.{rules}
 use borrow.Author.Tests.{lt-ltb, le-ltb}
 use Rattle.config.specs.Tables.{add_provided_conf}
 use Rattle.config.proofs.ProvidedConfs.add.Goals as goal

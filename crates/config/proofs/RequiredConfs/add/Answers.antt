@@ -1,6 +1,5 @@
 -- `config::RequiredConfs::add` meets its contract.
 -- Assumes nothing.
-use borrow.Author.Rules.{rules}
 use borrow.Author.Tests.{lt-ltb, le-ltb}
 use Rattle.config.specs.Tables.{add_required_conf}
 use Rattle.config.proofs.RequiredConfs.add.Goals as goal

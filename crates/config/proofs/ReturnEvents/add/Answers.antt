@@ -1,6 +1,5 @@
 -- `config::ReturnEvents::add` meets its contract.
 -- Assumes nothing.
-use borrow.Author.Rules.{rules}
 use borrow.Author.Tests.{lt-ltb, le-ltb}
 use Rattle.config.specs.Tables.{add_return_event}
 use Rattle.config.proofs.ReturnEvents.add.Goals as goal

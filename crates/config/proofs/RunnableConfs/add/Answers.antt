@@ -1,6 +1,5 @@
 -- `config::RunnableConfs::add` meets its contract.
 -- Assumes nothing.
-use borrow.Author.Rules.{rules}
 use borrow.Author.Tests.{lt-ltb, le-ltb}
 use Rattle.config.specs.Tables.{add_runnable_conf}
 use Rattle.config.proofs.RunnableConfs.add.Goals as goal

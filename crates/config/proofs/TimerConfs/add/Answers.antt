@@ -1,6 +1,5 @@
 -- `config::TimerConfs::add` meets its contract.
 -- Assumes nothing.
-use borrow.Author.Rules.{rules}
 use borrow.Author.Tests.{lt-ltb, le-ltb}
 use Rattle.config.specs.Tables.{add_timer_conf}
 use Rattle.config.proofs.TimerConfs.add.Goals as goal

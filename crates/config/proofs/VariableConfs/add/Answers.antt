@@ -1,6 +1,5 @@
 -- `config::VariableConfs::add` meets its contract.
 -- Assumes nothing.
-use borrow.Author.Rules.{rules}
 use borrow.Author.Tests.{lt-ltb, le-ltb}
 use Rattle.config.specs.Tables.{add_variable_conf}
 use Rattle.config.proofs.VariableConfs.add.Goals as goal

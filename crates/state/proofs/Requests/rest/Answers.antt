@@ -1,6 +1,5 @@
 -- `state::Requests::rest` meets its contract.
 -- Assumes nothing.
-use Rattle.std.proofs.Common.{rules}
 use Rattle.state.specs.Queues.{rest_requests}
 use Rattle.state.proofs.Requests.rest.Goals as goal
 

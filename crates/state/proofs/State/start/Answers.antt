@@ -1,6 +1,5 @@
 -- `state::State::start` meets its contract.
 -- Assumes nothing.
-use Rattle.std.proofs.Common.{rules}
 use Rattle.state.specs.Parts.{no_stack, no_slot, no_copies}
 use Rattle.state.specs.Tables.{no_areas, no_operations, no_timers, no_slots, no_copied}
 use Rattle.state.specs.Start.{start_of}

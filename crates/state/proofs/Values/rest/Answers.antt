@@ -1,6 +1,5 @@
 -- `state::Values::rest` meets its contract.
 -- Assumes nothing.
-use Rattle.std.proofs.Common.{rules}
 use Rattle.state.specs.Queues.{rest_values}
 use Rattle.state.proofs.Values.rest.Goals as goal
 

@@ -2,7 +2,6 @@
 -- Assumes nothing.
 use Rattle.laws.proofs.Choosing.{tests}
 use Rattle.values.specs.Values.{is_payload}
-use borrow.Author.Rules.{rules}
 use Rattle.values.proofs.Value.is_payload.Goals as goal
 
 pub returns-then-self-eq1 : goal.returns-then-self-eq1

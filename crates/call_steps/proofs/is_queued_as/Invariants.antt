@@ -1,0 +1,19 @@
+-- `call_steps::is_queued_as` meets its contract.
+-- Assumes nothing.
+use Prim.Native.Nat.{ℕ, ◌≤◌, ◌-◌}
+use borrow.Author.Rules.{rules}
+use mathlib.Core.Path.{◌≡◌, sym, ◌∙◌}
+use native.Mathlib.Omega.{arith}
+use lib.ListN.{get_or}
+use Rattle.laws.specs.Loop.{count_below}
+use Rattle.laws.proofs.Looping.{sum-none}
+use Rattle.state.specs.Parts.{no_client}
+use Rattle.rules.specs.Sound.{is_client, queued_as}
+use Rattle.call_steps.proofs.Some.{some-here, some_more, some-not, some-bit}
+use Rattle.call_steps.proofs.is_queued_as.Given as goal
+
+abbrev pub invariant-loop-j : goal.invariant-loop-j
+invariant-loop-j l = (l.j ≤ l.q.queued) × (count_below (λ (i : ℕ). is_client l.o l.m (get_or l.q.at i no_client)) l.j ≡ 0)
+
+abbrev pub decreases-loop-j : goal.decreases-loop-j
+decreases-loop-j l = l.q.queued - l.j

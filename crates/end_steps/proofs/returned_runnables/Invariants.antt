@@ -1,0 +1,22 @@
+-- `end_steps::returned_runnables` meets its contract. The loop has been over the places below its counter (`each_below`), and takes one more by `each-put`.
+-- Assumes nothing.
+use Rattle.std.proofs.Common.{◌≡◌, ℕ, ◌-◌, ◌≤◌, eqb, length, ◌∙◌, arith, rules}
+use Rattle.config.specs.Tables.{runnable_conf_in, return_event_in}
+use Rattle.laws.proofs.Places.{each_none, length-mapped}
+use Rattle.laws.specs.Choice.{both, pick}
+use Rattle.laws.specs.Loop.{any_below}
+use Rattle.laws.specs.Row.{each_below}
+use Rattle.effects.specs.Steps as rules
+use Rattle.effects.specs.Steps.{is_returned, returned_runnables, woken}
+use Rattle.state.specs.Parts.{no_runnable}
+use Rattle.faces.specs.Types.{Runnable}
+use Rattle.shared_steps.proofs.Stopping.{each-put, each_within, runnables-made}
+use Rattle.end_steps.proofs.returned_runnables.Given as goal
+
+abbrev pub invariant-loop-r : goal.invariant-loop-r
+invariant-loop-r l =
+    (l.r ≤ l.n)
+    × (l.u.at ≡ each_below (λ (j : ℕ) (x : Runnable). pick (any_below (λ (e : ℕ). both (eqb (return_event_in l.revents e).runnable j) (eqb (return_event_in l.revents e).operation l.o)) l.revents.n) (woken (runnable_conf_in l.confs j) x) x) no_runnable l.r l.initial.u.at)
+
+abbrev pub decreases-loop-r : goal.decreases-loop-r
+decreases-loop-r l = l.n - l.r

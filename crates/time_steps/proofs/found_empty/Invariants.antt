@@ -1,0 +1,17 @@
+-- `time_steps::found_empty` meets its contract.
+-- Assumes nothing.
+use Prim.Native.Nat.{◌-◌, ◌<◌, ◌≤◌}
+use borrow.Author.Rules.{rules}
+use borrow.Author.Tests.{lt-ltb}
+use mathlib.Core.Path.{◌≡◌}
+use native.Mathlib.Omega.{arith}
+use Rattle.laws.proofs.Looping.{first-here, first_more, first-none}
+use Rattle.laws.specs.Loop.{first_below}
+use Rattle.effects.specs.Steps.{found_empty, is_empty_at, lowest_empty}
+use Rattle.time_steps.proofs.found_empty.Given as goal
+
+abbrev pub invariant-loop-k : goal.invariant-loop-k
+invariant-loop-k l = (l.k ≤ 32) × (first_below (is_empty_at l.t) l.k ≡ l.k)
+
+abbrev pub decreases-loop-k : goal.decreases-loop-k
+decreases-loop-k l = 32 - l.k

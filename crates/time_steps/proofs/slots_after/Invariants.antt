@@ -1,0 +1,19 @@
+-- `time_steps::slots_after` meets its contract.
+-- Assumes nothing.
+use Prim.Native.Nat.{◌-◌, ◌≤◌, ℕ}
+use borrow.Author.Rules.{rules}
+use mathlib.Core.Path.{◌≡◌}
+use native.Mathlib.Omega.{arith}
+use Rattle.laws.proofs.Places.{each_more, each_none}
+use Rattle.laws.specs.Row.{each_below}
+use Rattle.effects.specs.Steps.{slot_after, slots_after}
+use Rattle.state.specs.Parts.{no_slot}
+use Rattle.state.specs.Tables.{slot_in, with_slot}
+use Rattle.faces.specs.Types.{Slot, Slots}
+use Rattle.time_steps.proofs.slots_after.Given as goal
+
+abbrev pub invariant-loop-i : goal.invariant-loop-i
+invariant-loop-i l = (l.i ≤ 32) × (◌≡◌ {A = Slots} l.u (record { at = each_below (λ (j : ℕ) (x : Slot). slot_after l.t x) no_slot l.i l.initial.u.at }))
+
+abbrev pub decreases-loop-i : goal.decreases-loop-i
+decreases-loop-i l = 32 - l.i
