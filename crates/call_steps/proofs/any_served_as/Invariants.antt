@@ -1,14 +1,10 @@
 -- `call_steps::any_served_as` meets its contract.
 -- Assumes nothing.
 use Prim.Native.Nat.{ℕ, ◌≤◌, ◌-◌}
-use borrow.Author.Rules.{rules}
-use mathlib.Core.Path.{◌≡◌, sym, ◌∙◌}
-use native.Mathlib.Omega.{arith}
+use mathlib.Core.Path.{◌≡◌}
 use Rattle.laws.specs.Loop.{sum_below}
-use Rattle.laws.proofs.Looping.{sum-none}
 use Rattle.state.specs.Tables.{slot_in}
 use Rattle.rules.specs.Sound.{served_as}
-use Rattle.call_steps.proofs.Some.{some-here, some_more, some-not}
 use Rattle.call_steps.proofs.any_served_as.Given as goal
 
 abbrev pub invariant-loop-k : goal.invariant-loop-k

@@ -1,6 +1,5 @@
 -- `call_steps::caller_after` meets its contract.
 -- Assumes nothing.
-use borrow.Author.Rules.{rules}
 use Rattle.call_steps.proofs.caller_after.Goals as goal
 
 pub returns : goal.returns

@@ -1,6 +1,5 @@
 -- `call_steps::is_busy` meets its contract.
 -- Assumes nothing.
-use borrow.Author.Rules.{rules}
 use Rattle.call_steps.proofs.is_busy.Goals as goal
 
 pub returns-else-x : goal.returns-else-x

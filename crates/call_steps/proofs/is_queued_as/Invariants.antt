@@ -1,15 +1,11 @@
 -- `call_steps::is_queued_as` meets its contract.
 -- Assumes nothing.
 use Prim.Native.Nat.{ℕ, ◌≤◌, ◌-◌}
-use borrow.Author.Rules.{rules}
-use mathlib.Core.Path.{◌≡◌, sym, ◌∙◌}
-use native.Mathlib.Omega.{arith}
+use mathlib.Core.Path.{◌≡◌}
 use lib.ListN.{get_or}
 use Rattle.laws.specs.Loop.{count_below}
-use Rattle.laws.proofs.Looping.{sum-none}
 use Rattle.state.specs.Parts.{no_client}
-use Rattle.rules.specs.Sound.{is_client, queued_as}
-use Rattle.call_steps.proofs.Some.{some-here, some_more, some-not, some-bit}
+use Rattle.rules.specs.Sound.{is_client}
 use Rattle.call_steps.proofs.is_queued_as.Given as goal
 
 abbrev pub invariant-loop-j : goal.invariant-loop-j

@@ -3,8 +3,7 @@
 use borrow.Author.Rules.{rules}
 use mathlib.Core.Path.{◌≡◌, sym, ◌∙◌}
 use native.Mathlib.Omega.{arith}
-use Prim.Native.Nat.{ℕ, ◌≤◌, ◌-◌}
-use Rattle.laws.specs.Loop.{count_below}
+use Prim.Native.Nat.{ℕ}
 use Rattle.laws.proofs.Choosing.{bit-most}
 use Rattle.laws.proofs.Looping.{sum-none, sum_more, count_most}
 use Rattle.state.specs.Tables.{slot_in}

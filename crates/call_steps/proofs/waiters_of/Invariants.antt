@@ -1,14 +1,10 @@
 -- `call_steps::waiters_of` meets its contract.
 -- Assumes nothing.
-use borrow.Author.Rules.{rules}
-use mathlib.Core.Path.{◌≡◌, sym, ◌∙◌}
-use native.Mathlib.Omega.{arith}
+use mathlib.Core.Path.{◌≡◌}
 use Prim.Native.Nat.{ℕ, ◌≤◌, ◌-◌}
 use Rattle.laws.specs.Loop.{count_below}
-use Rattle.laws.proofs.Choosing.{bit-most}
-use Rattle.laws.proofs.Looping.{sum-none, sum_more, count_most}
 use Rattle.state.specs.Tables.{slot_in}
-use Rattle.rules.specs.Sound.{waits_on, waiters_of}
+use Rattle.rules.specs.Sound.{waits_on}
 use Rattle.call_steps.proofs.waiters_of.Given as goal
 
 abbrev pub invariant-loop-k : goal.invariant-loop-k

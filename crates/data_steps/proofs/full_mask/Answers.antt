@@ -1,6 +1,6 @@
 -- `data_steps::full_mask` meets its contract. The loop has the mask of the places below its counter, and what the next one counts for.
 -- Assumes nothing.
-use Prim.Native.Nat.{◌+◌, ◌-◌, ◌^◌, ◌≤◌}
+use Prim.Native.Nat.{◌+◌, ◌^◌, ◌≤◌}
 use borrow.Author.Rules.{rules}
 use lib.ListN.{length}
 use mathlib.Core.Path.{◌∙◌, ◌≡◌, refl, sym}
@@ -9,7 +9,6 @@ use native.Mathlib.Numerals.{add-one}
 use native.Mathlib.Omega.{arith}
 use Rattle.laws.proofs.Masks.{mask-none, mask-on, mask-off, mask-small, mask-within}
 use Rattle.laws.proofs.Places.{length-mapped}
-use Rattle.laws.specs.Mask.{mask_below}
 use Rattle.feeding.specs.Rooms.{full_mask_by, is_full_by}
 use Rattle.feeding.proofs.Noted.{full-past}
 use Rattle.data_steps.proofs.full_mask.Goals as goal
@@ -46,7 +45,7 @@ loop-q-preserved c =
     let e : 2 ^ (l.q + 1) ≡ 2 ^ l.q + 2 ^ l.q = rw add-one (omega (arith, pow-suc 2 l.q)) in (
       omega arith,
       elim c.if-is_full.branch [
-        then-is_full w ↦ omega (arith, l.invariant.1, l.invariant.2, mask-on (is_full_by a.cfg a.rooms a.p) l.q (sym c.is_full.ensures ∙ w.if-is_full.true), w.mask-is)
+        | then-is_full w ↦ omega (arith, l.invariant.1, l.invariant.2, mask-on (is_full_by a.cfg a.rooms a.p) l.q (sym c.is_full.ensures ∙ w.if-is_full.true), w.mask-is)
         | else-is_full w ↦ omega (arith, l.invariant.1, mask-off (is_full_by a.cfg a.rooms a.p) l.q (sym c.is_full.ensures ∙ w.if-is_full.false), w.mask-is)
       ],
       omega (arith, l.invariant.2, e),

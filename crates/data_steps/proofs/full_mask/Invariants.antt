@@ -1,18 +1,9 @@
 -- `data_steps::full_mask` meets its contract. The loop has the mask of the places below its counter, and what the next one counts for.
 -- Assumes nothing.
-use Prim.Native.Nat.{◌+◌, ◌-◌, ◌^◌, ◌≤◌}
-use mathlib.Core.Logic.{⊎_elim}
-use borrow.Author.Rules.{rules}
-use lib.ListN.{length}
-use mathlib.Core.Path.{◌∙◌, ◌≡◌, refl, sym}
-use native.Mathlib.Nat.{pow-suc, pow-le-pow_right}
-use native.Mathlib.Numerals.{add-one}
-use native.Mathlib.Omega.{arith}
-use Rattle.laws.proofs.Masks.{mask-none, mask-on, mask-off, mask-small, mask-within}
-use Rattle.laws.proofs.Places.{length-mapped}
+use Prim.Native.Nat.{◌-◌, ◌^◌, ◌≤◌}
+use mathlib.Core.Path.{◌≡◌}
 use Rattle.laws.specs.Mask.{mask_below}
-use Rattle.feeding.specs.Rooms.{full_mask_by, is_full_by}
-use Rattle.feeding.proofs.Noted.{full-past}
+use Rattle.feeding.specs.Rooms.{is_full_by}
 use Rattle.data_steps.proofs.full_mask.Given as goal
 
 abbrev pub invariant-loop-q : goal.invariant-loop-q

@@ -1,8 +1,7 @@
 -- `end_steps::is_returned` meets its contract.
 -- Assumes nothing.
-use Rattle.std.proofs.Common.{◌≡◌, ℕ, ◌-◌, ◌≤◌, false, eqb, sym, ◌∙◌, arith, rules}
+use Rattle.std.proofs.Common.{◌≡◌, ℕ, ◌-◌, ◌≤◌, false, eqb}
 use Rattle.config.specs.Tables.{return_event_in}
-use Rattle.laws.proofs.Looping.{any_here, any-more, any_none}
 use Rattle.laws.specs.Choice.{both}
 use Rattle.laws.specs.Loop.{any_below}
 use Rattle.end_steps.proofs.is_returned.Given as goal

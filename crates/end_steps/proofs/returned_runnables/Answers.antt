@@ -1,15 +1,10 @@
 -- `end_steps::returned_runnables` meets its contract. The loop has been over the places below its counter (`each_below`), and takes one more by `each-put`.
 -- Assumes nothing.
-use Rattle.std.proofs.Common.{◌≡◌, ℕ, ◌-◌, ◌≤◌, eqb, length, ◌∙◌, arith, rules}
-use Rattle.config.specs.Tables.{runnable_conf_in, return_event_in}
+use Rattle.std.proofs.Common.{◌≡◌, length, ◌∙◌, arith, rules}
+use Rattle.config.specs.Tables.{runnable_conf_in}
 use Rattle.laws.proofs.Places.{each_none, length-mapped}
-use Rattle.laws.specs.Choice.{both, pick}
-use Rattle.laws.specs.Loop.{any_below}
-use Rattle.laws.specs.Row.{each_below}
 use Rattle.effects.specs.Steps as rules
 use Rattle.effects.specs.Steps.{is_returned, returned_runnables, woken}
-use Rattle.state.specs.Parts.{no_runnable}
-use Rattle.faces.specs.Types.{Runnable}
 use Rattle.shared_steps.proofs.Stopping.{each-put, each_within, runnables-made}
 use Rattle.end_steps.proofs.returned_runnables.Goals as goal
 
