@@ -1,13 +1,9 @@
 -- `time_steps::found_empty` meets its contract.
 -- Assumes nothing.
-use Prim.Native.Nat.{◌-◌, ◌<◌, ◌≤◌}
-use borrow.Author.Rules.{rules}
-use borrow.Author.Tests.{lt-ltb}
+use Prim.Native.Nat.{◌-◌, ◌≤◌}
 use mathlib.Core.Path.{◌≡◌}
-use native.Mathlib.Omega.{arith}
-use Rattle.laws.proofs.Looping.{first-here, first_more, first-none}
 use Rattle.laws.specs.Loop.{first_below}
-use Rattle.effects.specs.Steps.{found_empty, is_empty_at, lowest_empty}
+use Rattle.effects.specs.Steps.{is_empty_at}
 use Rattle.time_steps.proofs.found_empty.Given as goal
 
 abbrev pub invariant-loop-k : goal.invariant-loop-k

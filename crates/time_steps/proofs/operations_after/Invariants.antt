@@ -1,14 +1,10 @@
 -- `time_steps::operations_after` meets its contract.
 -- Assumes nothing.
 use Prim.Native.Nat.{◌-◌, ◌≤◌, ℕ}
-use borrow.Author.Rules.{rules}
 use mathlib.Core.Path.{◌≡◌}
-use native.Mathlib.Omega.{arith}
-use Rattle.laws.proofs.Places.{each_more, each_none}
 use Rattle.laws.specs.Row.{each_below}
-use Rattle.effects.specs.Steps.{operation_after, operations_after}
+use Rattle.effects.specs.Steps.{operation_after}
 use Rattle.state.specs.Parts.{no_operation}
-use Rattle.state.specs.Tables.{operation_in, with_operation}
 use Rattle.faces.specs.Types.{Operation, Operations}
 use Rattle.time_steps.proofs.operations_after.Given as goal
 

@@ -1,14 +1,10 @@
 -- `time_steps::operations_let` meets its contract.
 -- Assumes nothing.
-use Prim.Native.Nat.{◌-◌, ◌≤◌, ℕ}
 use borrow.Author.Rules.{rules}
-use mathlib.Core.Bool.{true}
 use mathlib.Core.Path.{◌∙◌, ◌≡◌, sym}
 use native.Mathlib.Omega.{arith}
 use Rattle.laws.proofs.Looping.{all-fails, all_more, all_none}
-use Rattle.laws.specs.Loop.{all_below}
-use Rattle.effects.specs.Steps.{operation_lets, operations_let}
-use Rattle.state.specs.Tables.{operation_in}
+use Rattle.effects.specs.Steps.{operations_let}
 use Rattle.time_steps.proofs.operations_let.Goals as goal
 
 pub loop-o-init : goal.loop-o-init

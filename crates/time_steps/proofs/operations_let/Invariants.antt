@@ -1,13 +1,10 @@
 -- `time_steps::operations_let` meets its contract.
 -- Assumes nothing.
 use Prim.Native.Nat.{◌-◌, ◌≤◌, ℕ}
-use borrow.Author.Rules.{rules}
 use mathlib.Core.Bool.{true}
-use mathlib.Core.Path.{◌∙◌, ◌≡◌, sym}
-use native.Mathlib.Omega.{arith}
-use Rattle.laws.proofs.Looping.{all-fails, all_more, all_none}
+use mathlib.Core.Path.{◌≡◌}
 use Rattle.laws.specs.Loop.{all_below}
-use Rattle.effects.specs.Steps.{operation_lets, operations_let}
+use Rattle.effects.specs.Steps.{operation_lets}
 use Rattle.state.specs.Tables.{operation_in}
 use Rattle.time_steps.proofs.operations_let.Given as goal
 

@@ -1,16 +1,11 @@
 -- `time_steps::runnables_after` meets its contract. The loop has been over the places below its counter (`each_below`), and takes one more by `each-put`.
 -- Assumes nothing.
 use Prim.Native.Nat.{◌-◌, ◌≤◌, ℕ}
-use borrow.Author.Rules.{rules}
-use lib.ListN.{length}
-use mathlib.Core.Path.{◌∙◌, ◌≡◌}
-use native.Mathlib.Omega.{arith}
-use Rattle.laws.proofs.Places.{each_none, length-mapped}
+use mathlib.Core.Path.{◌≡◌}
 use Rattle.laws.specs.Row.{each_below}
-use Rattle.effects.specs.Steps.{runnable_after, runnables_after}
+use Rattle.effects.specs.Steps.{runnable_after}
 use Rattle.state.specs.Parts.{no_runnable}
 use Rattle.faces.specs.Types.{Runnable}
-use Rattle.shared_steps.proofs.Stopping.{each-put, each_within, runnables-made}
 use Rattle.time_steps.proofs.runnables_after.Given as goal
 
 abbrev pub invariant-loop-r : goal.invariant-loop-r

@@ -1,15 +1,11 @@
 -- `time_steps::slots_after` meets its contract.
 -- Assumes nothing.
-use Prim.Native.Nat.{◌-◌, ◌≤◌, ℕ}
 use borrow.Author.Rules.{rules}
 use mathlib.Core.Path.{◌≡◌}
 use native.Mathlib.Omega.{arith}
 use Rattle.laws.proofs.Places.{each_more, each_none}
-use Rattle.laws.specs.Row.{each_below}
-use Rattle.effects.specs.Steps.{slot_after, slots_after}
-use Rattle.state.specs.Parts.{no_slot}
+use Rattle.effects.specs.Steps.{slots_after}
 use Rattle.state.specs.Tables.{slot_in, with_slot}
-use Rattle.faces.specs.Types.{Slot, Slots}
 use Rattle.time_steps.proofs.slots_after.Goals as goal
 
 pub loop-i-init : goal.loop-i-init

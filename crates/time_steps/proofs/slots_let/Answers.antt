@@ -1,14 +1,10 @@
 -- `time_steps::slots_let` meets its contract.
 -- Assumes nothing.
-use Prim.Native.Nat.{◌-◌, ◌≤◌, ℕ}
 use borrow.Author.Rules.{rules}
-use mathlib.Core.Bool.{true}
 use mathlib.Core.Path.{◌∙◌, ◌≡◌, sym}
 use native.Mathlib.Omega.{arith}
 use Rattle.laws.proofs.Looping.{all-fails, all_more, all_none}
-use Rattle.laws.specs.Loop.{all_below}
-use Rattle.effects.specs.Steps.{slot_lets, slots_let}
-use Rattle.state.specs.Tables.{slot_in}
+use Rattle.effects.specs.Steps.{slots_let}
 use Rattle.time_steps.proofs.slots_let.Goals as goal
 
 pub loop-i-init : goal.loop-i-init

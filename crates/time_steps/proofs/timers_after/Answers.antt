@@ -1,15 +1,11 @@
 -- `time_steps::timers_after` meets its contract.
 -- Assumes nothing.
-use Prim.Native.Nat.{◌-◌, ◌≤◌, ℕ}
 use borrow.Author.Rules.{rules}
 use mathlib.Core.Path.{◌≡◌}
 use native.Mathlib.Omega.{arith}
 use Rattle.laws.proofs.Places.{each_more, each_none}
-use Rattle.laws.specs.Row.{each_below}
-use Rattle.effects.specs.Steps.{timer_after, timers_after}
-use Rattle.state.specs.Parts.{no_timer}
+use Rattle.effects.specs.Steps.{timers_after}
 use Rattle.state.specs.Tables.{timer_in, with_timer}
-use Rattle.faces.specs.Types.{Timer, Timers}
 use Rattle.time_steps.proofs.timers_after.Goals as goal
 
 pub loop-k-init : goal.loop-k-init

@@ -1,14 +1,10 @@
 -- `time_steps::timers_let` meets its contract.
 -- Assumes nothing.
-use Prim.Native.Nat.{◌-◌, ◌≤◌, ℕ}
 use borrow.Author.Rules.{rules}
-use mathlib.Core.Bool.{true}
 use mathlib.Core.Path.{◌∙◌, ◌≡◌, sym}
 use native.Mathlib.Omega.{arith}
 use Rattle.laws.proofs.Looping.{all-fails, all_more, all_none}
-use Rattle.laws.specs.Loop.{all_below}
-use Rattle.effects.specs.Steps.{timer_lets, timers_let}
-use Rattle.state.specs.Tables.{timer_in}
+use Rattle.effects.specs.Steps.{timers_let}
 use Rattle.time_steps.proofs.timers_let.Goals as goal
 
 pub loop-k-init : goal.loop-k-init

@@ -1,13 +1,10 @@
 -- `time_steps::timers_let` meets its contract.
 -- Assumes nothing.
 use Prim.Native.Nat.{◌-◌, ◌≤◌, ℕ}
-use borrow.Author.Rules.{rules}
 use mathlib.Core.Bool.{true}
-use mathlib.Core.Path.{◌∙◌, ◌≡◌, sym}
-use native.Mathlib.Omega.{arith}
-use Rattle.laws.proofs.Looping.{all-fails, all_more, all_none}
+use mathlib.Core.Path.{◌≡◌}
 use Rattle.laws.specs.Loop.{all_below}
-use Rattle.effects.specs.Steps.{timer_lets, timers_let}
+use Rattle.effects.specs.Steps.{timer_lets}
 use Rattle.state.specs.Tables.{timer_in}
 use Rattle.time_steps.proofs.timers_let.Given as goal
 
