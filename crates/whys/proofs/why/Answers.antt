@@ -1,5 +1,6 @@
 -- `whys::why` meets its contract.
 -- Assumes nothing.
+use Rattle.std.proofs.Common.{arith}
 use borrow.Author.Tests.{ne_eqb}
 use Rattle.whys.specs.Whys.{why_of}
 use Rattle.whys.proofs.why.Goals as goal
@@ -67,5 +68,4 @@ returns-in-30 c = rw c.in-30.is
 pub returns-in_default : goal.returns-in_default
 unfolding why_of
 returns-in_default c =
-    let r = c.in_default.in_default-own.rest in
-    rw (c.owed_cause.ensures, ne_eqb _ _ r.0.0.0.0.0.0.0.0.0.0.0.0.0.0.1, ne_eqb _ _ r.0.0.0.0.0.0.0.0.0.0.0.0.0.1, ne_eqb _ _ r.0.0.0.0.0.0.0.0.0.0.0.0.1, ne_eqb _ _ r.0.0.0.0.0.0.0.0.0.0.0.1, ne_eqb _ _ r.0.0.0.0.0.0.0.0.0.0.1, ne_eqb _ _ r.0.0.0.0.0.0.0.0.0.1, ne_eqb _ _ r.0.0.0.0.0.0.0.0.1, ne_eqb _ _ r.0.0.0.0.0.0.0.1, ne_eqb _ _ r.0.0.0.0.0.0.1, ne_eqb _ _ r.0.0.0.0.0.1, ne_eqb _ _ r.0.0.0.0.1, ne_eqb _ _ r.0.0.0.1, ne_eqb _ _ r.0.0.1, ne_eqb _ _ r.0.1, ne_eqb _ _ r.1)
+    rw (c.owed_cause.ensures, ne_eqb c.args.n 2 (omega arith), ne_eqb c.args.n 3 (omega arith), ne_eqb c.args.n 4 (omega arith), ne_eqb c.args.n 5 (omega arith), ne_eqb c.args.n 6 (omega arith), ne_eqb c.args.n 7 (omega arith), ne_eqb c.args.n 8 (omega arith), ne_eqb c.args.n 28 (omega arith), ne_eqb c.args.n 10 (omega arith), ne_eqb c.args.n 11 (omega arith), ne_eqb c.args.n 12 (omega arith), ne_eqb c.args.n 13 (omega arith), ne_eqb c.args.n 14 (omega arith), ne_eqb c.args.n 15 (omega arith), ne_eqb c.args.n 30 (omega arith))
