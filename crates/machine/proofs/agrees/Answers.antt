@@ -1,6 +1,5 @@
 -- `machine::agrees` meets its contract.
 -- Assumes nothing.
-use borrow.Author.Rules.{rules}
 use Rattle.effects.specs.Step.{agrees}
 use Rattle.machine.proofs.agrees.Goals as goal
 

@@ -1,6 +1,5 @@
 -- `machine::inner` meets its contract.
 -- Assumes nothing.
-use borrow.Author.Rules.{rules}
 use Rattle.effects.specs.Step.{claimed_of, inner_of}
 use Rattle.machine.proofs.inner.Goals as goal
 

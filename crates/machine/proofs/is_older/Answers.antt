@@ -1,6 +1,5 @@
 -- `machine::is_older` meets its contract.
 -- Assumes nothing.
-use borrow.Author.Rules.{rules}
 use borrow.Author.Tests.{eq-eqb, ne_eqb}
 use Rattle.machine.proofs.is_older.Goals as goal
 
