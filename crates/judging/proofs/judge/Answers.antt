@@ -6,7 +6,6 @@ use Rattle.effects.specs.Step.{inner_of, step_of}
 use Rattle.stays_sound.proofs.Keeps.{once, kept_step}
 use Rattle.judging.specs.Judging.{judge_of}
 use Rattle.judging.proofs.Laws.{judged-same}
-use borrow.Author.Rules.{rules}
 use Rattle.judging.proofs.judge.Goals as goal
 
 pub returns-then-is_sound : goal.returns-then-is_sound

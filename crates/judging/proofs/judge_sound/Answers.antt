@@ -1,17 +1,10 @@
 -- `judge_sound` meets its contract. What is ahead is judged as the whole was: the allowance left and the steps taken make up the allowance, and the place is within the text.
 -- The measure is the allowance that is left. Assumes nothing.
-use Prim.Native.Nat.{ℕ, ◌+◌, ◌-◌, ◌≤◌}
+use Prim.Native.Nat.{ℕ, ◌+◌, ◌-◌}
 use Rattle.faces.specs.Types.{Step}
-use mathlib.Core.List.{[], ◌∷◌}
-use mathlib.Core.Logic.{⊎_elim}
 use mathlib.Core.Path.{◌≡◌, refl, sym, ap, ◌∙◌}
-use borrow.Author.Rules.{rules}
 use native.Mathlib.Omega.{arith}
-use types.Run.{OneOf}
-use denote.Enum.Declared.{tag_of}
-use lib.ListN.{length, drop}
 use lib.Seq.{drop-drop}
-use Rattle.recording.specs.contracts.Field.{the_type}
 use Rattle.recording.specs.declared.Field.{Field}
 use Rattle.recording.specs.declared.Field.TheVariants.{Step as IsStep, End, Refused as NoField}
 use Rattle.recording.proofs.OneField.{refused-18}

@@ -1,23 +1,10 @@
 -- `judge_sound` meets its contract. What is ahead is judged as the whole was: the allowance left and the steps taken make up the allowance, and the place is within the text.
 -- The measure is the allowance that is left. Assumes nothing.
-use Prim.Native.Nat.{◌+◌, ◌-◌, ◌≤◌}
-use mathlib.Core.List.{[], ◌∷◌}
-use mathlib.Core.Logic.{⊎_elim}
-use mathlib.Core.Path.{◌≡◌, refl, sym, ap, ◌∙◌}
-use borrow.Author.Rules.{rules}
-use native.Mathlib.Omega.{arith}
-use types.Run.{OneOf}
-use denote.Enum.Declared.{tag_of}
+use Prim.Native.Nat.{◌+◌, ◌≤◌}
+use mathlib.Core.Path.{◌≡◌}
 use lib.ListN.{length, drop}
-use lib.Seq.{drop-drop}
-use Rattle.recording.specs.contracts.Field.{the_type}
-use Rattle.recording.specs.declared.Field.{Field}
-use Rattle.recording.specs.declared.Field.TheVariants.{Step as IsStep, End, Refused as NoField}
-use Rattle.recording.proofs.OneField.{refused-18}
-use Rattle.recording.proofs.Loops.{step_room}
 use Rattle.effects.specs.Step.{inner_of}
 use Rattle.judging.specs.Judging.{judge_from}
-use Rattle.judging.proofs.Laws.{ended, stopped, starved, barred, went}
 use Rattle.judging.proofs.judge_sound.Given as goal
 
 abbrev pub invariant-loop-x : goal.invariant-loop-x

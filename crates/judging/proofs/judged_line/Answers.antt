@@ -2,7 +2,6 @@
 -- Assumes nothing.
 use mathlib.Core.Path.{◌∙◌}
 use Rattle.judging.specs.Line.{judged_line}
-use borrow.Author.Rules.{rules}
 use Rattle.judging.proofs.judged_line.Goals as goal
 
 pub returns : goal.returns

@@ -3,7 +3,6 @@
 use mathlib.Core.Path.{◌∙◌}
 use borrow.Author.Tests.{lt-ltb, le-ltb}
 use Rattle.judging.specs.Line.{read_line, line_of}
-use borrow.Author.Rules.{rules}
 use Rattle.judging.proofs.line_of.Goals as goal
 
 pub returns-then-config-gt-MAX_CONFIG : goal.returns-then-config-gt-MAX_CONFIG

@@ -1,6 +1,5 @@
 -- `judging::verdict_line` meets its contract.
 -- Assumes nothing.
-use borrow.Author.Rules.{rules}
 use Rattle.judging.proofs.verdict_line.Goals as goal
 
 pub returns-in-Accepted : goal.returns-in-Accepted
