@@ -26,7 +26,7 @@ chooser-returns t c =
     let a = c.args in
     let size : c.size_of-size.result ≡ size_of (count_in a.all) a.n = z.0 ∙ ap (λ (m : ℕ). size_of m a.n) k.is in (
       rw (size, c.chooser.ensures.0) (sym (elim c.match-a.branch [
-        chooser-in-Taken+else-p-size w ↦ missed _ _ _ _ _ _ k c.if-left-eq0.false c.requires.1 c.requires.0 c.choice_at.ensures c.possible-r.ensures _ w.in-Taken.is w.stepper-p.ensures.0 (rw (← size) w.if-p-size.false)
+        | chooser-in-Taken+else-p-size w ↦ missed _ _ _ _ _ _ k c.if-left-eq0.false c.requires.1 c.requires.0 c.choice_at.ensures c.possible-r.ensures _ w.in-Taken.is w.stepper-p.ensures.0 (rw (← size) w.if-p-size.false)
         | chooser-in_default w ↦ barred _ _ _ _ _ _ k c.if-left-eq0.false c.requires.1 c.requires.0 c.choice_at.ensures c.possible-r.ensures _ w.in_default.is
       ])),
       omega (arith, z.2 c.requires.0, c.chooser.ensures.1, c.if-left-eq0.false),

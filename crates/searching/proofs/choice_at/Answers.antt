@@ -1,6 +1,5 @@
 -- `choice_at` meets its contract.
 -- Assumes nothing.
-use borrow.Author.Rules.{rules}
 use borrow.Author.Tests.{lt-ltb, le-ltb}
 use Rattle.searching.specs.Search.{choice_at}
 use Rattle.searching.proofs.choice_at.Goals as goal

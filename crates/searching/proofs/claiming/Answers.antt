@@ -1,6 +1,5 @@
 -- `claiming` meets its contract.
 -- Assumes nothing.
-use borrow.Author.Rules.{rules}
 use Rattle.searching.proofs.claiming.Goals as goal
 
 pub returns-in-Taken : goal.returns-in-Taken
