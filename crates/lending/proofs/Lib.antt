@@ -1,3 +1,2 @@
--- The walk over a lent state, and what the contract of `step_lent` comes to.
-pub mod Lent
+-- What the contract of `step_lent` comes to.
 pub mod Boards
