@@ -53,11 +53,21 @@ fn tell<R: Files + Print, E: Print>(rt: &R, stderr: &E, recording: &[u8]) {
         Merged::Whole(steps) => {
             let size = size_of(steps, &out);
             if keep(rt, stderr, &out[..size]) {
-                print(&mut io::writer(rt), b"merged", [steps as u64, 0, 0, 0, 0], 1);
+                print(
+                    &mut io::writer(rt),
+                    b"merged",
+                    [steps as u64, 0, 0, 0, 0],
+                    1,
+                );
             }
         }
         Merged::Refused(place, k) => {
-            print(&mut io::writer(rt), b"refused", [place as u64, k as u64, 0, 0, 0], 2);
+            print(
+                &mut io::writer(rt),
+                b"refused",
+                [place as u64, k as u64, 0, 0, 0],
+                2,
+            );
         }
     }
 }
