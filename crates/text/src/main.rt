@@ -33,12 +33,7 @@ const BYTES_ROOM: usize = BYTES + 1;
 const TEXT_ROOM: usize = TEXT + 1;
 
 // The file that an argument names, read into buf.
-fn read_arg<R: Env + Files + Input, E: Print>(
-    rt: &R,
-    stderr: &E,
-    i: usize,
-    buf: &mut [u8],
-) -> Got
+fn read_arg<R: Env + Files + Input, E: Print>(rt: &R, stderr: &E, i: usize, buf: &mut [u8]) -> Got
     ensures { Fits result (length buf.new) }
 {
     let mut name = [0u8; program_io::NAME_ROOM];
@@ -72,13 +67,7 @@ fn print<R: Print, E: Print>(rt: &R, stderr: &E, text: &[u8]) {
 }
 
 // Says what is wrong with a text.
-fn complain<E: Print>(
-    stderr: &E,
-    forms: &[u8],
-    text: &[u8],
-    known: &mut [u8],
-    place: usize,
-) {
+fn complain<E: Print>(stderr: &E, forms: &[u8], text: &[u8], known: &mut [u8], place: usize) {
     let mut words = [0u8; 2048];
     let size = expecting::report(&mut words, forms, text, known, place);
     if size <= 2048 {
@@ -87,13 +76,7 @@ fn complain<E: Print>(
 }
 
 // The bytes of a text.
-fn make_text<R: Print, E: Print>(
-    rt: &R,
-    stderr: &E,
-    forms: &[u8],
-    text: &[u8],
-    out: &mut [u8],
-) {
+fn make_text<R: Print, E: Print>(rt: &R, stderr: &E, forms: &[u8], text: &[u8], out: &mut [u8]) {
     let mut known = [0u8; names::KNOWN];
     let m = making::make(forms, text, &mut known, out);
     match m {
