@@ -4,9 +4,11 @@
 ghost use Rattle.std.specs.Prelude.{◌≡◌, ◌+◌, ◌≤◌, length, take};
 ghost use Rattle.wire.specs.Bytes.{wrote_bytes, Written};
 ghost use Rattle.board_lines.specs.Printed.{shown_line, told_line, history_lines};
+ghost use Rattle.std.specs.Bool.{OnTrue};
+ghost use Rattle.std.specs.Io.KnownBytes.{Appends};
 
-use libc::STDOUT_FILENO;
 use posting::{Board, Shown, Told};
+use std::io::Write;
 use wire::Wrote;
 
 // A line of the board, written from a place on; it has no more than 17 bytes. Where it does not fit: 27, and the buffer stays as it is.
@@ -87,21 +89,25 @@ pub fn put_history(buf: &mut [u8], at: usize, board: Board) -> Wrote
 }
 
 // Prints what a showing told, in one write; whether all of it went out.
-pub fn print_told(told: Told) -> bool {
+pub fn print_told<W: Write>(out: &mut W, told: Told) -> bool
+    ensures { OnTrue result (Appends (W.contents out.old) (W.contents out.new) (told_line told)) }
+{
     let mut text = [0u8; 64];
     let w = put_told(&mut text, 0, told);
     let Wrote::To(n) = w else {
         return false;
     };
-    io::write_all(STDOUT_FILENO, &text[..n])
+    out.write_all(&text[..n]).is_ok()
 }
 
 // Prints the history of a board, in one write; whether all of it went out.
-pub fn print_history(board: Board) -> bool {
+pub fn print_history<W: Write>(out: &mut W, board: Board) -> bool
+    ensures { OnTrue result (Appends (W.contents out.old) (W.contents out.new) (history_lines board)) }
+{
     let mut text = [0u8; HISTORY];
     let w = put_history(&mut text, 0, board);
     let Wrote::To(n) = w else {
         return false;
     };
-    io::write_all(STDOUT_FILENO, &text[..n])
+    out.write_all(&text[..n]).is_ok()
 }

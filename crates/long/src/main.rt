@@ -12,10 +12,12 @@ ghost use Rattle.long.specs.Near.{Near};
 
 use config::Config;
 use judging::{Judged, Line, Verdict};
-use libc::STDIN_FILENO;
 use program_io::Got;
 use reading::Outcome;
 use state::State;
+use std::env::Env;
+use std::io::{self, Error, ErrorKind, Input, Read};
+use std::rt::Files;
 
 // The bytes of a part, the steps of it that are judged before more is read, and where the bytes begin that are held for the next.
 const ROOM: usize = 65536;
@@ -27,11 +29,11 @@ const HELD: usize = ROOM - numbers::SIZE_STEP;
 // More parts than any disk has room for. A loop that is proved has to end.
 const PARTS: u32 = 4000000000;
 
-// The line that a recording came to, or that a read failed.
+// The line that a recording came to, or why a read failed.
 #[derive(Clone, Copy)]
 enum Came {
     To(Line),
-    Nothing,
+    Nothing(Error),
 }
 
 // A verdict with n steps before it.
@@ -105,7 +107,7 @@ fn verdict_line(v: Verdict, count: usize) -> Line
 }
 
 // The recording on standard input, from the start state on, part by part.
-fn judge_parts(cfg: Config, part: &mut [u8]) -> Came
+fn judge_parts<I: Read>(input: &mut I, cfg: Config, part: &mut [u8]) -> Came
     requires { length part.old ≡ 65536 }
 {
     let mut st = State::start(cfg);
@@ -113,9 +115,10 @@ fn judge_parts(cfg: Config, part: &mut [u8]) -> Came
     let mut held: usize = 0;
     let mut left: u32 = PARTS;
     while left > 0 {
-        let got = program_io::read_whole(STDIN_FILENO, &mut part[held..]);
-        let Got::Bytes(more) = got else {
-            return Came::Nothing;
+        let got = program_io::read_whole(input, &mut part[held..]);
+        let more = match got {
+            Got::Bytes(more) => more,
+            Got::Failed(e) => return Came::Nothing(e),
         };
         let end = held + more;
         if end < ROOM {
@@ -138,11 +141,11 @@ fn judge_parts(cfg: Config, part: &mut [u8]) -> Came
             }
         }
     }
-    Came::Nothing
+    Came::Nothing(Error::from(ErrorKind::FileTooLarge))
 }
 
 // The line for the bytes of a configuration and the recording on standard input.
-fn long_line(config: &[u8], part: &mut [u8]) -> Came
+fn long_line<I: Read>(input: &mut I, config: &[u8], part: &mut [u8]) -> Came
     requires { length part.old ≡ 65536 }
 {
     if judging::MAX_CONFIG < config.len() {
@@ -152,30 +155,35 @@ fn long_line(config: &[u8], part: &mut [u8]) -> Came
     let o = r.outcome;
     match o {
         Outcome::Refused(place, k) => Came::To(Line::Configuration(place, k)),
-        Outcome::Whole => judge_parts(r.config, part),
+        Outcome::Whole => judge_parts(input, r.config, part),
     }
 }
 
-fn run(config: &mut [u8], part: &mut [u8])
+fn run<R: Env + Files + Input + Print, E: Print>(
+    rt: &R,
+    stderr: &E,
+    config: &mut [u8],
+    part: &mut [u8],
+)
     requires { length part.old ≡ 65536 }
 {
-    let mut name = io::buffer();
-    let n = os::arg(1, &mut name);
-    let c = program_io::read_named(&name[..n], config);
-    let Got::Bytes(k) = c else {
-        os::fail(&name[..n]);
-        return;
+    let mut name = [0u8; program_io::NAME_ROOM];
+    let n = program_io::arg(rt, 1, &mut name);
+    let c = program_io::read_named(rt, &name[..n], config);
+    let k = match c {
+        Got::Bytes(k) => k,
+        Got::Failed(e) => return program_io::fail(stderr, &name[..n], e),
     };
-    let came = long_line(&config[..k], part);
-    let Came::To(line) = came else {
-        os::fail(b"the recording");
-        return;
+    let came = long_line(&mut rt.reader(), &config[..k], part);
+    let line = match came {
+        Came::To(line) => line,
+        Came::Nothing(e) => return program_io::fail(stderr, b"the recording", e),
     };
-    program_io::print(line);
+    program_io::print(&mut io::writer(rt), line);
 }
 
-fn main() {
+fn main(rt: HostRuntime) {
     let mut config = [0u8; judging::CONFIG_ROOM];
     let mut part = [0u8; ROOM];
-    run(&mut config, &mut part);
+    run(&rt, &rt.stderr(), &mut config, &mut part);
 }

@@ -1,55 +1,61 @@
 // The mender: reads rte.cfg, and from standard input a recording; prints the report and a last line, and leaves a mended text in the file mended.rec.
 #![tactic(auto)]
 
-use libc::STDIN_FILENO;
 use mender::Told;
 use program_io::Got;
+use std::fs::File;
+use std::io::{self, Input, Write};
+use std::rt::Files;
 
 // Writes the mended text, whole.
-fn keep(text: &[u8]) -> bool {
-    let fd = os::open_overwrite(b"mended.rec");
-    if fd < 0 {
-        os::fail(b"mended.rec");
-        return false;
+fn keep<R: Files, E: Print>(rt: &R, stderr: &E, text: &[u8]) -> bool {
+    match File::create(rt, "mended.rec") {
+        Ok(mut file) => file.write_all(text).is_ok(),
+        Err(e) => {
+            program_io::fail(stderr, b"mended.rec", e);
+            false
+        }
     }
-    let all = io::write_all(fd, text);
-    libc::close(fd);
-    all
 }
 
 // Mends and prints. The last line is the last to go out: where it is missing, there is no answer.
-fn tell(config: &[u8], recording: &[u8]) {
+fn tell<R: Files + Print, E: Print>(rt: &R, stderr: &E, config: &[u8], recording: &[u8]) {
     let mut out = [0u8; mender::ROOM];
     let mut report = [0u8; mender::ROOM];
     let told = mender::mend_files(config, recording, &mut out, &mut report);
     if let Told::Mended(steps, notes) = told {
         let size = mender::size_of(steps, &out);
-        if keep(&out[..size]) {
-            if mender::print_notes(&report, notes) {
-                mender::print_told(told);
+        if keep(rt, stderr, &out[..size]) {
+            if mender::print_notes(&mut io::writer(rt), &report, notes) {
+                mender::print_told(&mut io::writer(rt), told);
             }
         }
     } else {
-        mender::print_told(told);
+        mender::print_told(&mut io::writer(rt), told);
     }
 }
 
-fn run(config: &mut [u8], recording: &mut [u8]) {
-    let c = program_io::read_file(b"rte.cfg", config);
-    let Got::Bytes(n) = c else {
-        os::fail(b"rte.cfg");
-        return;
+fn run<R: Files + Input + Print, E: Print>(
+    rt: &R,
+    stderr: &E,
+    config: &mut [u8],
+    recording: &mut [u8],
+) {
+    let c = program_io::read_file(rt, b"rte.cfg", config);
+    let n = match c {
+        Got::Bytes(n) => n,
+        Got::Failed(e) => return program_io::fail(stderr, b"rte.cfg", e),
     };
-    let r = program_io::read_whole(STDIN_FILENO, recording);
-    let Got::Bytes(m) = r else {
-        os::fail(b"standard input");
-        return;
+    let r = program_io::read_whole(&mut rt.reader(), recording);
+    let m = match r {
+        Got::Bytes(m) => m,
+        Got::Failed(e) => return program_io::fail(stderr, b"standard input", e),
     };
-    tell(&config[..n], &recording[..m]);
+    tell(rt, stderr, &config[..n], &recording[..m]);
 }
 
-fn main() {
+fn main(rt: HostRuntime) {
     let mut config = [0u8; judging::CONFIG_ROOM];
     let mut recording = [0u8; judging::RECORDING_ROOM];
-    run(&mut config, &mut recording);
+    run(&rt, &rt.stderr(), &mut config, &mut recording);
 }

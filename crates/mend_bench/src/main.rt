@@ -1,9 +1,10 @@
 // The benchmark of mending: takes rte.cfg and the recording from where the mender takes them, mends it as often as it is given words, its own name among them, and prints the last line.
 #![tactic(auto)]
 
-use libc::STDIN_FILENO;
 use mender::Told;
 use program_io::Got;
+use std::io::{self, Input};
+use std::rt::Files;
 
 // The answer for two texts.
 fn once(config: &[u8], recording: &[u8]) -> Told {
@@ -22,22 +23,37 @@ fn repeat(config: &[u8], recording: &[u8], times: usize) -> Told {
     once(config, recording)
 }
 
-fn run(config: &mut [u8], recording: &mut [u8], times: usize) {
-    let c = program_io::read_file(b"rte.cfg", config);
-    let Got::Bytes(n) = c else {
-        os::fail(b"rte.cfg");
-        return;
+fn run<R: Files + Input + Print, E: Print>(
+    rt: &R,
+    stderr: &E,
+    config: &mut [u8],
+    recording: &mut [u8],
+    times: usize,
+) {
+    let c = program_io::read_file(rt, b"rte.cfg", config);
+    let n = match c {
+        Got::Bytes(n) => n,
+        Got::Failed(e) => return program_io::fail(stderr, b"rte.cfg", e),
     };
-    let r = program_io::read_whole(STDIN_FILENO, recording);
-    let Got::Bytes(m) = r else {
-        os::fail(b"standard input");
-        return;
+    let r = program_io::read_whole(&mut rt.reader(), recording);
+    let m = match r {
+        Got::Bytes(m) => m,
+        Got::Failed(e) => return program_io::fail(stderr, b"standard input", e),
     };
-    mender::print_told(repeat(&config[..n], &recording[..m], times));
+    mender::print_told(
+        &mut io::writer(rt),
+        repeat(&config[..n], &recording[..m], times),
+    );
 }
 
-fn main() {
+fn main(rt: HostRuntime) {
     let mut config = [0u8; judging::CONFIG_ROOM];
     let mut recording = [0u8; judging::RECORDING_ROOM];
-    run(&mut config, &mut recording, os::arg_count());
+    run(
+        &rt,
+        &rt.stderr(),
+        &mut config,
+        &mut recording,
+        program_io::arg_count(&rt),
+    );
 }

@@ -8,9 +8,9 @@ ghost use Rattle.mender.specs.Told.{told_by, told_of, told_text, told_report, in
 
 use gaps::Mended;
 use judging::{MAX_CONFIG, MAX_RECORDING};
-use libc::STDOUT_FILENO;
 use reading::Outcome;
 use state::State;
+use std::io::Write;
 use wire::Wrote;
 
 // What came of two files: mended, with the steps of the text and the notes of the report; refused; a configuration that can't be used; or a file that is too long.
@@ -123,14 +123,14 @@ fn put_two(buf: &mut [u8], at: usize, word: &[u8], place: usize, k: u8) -> Wrote
 }
 
 // Prints the lines of the first notes of a report, as many as there are, each in one write; whether all went out.
-pub fn print_notes(report: &[u8], notes: usize) -> bool {
+pub fn print_notes<W: Write>(out: &mut W, report: &[u8], notes: usize) -> bool {
     let mut at: usize = 0;
     let mut left = notes;
     while left > 0 {
         if report.len() < at + gaps::NOTE {
             return false;
         }
-        if print_note(&report[at..]) {
+        if print_note(out, &report[at..]) {
             at = at + gaps::NOTE;
             left = left - 1;
         } else {
@@ -141,7 +141,7 @@ pub fn print_notes(report: &[u8], notes: usize) -> bool {
 }
 
 // The line of the note at the front of a report.
-fn print_note(report: &[u8]) -> bool {
+fn print_note<W: Write>(out: &mut W, report: &[u8]) -> bool {
     if report.len() < gaps::NOTE {
         return false;
     }
@@ -155,17 +155,19 @@ fn print_note(report: &[u8]) -> bool {
     let Wrote::To(n) = w else {
         return false;
     };
-    io::write_all(STDOUT_FILENO, &text[..n])
+    out.write_all(&text[..n]).is_ok()
 }
 
 // Prints the last line, in one write; whether all of it went out.
-pub fn print_told(told: Told) -> bool {
+pub fn print_told<W: Write>(out: &mut W, told: Told) -> bool
+    ensures { OnTrue result (Appends (W.contents out.old) (W.contents out.new) (told_line told)) }
+{
     let mut text = [0u8; 64];
     let w = put_told(&mut text, 0, told);
     let Wrote::To(n) = w else {
         return false;
     };
-    io::write_all(STDOUT_FILENO, &text[..n])
+    out.write_all(&text[..n]).is_ok()
 }
 
 // The bytes of a mended text of so many steps; none where the buffer is shorter.

@@ -3,31 +3,32 @@
 
 ghost use Rattle.std.specs.Prelude.{◌≤◌, length};
 
-use libc::{STDIN_FILENO, STDOUT_FILENO};
 use merging::Merged;
 use program_io::Got;
+use std::fs::File;
+use std::io::{self, Input, Write};
+use std::rt::Files;
 use wire::Wrote;
 
 // Prints a line, in one write.
-fn print(word: &[u8], numbers: [u64; 5], count: usize) {
+fn print<W: Write>(out: &mut W, word: &[u8], numbers: [u64; 5], count: usize) {
     let mut text = [0u8; 64];
     let w = lines::put_line(&mut text, 0, word, numbers, count);
     let Wrote::To(n) = w else {
         return;
     };
-    io::write_all(STDOUT_FILENO, &text[..n]);
+    let _ = out.write_all(&text[..n]);
 }
 
 // Writes the merged text, whole.
-fn keep(text: &[u8]) -> bool {
-    let fd = os::open_overwrite(b"merged.rec");
-    if fd < 0 {
-        os::fail(b"merged.rec");
-        return false;
+fn keep<R: Files, E: Print>(rt: &R, stderr: &E, text: &[u8]) -> bool {
+    match File::create(rt, "merged.rec") {
+        Ok(mut file) => file.write_all(text).is_ok(),
+        Err(e) => {
+            program_io::fail(stderr, b"merged.rec", e);
+            false
+        }
     }
-    let all = io::write_all(fd, text);
-    libc::close(fd);
-    all
 }
 
 // The bytes of a text of so many steps; none where the buffer is shorter.
@@ -45,36 +46,46 @@ fn size_of(steps: usize, out: &[u8]) -> usize
 }
 
 // Merges and prints. The line is the last to go out: where it is missing, there is no answer.
-fn tell(recording: &[u8]) {
+fn tell<R: Files + Print, E: Print>(rt: &R, stderr: &E, recording: &[u8]) {
     let mut out = [0u8; judging::RECORDING_ROOM];
     let merged = merging::merge(recording, &mut out);
     match merged {
         Merged::Whole(steps) => {
             let size = size_of(steps, &out);
-            if keep(&out[..size]) {
-                print(b"merged", [steps as u64, 0, 0, 0, 0], 1);
+            if keep(rt, stderr, &out[..size]) {
+                print(
+                    &mut io::writer(rt),
+                    b"merged",
+                    [steps as u64, 0, 0, 0, 0],
+                    1,
+                );
             }
         }
         Merged::Refused(place, k) => {
-            print(b"refused", [place as u64, k as u64, 0, 0, 0], 2);
+            print(
+                &mut io::writer(rt),
+                b"refused",
+                [place as u64, k as u64, 0, 0, 0],
+                2,
+            );
         }
     }
 }
 
-fn run(recording: &mut [u8]) {
-    let r = program_io::read_whole(STDIN_FILENO, recording);
-    let Got::Bytes(m) = r else {
-        os::fail(b"standard input");
-        return;
+fn run<R: Files + Input + Print, E: Print>(rt: &R, stderr: &E, recording: &mut [u8]) {
+    let r = program_io::read_whole(&mut rt.reader(), recording);
+    let m = match r {
+        Got::Bytes(m) => m,
+        Got::Failed(e) => return program_io::fail(stderr, b"standard input", e),
     };
     if m == recording.len() {
-        print(b"input too long", [0; 5], 0);
+        print(&mut io::writer(rt), b"input too long", [0; 5], 0);
         return;
     }
-    tell(&recording[..m]);
+    tell(rt, stderr, &recording[..m]);
 }
 
-fn main() {
+fn main(rt: HostRuntime) {
     let mut recording = [0u8; judging::RECORDING_ROOM];
-    run(&mut recording);
+    run(&rt, &rt.stderr(), &mut recording);
 }

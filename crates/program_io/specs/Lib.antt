@@ -1,2 +1,4 @@
 -- What came of reading an input.
 pub mod Got
+-- The line of one recording among several.
+pub mod Named

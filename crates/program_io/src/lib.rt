@@ -1,30 +1,38 @@
 // What the programs share: an input read to its end, and never half of it; and a line printed in one write.
 #![tactic(auto)]
 
-ghost use Rattle.std.specs.Prelude.{◌≡◌, length};
+ghost use Rattle.std.specs.Prelude.{◌≡◌, ◌≤◌, length};
 ghost use Rattle.judging.specs.Line.{line_of};
-ghost use Rattle.program_io.specs.Got.{Fits};
+ghost use Rattle.printing.specs.Printed.{printed_of};
+ghost use Rattle.program_io.specs.Got.{Fits, Reads, ReadsPart};
+ghost use Rattle.program_io.specs.Named.{named_line};
+ghost use Rattle.std.specs.Bool.{OnTrue};
+ghost use Rattle.std.specs.Io.KnownBytes.{Appends};
 
 use judging::Line;
-use libc::{STDIN_FILENO, STDOUT_FILENO};
+use std::env::{Env, FillError};
+use std::fs::File;
+use std::io::{self, Cursor, ErrorKind, Input, Read, Write};
+use std::rt::Files;
 use wire::Wrote;
 
-// How many bytes came before the end of the input, or that a read failed.
+// How many bytes came before the end of the input, or why a read failed.
 #[derive(Clone, Copy)]
 pub enum Got {
     Bytes(usize),
-    Failed,
+    Failed(io::Error),
 }
 
 // Reads until buf is full or the input ends, also from a pipe that gives little at a time.
-pub fn read_whole(fd: i32, buf: &mut [u8]) -> Got
-    ensures { Fits result (length buf.new) }
+pub fn read_whole<R: Read>(input: &mut R, buf: &mut [u8]) -> Got
+    ensures fits { Fits result (length buf.new) }
+    ensures bytes { Reads (R.remaining input.old) (R.remaining input.new) result buf.new }
 {
     let mut done: usize = 0;
     while done < buf.len() {
-        let more = read_part(fd, &mut buf[done..]);
+        let more = read_part(input, &mut buf[done..]);
         let Got::Bytes(n) = more else {
-            return Got::Failed;
+            return more;
         };
         if n == 0 {
             return Got::Bytes(done);
@@ -35,47 +43,47 @@ pub fn read_whole(fd: i32, buf: &mut [u8]) -> Got
 }
 
 // One read.
-fn read_part(fd: i32, buf: &mut [u8]) -> Got
+fn read_part<R: Read>(input: &mut R, buf: &mut [u8]) -> Got
     ensures fits { Fits result (length buf.new) }
+    ensures bytes { ReadsPart (R.remaining input.old) (R.remaining input.new) result buf.new }
     ensures buf_len_unchanged { length buf.new ≡ length buf.old }
 {
-    let got = libc::read(fd, buf);
-    if got < 0 {
-        return Got::Failed;
+    match input.read(buf) {
+        Ok(n) => Got::Bytes(n),
+        Err(e) => Got::Failed(e),
     }
-    Got::Bytes(io::count(got, buf))
+}
+
+// Opens a file to read it. A path is text: a name that is none can't be opened.
+fn open<R: Files>(rt: &R, name: &[u8]) -> io::Result<R::File> {
+    match std::str::from_utf8(name) {
+        Ok(path) => File::open(rt, path),
+        Err(_) => Err(io::Error::from(ErrorKind::InvalidFilename)),
+    }
 }
 
 // Reads a file by its name; one that is not there counts as empty.
-pub fn read_file(name: &[u8], buf: &mut [u8]) -> Got
+pub fn read_file<R: Files>(rt: &R, name: &[u8], buf: &mut [u8]) -> Got
     ensures { Fits result (length buf.new) }
 {
-    let fd = os::open_read(name);
-    if fd < 0 {
-        if os::errno() == libc::ENOENT {
-            return Got::Bytes(0);
-        }
-        return Got::Failed;
+    match open(rt, name) {
+        Ok(mut file) => read_whole(&mut file, buf),
+        Err(e) if e.kind() == ErrorKind::NotFound => Got::Bytes(0),
+        Err(e) => Got::Failed(e),
     }
-    let got = read_whole(fd, buf);
-    libc::close(fd);
-    got
 }
 
 // Reads what a name stands for: standard input for `-`, else the file, which has to be there.
-pub fn read_named(name: &[u8], buf: &mut [u8]) -> Got
+pub fn read_named<R: Files + Input>(rt: &R, name: &[u8], buf: &mut [u8]) -> Got
     ensures { Fits result (length buf.new) }
 {
     if is_dash(name) {
-        return read_whole(STDIN_FILENO, buf);
+        return read_whole(&mut rt.reader(), buf);
     }
-    let fd = os::open_read(name);
-    if fd < 0 {
-        return Got::Failed;
+    match open(rt, name) {
+        Ok(mut file) => read_whole(&mut file, buf),
+        Err(e) => Got::Failed(e),
     }
-    let got = read_whole(fd, buf);
-    libc::close(fd);
-    got
 }
 
 fn is_dash(name: &[u8]) -> bool {
@@ -85,19 +93,71 @@ fn is_dash(name: &[u8]) -> bool {
     false
 }
 
+// Room for a name: a path has fewer bytes.
+pub const NAME_ROOM: usize = 4096;
+
+// Puts the argument of this number at the start of buf, and returns its length: 0 where there is none, or it is longer than buf.
+pub fn arg<R: Env>(rt: &R, i: usize, buf: &mut [u8]) -> usize
+    ensures { result ≤ length buf.new }
+{
+    match rt.arg(i, buf) {
+        Ok(n) => n,
+        Err(_) => 0,
+    }
+}
+
+// How many arguments there are, the program's name among them.
+pub fn arg_count<R: Env>(rt: &R) -> usize {
+    for i in 0..usize::MAX {
+        if let Err(FillError::NotPresent) = rt.arg(i, &mut []) {
+            return i;
+        }
+    }
+    usize::MAX
+}
+
+// Says on standard error what failed, and why.
+pub fn fail<E: Print>(stderr: &E, what: &[u8], why: io::Error) {
+    let mut text = Cursor::new([0u8; 256]);
+    let _ = write!(text, "{why}");
+    let _ = stderr.write_all(what);
+    let _ = stderr.write_all(b": ");
+    let _ = stderr.write_all(reason_in(text.get_ref()));
+    let _ = stderr.write_all(b"\n");
+}
+
+// The words of an error, which end before its number in the system, or where a text ends in its buffer.
+fn reason_in(text: &[u8]) -> &[u8] {
+    for i in 0..text.len() {
+        if text[i] == 0 || text[i..].starts_with(b" (os error ") {
+            return &text[..i];
+        }
+    }
+    text
+}
+
 // Reads rte.cfg and a recording on standard input, judges it as often as is said, once at least, and prints the last line. On a read that fails it prints none, and says what failed on standard error.
-pub fn run(config: &mut [u8], recording: &mut [u8], times: u32) {
-    let c = read_file(b"rte.cfg", config);
-    let Got::Bytes(n) = c else {
-        os::fail(b"rte.cfg");
-        return;
+pub fn run<R: Files + Input + Print, E: Print>(
+    rt: &R,
+    stderr: &E,
+    config: &mut [u8],
+    recording: &mut [u8],
+    times: u32,
+) {
+    let c = read_file(rt, b"rte.cfg", config);
+    let n = match c {
+        Got::Bytes(n) => n,
+        Got::Failed(e) => return fail(stderr, b"rte.cfg", e),
     };
-    let r = read_whole(STDIN_FILENO, recording);
-    let Got::Bytes(m) = r else {
-        os::fail(b"standard input");
-        return;
+    let r = read_whole(&mut rt.reader(), recording);
+    let m = match r {
+        Got::Bytes(m) => m,
+        Got::Failed(e) => return fail(stderr, b"standard input", e),
     };
-    print(repeat(&config[..n], &recording[..m], times));
+    print(
+        &mut io::writer(rt),
+        repeat(&config[..n], &recording[..m], times),
+    );
 }
 
 // The line of two texts, found as often as is said.
@@ -113,17 +173,21 @@ fn repeat(config: &[u8], recording: &[u8], times: u32) -> Line
 }
 
 // Prints the line, in one write; whether all of it went out.
-pub fn print(line: Line) -> bool {
+pub fn print<W: Write>(out: &mut W, line: Line) -> bool
+    ensures { OnTrue result (Appends (W.contents out.old) (W.contents out.new) (printed_of line)) }
+{
     let mut text = [0u8; 64];
     let w = printing::put_printed(&mut text, 0, line);
     let Wrote::To(n) = w else {
         return false;
     };
-    io::write_all(STDOUT_FILENO, &text[..n])
+    out.write_all(&text[..n]).is_ok()
 }
 
 // Prints the line behind a name, a colon and a space, in one write; whether all of it went out.
-pub fn print_named(name: &[u8], line: Line) -> bool {
+pub fn print_named<W: Write>(out: &mut W, name: &[u8], line: Line) -> bool
+    ensures { OnTrue result (Appends (W.contents out.old) (W.contents out.new) (named_line name.now line)) }
+{
     let mut text = [0u8; 4200];
     let w = wire::write(&mut text, 0, name);
     let Wrote::To(k) = w else {
@@ -137,5 +201,5 @@ pub fn print_named(name: &[u8], line: Line) -> bool {
     let Wrote::To(n) = u else {
         return false;
     };
-    io::write_all(STDOUT_FILENO, &text[..n])
+    out.write_all(&text[..n]).is_ok()
 }

@@ -1,0 +1,2 @@
+-- What reads took, one after the other.
+mod Reading

@@ -1,0 +1,10 @@
+-- `text::making::make_bytes` is safe, and ends.
+-- Assumes nothing.
+use Rattle.std.proofs.Common.{◌≡◌, length}
+use Rattle.text.proofs.making.make_bytes.Given as goal
+
+abbrev pub invariant-loop-left : goal.invariant-loop-left
+invariant-loop-left l = length l.out ≡ length l.initial.out
+
+abbrev pub decreases-loop-left : goal.decreases-loop-left
+decreases-loop-left l = l.left
