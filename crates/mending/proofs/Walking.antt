@@ -91,9 +91,9 @@ module _ (cfg : Config) (st : State) (t : List ℕ) (reached : State) (at : ℕ)
 
 -- ---- a field that is none
 
--- a field whose tag is not that of a step is all that is left
-pub no_step : (t : List ℕ) (f : Field) → OneOf (1 ∷ 2 ∷ []) (tag_of the_type f) → f ≡ field_of t → whole_of t ≡ record { steps = []; last = f }
-no_step t (IsStep x n) p e = ⊎_elim (λ q. absurd (omega arith)) (λ q. absurd (omega arith)) p
+-- a field that is no step is all that is left
+pub no_step : (t : List ℕ) (f : Field) → ((x : Step) (n : ℕ) → f ≡ IsStep x n → ⊥) → f ≡ field_of t → whole_of t ≡ record { steps = []; last = f }
+no_step t (IsStep x n) p e = absurd (p x n refl)
 no_step t End p e = whole-end t (sym e)
 no_step t (NoField n k) p e = whole-refused t k n (sym e)
 
