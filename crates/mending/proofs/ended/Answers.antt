@@ -1,6 +1,5 @@
 -- `ended` meets its contract.
 -- Assumes nothing.
-use borrow.Author.Rules.{rules}
 use Rattle.mending.proofs.ended.Goals as goal
 
 pub returns-in-Step : goal.returns-in-Step

@@ -1,6 +1,5 @@
 -- `mending::mend` meets its contract.
 -- Assumes nothing.
-use borrow.Author.Rules.{rules}
 use mathlib.Core.Path.{sym, ◌∙◌}
 use Rattle.mending.proofs.Answering.{sound-answers, sound-writes, sound-reports, unsound-answers}
 use Rattle.mending.proofs.mend.Goals as goal

@@ -1,6 +1,5 @@
 -- `picks_of` meets its contract.
 -- Assumes nothing.
-use borrow.Author.Rules.{rules}
 use Prim.Native.Nat.{◌*◌}
 use native.Mathlib.Nat.{one-le-mul}
 use mathlib.Core.Path.{sym, ◌∙◌}

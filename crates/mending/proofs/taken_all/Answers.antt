@@ -1,9 +1,7 @@
 -- `taken_all` meets its contract. The choices that are left lead from the state reached to where all lead from the first.
 -- Assumes nothing.
-use Prim.Native.Nat.{◌≤◌}
-use mathlib.Core.Path.{◌≡◌, refl, sym, ◌∙◌}
+use mathlib.Core.Path.{refl, sym, ◌∙◌}
 use native.Mathlib.Omega.{arith}
-use Rattle.mending.specs.Going.{picked, taken_all}
 use Rattle.mending.proofs.Ranking.{taken_none, taken_next}
 use Rattle.mending.proofs.taken_all.Goals as goal
 

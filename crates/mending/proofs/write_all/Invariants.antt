@@ -1,14 +1,8 @@
 -- `write_all` meets its contract: the turns so far are written, each with its notes (`Writing`).
 -- Assumes nothing.
 use Prim.Native.Nat.{◌-◌}
-use mathlib.Core.Path.{sym, ap, ◌∙◌}
-use native.Mathlib.Omega.{arith}
-use borrow.Author.Rules.{rules}
 use lib.ListN.{length}
-use Rattle.recording.proofs.Loops.{step_room}
-use Rattle.mending.specs.declared.Crossed.{Crossed}
-use Rattle.mending.proofs.Walking.{no_step}
-use Rattle.mending.proofs.Writing.{Writing, writing-starts, writing-room, writing-ended, writing-kept, writing-gap, writing-filled, writing_more}
+use Rattle.mending.proofs.Writing.{Writing}
 use Rattle.mending.proofs.write_all.Given as goal
 
 abbrev pub invariant-loop-x : goal.invariant-loop-x

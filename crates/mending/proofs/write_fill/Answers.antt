@@ -1,7 +1,7 @@
 -- `write_fill` meets its contract: so many steps and notes of the fill are put (`Filling`).
 -- Assumes nothing.
 use native.Mathlib.Omega.{arith}
-use Rattle.mending.proofs.Filling.{Filling, filling-starts, filling-next, filling-over}
+use Rattle.mending.proofs.Filling.{filling-starts, filling-next, filling-over}
 use Rattle.mending.proofs.write_fill.Goals as goal
 
 pub loop-left-init : goal.loop-left-init

@@ -1,7 +1,6 @@
 -- `write_fill` meets its contract: so many steps and notes of the fill are put (`Filling`).
 -- Assumes nothing.
-use native.Mathlib.Omega.{arith}
-use Rattle.mending.proofs.Filling.{Filling, filling-starts, filling-next, filling-over}
+use Rattle.mending.proofs.Filling.{Filling}
 use Rattle.mending.proofs.write_fill.Given as goal
 
 abbrev pub invariant-loop-left : goal.invariant-loop-left

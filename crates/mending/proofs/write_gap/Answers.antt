@@ -1,6 +1,5 @@
 -- `write_gap` meets its contract.
 -- Assumes nothing.
-use borrow.Author.Rules.{rules}
 use native.Mathlib.Omega.{arith}
 use Rattle.mending.proofs.Filling.{gap-room, gap_more, gap-crossed, gap-text, gap-notes}
 use Rattle.mending.proofs.write_gap.Goals as goal
