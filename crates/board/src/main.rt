@@ -12,12 +12,7 @@ use std::io::{self, Input};
 use std::rt::Files;
 
 // The file that an argument names, read into buf.
-fn read_arg<R: Env + Files + Input, E: Print>(
-    rt: &R,
-    stderr: &E,
-    i: usize,
-    buf: &mut [u8],
-) -> Got
+fn read_arg<R: Env + Files + Input, E: Print>(rt: &R, stderr: &E, i: usize, buf: &mut [u8]) -> Got
     ensures { Fits result (length buf.new) }
 {
     let mut name = [0u8; program_io::NAME_ROOM];
