@@ -18,24 +18,20 @@ die() { # STATUS WORDS
     exit "$ended"
 }
 
-# The toolchain: its folder, its identity, and what runs its programs here. Programs are made for x86-64; on another
-# processor the kit's emulator runs them, under the kit's loader.
+# The toolchain and its identity. Its programs are for Linux on x86-64, and run as they are.
 find_kit() {
     rt=$(command -v rt) || die "$UNBUILT" 'there is no rt on the path: the Rattle toolchain is needed, to build and to run. Nothing was judged'
-    kit=${RATTLE_HOME:-$(dirname "$(dirname "$(readlink -f "$rt")")")}
+    kit=$(dirname "$(dirname "$(readlink -f "$rt")")")
     read -r kit_id <"$kit/KIT-ID" || die "$UNBUILT" "the toolchain at $kit has no KIT-ID. Nothing was judged"
-    library=$kit/on/$(uname -m)/toolchain/lib
-    emulator=$kit/on/$(uname -m)/toolchain/bin/qemu-x86_64
-    [ -x "$emulator" ] || emulator=''
 }
 
-# One number for the toolchain and for every source, by their contents.
+# One number for the toolchain and for every source, by their contents. What rt keeps in crates/NAME/out is no source.
 stamp_of() {
     (
         cd "$top" || exit 1
         {
             printf '%s\n' "$kit_id"
-            find -L crates.txt crates \( -name '*.rt' -o -name '*.antt' -o -name crates.txt \) -print0 | LC_ALL=C sort -z | xargs -0 sha256sum
+            find -L crates.txt crates -path 'crates/*/out' ! -path 'crates/*/*/out' -prune -o \( -name '*.rt' -o -name '*.antt' -o -name crates.txt \) -print0 | LC_ALL=C sort -z | xargs -0 sha256sum
         } | sha256sum | cut -c1-64
     )
 }
@@ -58,11 +54,11 @@ progress() { # NAME CRATES
     done_crates=0
     while IFS= read -r line; do
         case $line in
-        'rt: '*' proved ('*)
+        'crate '*': modules '*)
             done_crates=$((done_crates + 1))
             if [ -t 2 ]; then
-                crate=${line#rt: }
-                printf '\r%s: proving %s, crate %s of %s: %-12s' "$self" "$1" "$done_crates" "$2" "${crate%% *}" >&2
+                crate=${line#crate }
+                printf '\r%s: proving %s, crate %s of %s: %-12s' "$self" "$1" "$done_crates" "$2" "${crate%%:*}" >&2
             fi
             ;;
         esac
@@ -71,7 +67,7 @@ progress() { # NAME CRATES
     if [ -t 2 ]; then printf '\n' >&2; fi
 }
 
-# Proves and builds a program, one build at a time in this folder, and keeps it under its stamp.
+# Proves and builds a program, one build at a time in this folder, and keeps it under its stamp. What .ci/run kept of the same stamp is proved and built.
 build() { # NAME
     command -v flock >/dev/null || die "$UNBUILT" 'there is no flock, which keeps two builds apart. Nothing was judged'
     exec 9<"$top"
@@ -87,17 +83,22 @@ build() { # NAME
     if ! mkdir -p "$top/target/run/$stamp" 2>/dev/null || ! [ -w "$top/target/run/$stamp" ]; then
         die "$UNBUILT" "the program is not built from these sources, and this user may not write $top/target: let its owner run ./$self --build. Nothing was judged"
     fi
-    if [ -t 2 ]; then say "the program $1 is not built from these sources yet. It is proved first, which takes some minutes the first time"; fi
-    said=$(cd "$top" && { rt check "$1" 9<&- 2>&1; printf 'status %s\n' "$?"; } | progress "$1" "$(count_crates "$1")")
-    case $said in
-    *'status 0') ;;
-    *)
-        printf '%s\n' "$said" | tail -n 6 >&2
-        die "$UNBUILT" 'the program was not proved, so it was not built. Nothing was judged'
-        ;;
-    esac
-    [ "$(stamp_of)" = "$stamp" ] || die "$UNBUILT" 'the sources changed while they were proved: run it again. Nothing was judged'
-    if ! cp "$top/target/bin/$1" "$program.$$" || ! mv "$program.$$" "$program"; then
+    made=$top/target/proved/$stamp/$1
+    if ! [ -x "$made" ]; then
+        if [ -t 2 ]; then say "the program $1 is not built from these sources yet. It is proved first, which takes some minutes the first time"; fi
+        # rt run proves it, builds it and then runs it, on nothing here: with no words and no input each program ends at once and writes no file
+        said=$({ cd "$top/crates/$1" && rt run </dev/null 9<&- 2>&1; printf 'status %s\n' "$?"; } | progress "$1" "$(count_crates "$1")")
+        case $said in
+        *'rt: running out/'*'status 0') ;;
+        *)
+            printf '%s\n' "$said" | tail -n 6 >&2
+            die "$UNBUILT" 'the program was not proved, so it was not built. Nothing was judged'
+            ;;
+        esac
+        [ "$(stamp_of)" = "$stamp" ] || die "$UNBUILT" 'the sources changed while they were proved: run it again. Nothing was judged'
+        made=$top/crates/$1/out/$1
+    fi
+    if ! cp "$made" "$program.$$" || ! mv "$program.$$" "$program"; then
         die "$UNBUILT" "the program could not be kept under $top/target. Nothing was judged"
     fi
     exec 9<&-
@@ -112,12 +113,25 @@ have() { # NAME
     [ -x "$program" ] || build "$1"
 }
 
+# After rt ci has passed: keeps the programs that it built, whole or not at all, under the stamp of the sources that it proved.
+keep_proved() { # STAMP
+    find_kit
+    [ "$(stamp_of)" = "$1" ] || die "$UNBUILT" 'the sources changed while they were proved'
+    rm -rf "$top/target/proved"
+    mkdir -p "$top/target/proved/new" || exit
+    for source in "$top"/crates/*/src/main.rt; do
+        crate=$(basename "${source%/src/main.rt}")
+        cp "$top/crates/$crate/out/$crate" "$top/target/proved/new/" || exit
+    done
+    mv "$top/target/proved/new" "$top/target/proved/$1"
+}
+
 # Runs it. A pipe that does not block is opened anew, so that a read waits.
 run() { # ARGUMENTS
     if [ -p /dev/stdin ] && (: </dev/stdin) 2>/dev/null; then
-        ${emulator:+"$emulator"} "$library/ld-linux-x86-64.so.2" --library-path "$library" "$program" "$@" </dev/stdin
+        "$program" "$@" </dev/stdin
     else
-        ${emulator:+"$emulator"} "$library/ld-linux-x86-64.so.2" --library-path "$library" "$program" "$@"
+        "$program" "$@"
     fi
 }
 

@@ -132,6 +132,7 @@ fn judged_line(cfg: Config, s: &[u8]) -> Line
 }
 
 // The line for the bytes of a configuration and of a recording.
+#[tactic(auto, unfolding(crate::specs::Line::line_of, crate::specs::Line::read_line))]
 pub fn line_of(config: &[u8], recording: &[u8]) -> Line
     ensures { result ≡ line_of config.now recording.now }
 {

@@ -3,11 +3,8 @@
 use Prim.Native.Nat.{ℕ, ◌+◌, ◌*◌, ◌≤◌, ◌<◌}
 use mathlib.Core.Bool.{Bool, true, false}
 use mathlib.Core.List.{List, [], ◌∷◌, ◌++◌, append_assoc, append-nil}
-use mathlib.Core.Logic.{⊎_elim}
 use mathlib.Core.Path.{◌≡◌, refl, sym, ap, ap₂, ◌∙◌, subst}
 use native.Mathlib.Omega.{arith}
-use types.Run.{OneOf}
-use denote.Enum.Declared.{tag_of}
 use lib.Dec.{eqb}
 use lib.ListN.{length, get_or, drop, length-append}
 use lib.Seq.{drop-drop}
@@ -16,7 +13,6 @@ use Rattle.numbers.specs.Tags.{step_size}
 use Rattle.laws.specs.Choice.{pick}
 use Rattle.faces.specs.Types.{Value, Step, Taken, Refused as Barred, Config, State, Stepped}
 use Rattle.effects.specs.Step.{inner_of}
-use Rattle.recording.specs.contracts.Field.{the_type}
 use Rattle.recording.specs.declared.Field.{Field}
 use Rattle.recording.specs.declared.Field.TheVariants.{Step as IsStep, End, Refused as NoField}
 use Rattle.recording.specs.Recording.{field_of}
@@ -91,9 +87,9 @@ module _ (cfg : Config) (st : State) (t : List ℕ) (reached : State) (at : ℕ)
 
 -- ---- a field that is none
 
--- a field whose tag is not that of a step is all that is left
-pub no_step : (t : List ℕ) (f : Field) → OneOf (1 ∷ 2 ∷ []) (tag_of the_type f) → f ≡ field_of t → whole_of t ≡ record { steps = []; last = f }
-no_step t (IsStep x n) p e = ⊎_elim (λ q. absurd (omega arith)) (λ q. absurd (omega arith)) p
+-- a field that is no step is all that is left
+pub no_step : (t : List ℕ) (f : Field) → ((x : Step) (n : ℕ) → f ≡ IsStep x n → ⊥) → f ≡ field_of t → whole_of t ≡ record { steps = []; last = f }
+no_step t (IsStep x n) p e = absurd (p x n refl)
 no_step t End p e = whole-end t (sym e)
 no_step t (NoField n k) p e = whole-refused t k n (sym e)
 
