@@ -1,0 +1,10 @@
+-- `explain::sections::show_allowed` is safe, and ends.
+-- Assumes nothing.
+use Prim.Native.Nat.{◌-◌, ◌≤◌}
+use Rattle.explain.proofs.sections.show_allowed.Given as goal
+
+abbrev pub invariant-loop-i : goal.invariant-loop-i
+invariant-loop-i g l = l.i ≤ 32
+
+abbrev pub decreases-loop-i : goal.decreases-loop-i
+decreases-loop-i g l = 32 - l.i

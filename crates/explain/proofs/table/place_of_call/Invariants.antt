@@ -1,0 +1,10 @@
+-- `explain::table::place_of_call` is safe, and ends.
+-- Assumes nothing.
+use Prim.Native.Nat.{◌-◌, ◌≤◌}
+use Rattle.explain.proofs.table.place_of_call.Given as goal
+
+abbrev pub invariant-loop-k : goal.invariant-loop-k
+invariant-loop-k l = l.k ≤ 4096
+
+abbrev pub decreases-loop-k : goal.decreases-loop-k
+decreases-loop-k l = 4096 - l.k
