@@ -2,9 +2,8 @@
 -- Assumes nothing.
 use Rattle.std.specs.Prelude.{ℕ, ◌+◌, Bool, not, List, [], ◌∷◌, ◌++◌, ltb, leb, eqb, length, get_or}
 use Rattle.numbers.specs.Refusals.{bad_field}
-use Rattle.forms.specs.Numbers.{no_short}
 use Rattle.numbers.specs.Tags.{edition_tag, edition_length, end_tag, end_length, field_head}
-use Rattle.forms.specs.Numbers.{short_edition, edition_size, short_tag}
+use Rattle.forms.specs.Numbers.{no_short, short_edition, edition_size, short_tag}
 use Rattle.laws.specs.Choice.{pick, both, either, bit, all_of}
 use Rattle.values.specs.declared.Value.{Value}
 use Rattle.values.specs.declared.Step.{Step}

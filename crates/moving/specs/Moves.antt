@@ -2,8 +2,7 @@
 -- Assumes nothing.
 use Rattle.std.specs.Prelude.{ℕ, ◌+◌, true, List, [], ◌∷◌, ◌++◌, ◌⊎◌, ◌≡◌, leb, length, drop}
 use Rattle.numbers.specs.Refusals.{bad_field, no_room}
-use Rattle.forms.specs.Numbers.{no_short}
-use Rattle.forms.specs.Numbers.{edition_size}
+use Rattle.forms.specs.Numbers.{no_short, edition_size}
 use Rattle.laws.specs.Choice.{pick, both}
 use Rattle.values.specs.declared.Step.{Step}
 use Rattle.wire.specs.Bytes.{end_bytes, put_at}
