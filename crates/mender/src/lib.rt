@@ -4,6 +4,8 @@
 ghost use Rattle.std.specs.Prelude.{◌≡◌, [], ◌∷◌, length, ◌*◌, ◌+◌, ◌≤◌};
 ghost use Rattle.wire.specs.Bytes.{Written};
 ghost use Rattle.lines.specs.Lines.{line_bytes};
+ghost use Rattle.std.specs.Bool.{OnTrue};
+ghost use Rattle.std.specs.Io.KnownBytes.{Appends};
 ghost use Rattle.mender.specs.Told.{told_by, told_of, told_text, told_report, insert_word, gap_word, note_line, told_line, text_size};
 
 use gaps::Mended;
@@ -35,6 +37,7 @@ fn told_by(m: Mended) -> Told
 }
 
 // Mends a recording under a configuration, both as bytes, from the start state.
+#[tactic(auto, unfolding(crate::specs::Told::told_of, crate::specs::Told::told_text, crate::specs::Told::told_report))]
 pub fn mend_files(config: &[u8], recording: &[u8], out: &mut [u8], report: &mut [u8]) -> Told
     ensures value { result ≡ told_of config.now recording.now out.old report.old }
     ensures out_after { out.new ≡ told_text config.now recording.now out.old report.old }

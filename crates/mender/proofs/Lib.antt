@@ -1,2 +1,0 @@
--- What the mender answers for two files.
-pub mod Telling
