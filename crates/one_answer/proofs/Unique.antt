@@ -690,3 +690,37 @@ causes-cause-of κs a x y s t = same
 
 pub causes-allowed : One Rattle.causes.proofs.allowed.Kinds.ps Rattle.causes.proofs.allowed.Kinds.r Rattle.causes.proofs.allowed.Reads.Post
 causes-allowed κs a x y s t = same
+
+-- ---- forms
+
+pub forms-has-short : One Rattle.forms.proofs.has_short.Kinds.ps Rattle.forms.proofs.has_short.Kinds.r Rattle.forms.proofs.has_short.Reads.Post
+forms-has-short κs a x y s t = same
+
+pub forms-read-short : One Rattle.forms.proofs.read_short.Kinds.ps Rattle.forms.proofs.read_short.Kinds.r Rattle.forms.proofs.read_short.Reads.Post
+forms-read-short κs a x y s t = same
+
+pub forms-is-short : One Rattle.forms.proofs.is_short.Kinds.ps Rattle.forms.proofs.is_short.Kinds.r Rattle.forms.proofs.is_short.Reads.Post
+forms-is-short κs a x y s t = same
+
+pub forms-is-headed : One Rattle.forms.proofs.is_headed.Kinds.ps Rattle.forms.proofs.is_headed.Kinds.r Rattle.forms.proofs.is_headed.Reads.Post
+forms-is-headed κs a x y s t = same
+
+pub forms-short-size : One Rattle.forms.proofs.short_size.Kinds.ps Rattle.forms.proofs.short_size.Kinds.r Rattle.forms.proofs.short_size.Reads.Post
+forms-short-size κs a x y s t = same
+
+pub forms-write-header : Lent Rattle.forms.proofs.write_header.Kinds.ps Rattle.forms.proofs.write_header.Kinds.r Rattle.forms.proofs.write_header.Reads.Post (λ κs s. s.0.now)
+forms-write-header κs a x y s t p q = written_once _ _ _ _ _ _ _ p q
+
+pub forms-write-short : Lent Rattle.forms.proofs.write_short.Kinds.ps Rattle.forms.proofs.write_short.Kinds.r Rattle.forms.proofs.write_short.Reads.Post (λ κs s. s.0.now)
+forms-write-short κs a x y s t p q = (same p.0 q.0, same p.1 q.1)
+
+-- ---- moving
+
+pub moving-shorten : Lent Rattle.moving.proofs.shorten.Kinds.ps Rattle.moving.proofs.shorten.Kinds.r Rattle.moving.proofs.shorten.Reads.Post (λ κs s. s.1.0.now)
+moving-shorten κs a x y s t p q = (same p.0 q.0, same p.1 q.1)
+
+pub moving-lengthen : Lent Rattle.moving.proofs.lengthen.Kinds.ps Rattle.moving.proofs.lengthen.Kinds.r Rattle.moving.proofs.lengthen.Reads.Post (λ κs s. s.1.0.now)
+moving-lengthen κs a x y s t p q = (same p.0 q.0, same p.1 q.1)
+
+pub moving-stretch : Lent Rattle.moving.proofs.stretch.Kinds.ps Rattle.moving.proofs.stretch.Kinds.r Rattle.moving.proofs.stretch.Reads.Post (λ κs s. s.1.0.now)
+moving-stretch κs a x y s t p q = (same p.0 q.0, same p.1 q.1)
