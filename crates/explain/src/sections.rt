@@ -1,6 +1,6 @@
 // What stands around the table: what is allowed, where it stands in the file, a guess at what was lost, and the calls of an accepted recording.
 use crate::calls::{Calls, Told, later, waiter};
-use crate::putting::{byte_at, put, put_byte, put_bytes, put_number, put_with, say, show};
+use crate::putting::{byte_at, put, put_byte, put_bytes, put_with, say, show};
 use crate::words::{is_slots, put_answer, put_count, put_deed, put_part, put_slot, put_value};
 use config::Config;
 use gaps::Mended;

@@ -18,7 +18,7 @@ ghost use Rattle.program_io.specs.Got.{Fits};
 use making::Made;
 use program_io::Got;
 use std::env::Env;
-use std::io::{self, Error, ErrorKind, Input, Write};
+use std::io::{Error, ErrorKind, Input, Write};
 use std::rt::Files;
 use taking::Number;
 use tripping::Tally;

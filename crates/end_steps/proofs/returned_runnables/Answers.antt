@@ -4,7 +4,7 @@ use Rattle.std.proofs.Common.{◌≡◌, length, ◌∙◌, arith, rules}
 use Rattle.config.specs.Tables.{runnable_conf_in}
 use Rattle.laws.proofs.Places.{each_none, length-mapped}
 use Rattle.effects.specs.Steps as rules
-use Rattle.effects.specs.Steps.{is_returned, returned_runnables, woken}
+use Rattle.effects.specs.Steps.{is_returned, returned_runnables}
 use Rattle.shared_steps.proofs.Stopping.{each-put, each_within, runnables-made}
 use Rattle.end_steps.proofs.returned_runnables.Goals as goal
 
