@@ -37,23 +37,23 @@ fn is_bad(kind: u8, number: u32) -> bool {
     !v.is_good()
 }
 
-fn say_value(kind: u8, number: u32, argument: bool) {
+fn say_value<R: Print>(rt: &R, kind: u8, number: u32, argument: bool) {
     if is_bad(kind, number) {
         let mut line = [0u8; 256];
         let a = put_whose(&mut line, 0, argument);
         let b = put_with(&mut line, a, b"", kind as u64);
         let c = put_bad(&mut line, b, kind, number);
-        show(&line, c);
+        show(rt, &line, c);
     }
 }
 
 // A step field with all its bytes: one of its values is bad.
-fn say_step(s: &[u8], from: usize) {
+fn say_step<R: Print>(rt: &R, s: &[u8], from: usize) {
     if 65536 < from {
         return;
     }
-    say_value(byte_at(s, from + 6), byte_number(s, from + 7), true);
-    say_value(byte_at(s, from + 11), byte_number(s, from + 12), false);
+    say_value(rt, byte_at(s, from + 6), byte_number(s, from + 7), true);
+    say_value(rt, byte_at(s, from + 11), byte_number(s, from + 12), false);
 }
 
 fn byte_number(s: &[u8], at: usize) -> u32 {
@@ -68,18 +68,18 @@ fn byte_number(s: &[u8], at: usize) -> u32 {
     )
 }
 
-fn say_length(tag: u8, said: usize, want: usize) {
+fn say_length<R: Print>(rt: &R, tag: u8, said: usize, want: usize) {
     let mut line = [0u8; 256];
     let mut at = put(&mut line, 0, b"Its length says ");
     at = put_number(&mut line, at, said as u64);
     at = put_with(&mut line, at, b"; a field with tag ", tag as u64);
     at = put_with(&mut line, at, b" has ", want as u64);
     at = put(&mut line, at, b" bytes behind its head of three.\n");
-    show(&line, at);
+    show(rt, &line, at);
 }
 
 // What is wrong with the field of a recording at a place of the text.
-fn say_field(s: &[u8], from: usize) {
+fn say_field<R: Print>(rt: &R, s: &[u8], from: usize) {
     if 65536 < from {
         return;
     }
@@ -89,12 +89,16 @@ fn say_field(s: &[u8], from: usize) {
     let left = s.len() - from;
     if left == 0 {
         say(
+            rt,
             b"The file ends here, without the end field (7f 00 00): it was cut off, or its end was never written.\n",
         );
         return;
     }
     if left < 3 {
-        say(b"The file ends in the middle of a field's head: it was cut off.\n");
+        say(
+            rt,
+            b"The file ends in the middle of a field's head: it was cut off.\n",
+        );
         return;
     }
     let tag = byte_at(s, from);
@@ -103,33 +107,36 @@ fn say_field(s: &[u8], from: usize) {
         if size == 13 {
             if left < 16 {
                 say(
+                    rt,
                     b"The file ends in the middle of this step, which has 16 bytes: it was cut off.\n",
                 );
                 return;
             }
-            say_step(s, from);
+            say_step(rt, s, from);
             return;
         }
-        say_length(0x40, size, 13);
+        say_length(rt, 0x40, size, 13);
         return;
     }
     if tag == 0x7f {
         if size == 0 {
             say(
+                rt,
                 b"The end field stands here, and more bytes follow it: two recordings in one file, or one sent twice?\n",
             );
             return;
         }
-        say_length(0x7f, size, 0);
+        say_length(rt, 0x7f, size, 0);
         return;
     }
     say(
+        rt,
         b"It begins with neither 40 (a step) nor 7f (the end): is this a recording at all, or were the two files swapped?\n",
     );
 }
 
 // The damaged field of a recording behind so many accepted steps.
-pub(crate) fn show_recording(s: &[u8], steps: usize, place: usize) {
+pub(crate) fn show_recording<R: Print>(rt: &R, s: &[u8], steps: usize, place: usize) {
     if 4096 < steps {
         return;
     }
@@ -141,9 +148,10 @@ pub(crate) fn show_recording(s: &[u8], steps: usize, place: usize) {
     at = put(&mut line, at, b" (counted from 0):");
     at = put_bytes(&mut line, at, s, from, s.len());
     at = put(&mut line, at, b"\n");
-    show(&line, at);
-    say_field(s, from);
+    show(rt, &line, at);
+    say_field(rt, s, from);
     say(
+        rt,
         b"Expected: 40 00 0d and 13 bytes (code, who, what, argument, claim), or the end 7f 00 00 and nothing behind it.\n",
     );
 }
@@ -429,7 +437,7 @@ fn put_field(out: &mut [u8], at: usize, s: &[u8], from: usize, end: usize) -> us
 }
 
 // The refused field of a configuration.
-pub(crate) fn show_config(s: &[u8], place: usize, k: u8) {
+pub(crate) fn show_config<R: Print>(rt: &R, s: &[u8], place: usize, k: u8) {
     let from = field_start(s, place);
     let end = next_field(s, from);
     let tag = byte_at(s, from);
@@ -452,5 +460,5 @@ pub(crate) fn show_config(s: &[u8], place: usize, k: u8) {
     at = put(&mut line, at, b"\nExpected: ");
     at = put_form(&mut line, at, tag);
     at = put(&mut line, at, b".\n");
-    show(&line, at);
+    show(rt, &line, at);
 }

@@ -22,6 +22,9 @@ use program_io::Got;
 use putting::{put, put_with, say, show};
 use recording::Field;
 use state::State;
+use std::env::Env;
+use std::io::Input;
+use std::rt::Files;
 use table::{Focus, Plan, Walk, Widths};
 use values::{Step, Value};
 use whys::Cause;
@@ -102,7 +105,7 @@ fn focused(f: Focus, c: Cause) -> Focus {
 
 // ---- a refused step
 
-fn show_verdict(s: &[u8], names: &[u8], x: Step, c: Cause, place: usize, k: u8) {
+fn show_verdict<R: Print>(rt: &R, s: &[u8], names: &[u8], x: Step, c: Cause, place: usize, k: u8) {
     let mut line = [0u8; 1024];
     let mut at = put_with(&mut line, 0, b"REFUSED at step ", place as u64);
     at = put_with(&mut line, at, b" of ", (s.len() / 16) as u64);
@@ -112,7 +115,7 @@ fn show_verdict(s: &[u8], names: &[u8], x: Step, c: Cause, place: usize, k: u8) 
     at = put(&mut line, at, b"). ");
     at = put_headline(&mut line, at, names, x, c);
     at = put(&mut line, at, b"\n\n");
-    show(&line, at);
+    show(rt, &line, at);
 }
 
 // Who says or does what it can't.
@@ -145,14 +148,23 @@ fn put_claimed(out: &mut [u8], at: usize, names: &[u8], x: Step, c: Cause) -> us
 }
 
 // Why, with what the calls before it came to.
-fn show_why(names: &[u8], st: State, t: calls::Calls, f: Focus, x: Step, c: Cause, k: u8) {
+fn show_why<R: Print>(
+    rt: &R,
+    names: &[u8],
+    st: State,
+    t: calls::Calls,
+    f: Focus,
+    x: Step,
+    c: Cause,
+    k: u8,
+) {
     let mut line = [0u8; 2048];
     let mut at = put_with(&mut line, 0, b"\nWhy: rule ", k as u64);
     at = put(&mut line, at, b": ");
     at = reasons::put_cause(&mut line, at, names, x, c);
     at = sections::put_story(&mut line, at, names, st, t, f.operation);
     at = put(&mut line, at, b"\n");
-    show(&line, at);
+    show(rt, &line, at);
 }
 
 fn plan_of(a: Asked, steps: usize, f: Focus) -> Plan {
@@ -191,22 +203,23 @@ fn narrowed(p: Plan, w: Widths) -> Plan {
 }
 
 // The table of accepted steps: counted, measured, shown.
-fn show_table(cfg: Config, names: &[u8], s: &[u8], p: Plan, ops: &[u8]) -> Walk {
+fn show_table<R: Print>(rt: &R, cfg: Config, names: &[u8], s: &[u8], p: Plan, ops: &[u8]) -> Walk {
     let w = table::NO_WIDTHS;
     let q = cut(p, table::bearing_of(s, p, ops));
-    let measured = table::go_through(cfg, names, s, q, ops, table::new_walk(cfg, false, w));
+    let measured = table::go_through(rt, cfg, names, s, q, ops, table::new_walk(cfg, false, w));
     let u = measured.widths;
     let r = narrowed(q, u);
     if p.page {
-        page::show_head(names, u);
+        page::show_head(rt, names, u);
     } else {
-        table::show_head(names, r, u);
+        table::show_head(rt, names, r, u);
     }
-    table::go_through(cfg, names, s, r, ops, table::new_walk(cfg, true, u))
+    table::go_through(rt, cfg, names, s, r, ops, table::new_walk(cfg, true, u))
 }
 
 // What stands around the table of a refused step.
-fn show_reasons(
+fn show_reasons<R: Print>(
+    rt: &R,
     cfg: Config,
     s: &[u8],
     names: &[u8],
@@ -218,17 +231,18 @@ fn show_reasons(
     k: u8,
 ) {
     let c = causes::cause_of(cfg, st, x);
-    start_text(a);
-    show_why(names, st, t, focused(focus_of(st, x), c), x, c, k);
-    sections::show_allowed(cfg, st, names);
-    sections::show_place(s, place);
-    sections::show_rest(s, place);
-    sections::show_guess(cfg, st, names, x);
-    end_text(a);
+    start_text(rt, a);
+    show_why(rt, names, st, t, focused(focus_of(st, x), c), x, c, k);
+    sections::show_allowed(rt, cfg, st, names);
+    sections::show_place(rt, s, place);
+    sections::show_rest(rt, s, place);
+    sections::show_guess(rt, cfg, st, names, x);
+    end_text(rt, a);
 }
 
 // The accepted steps, and the refused one behind them.
-fn show_steps(
+fn show_steps<R: Print>(
+    rt: &R,
     cfg: Config,
     s: &[u8],
     names: &[u8],
@@ -241,18 +255,19 @@ fn show_steps(
 ) {
     let c = causes::cause_of(cfg, st, x);
     let p = plan_of(a, steps, focused(focus_of(st, x), c));
-    let t = show_table(cfg, names, s, p, ops);
+    let t = show_table(rt, cfg, names, s, p, ops);
     let w = t.widths;
     if a.page {
-        page::show_refused(names, x, c, place, t.ms);
-        page::show_foot();
+        page::show_refused(rt, names, x, c, place, t.ms);
+        page::show_foot(rt);
         return;
     }
-    table::show_refused(names, narrowed(p, w), w, x, c, place, t.ms);
+    table::show_refused(rt, names, narrowed(p, w), w, x, c, place, t.ms);
 }
 
 // A step that the machine refuses. On a page the reasons stand before the steps, which may be many.
-fn tell_step(
+fn tell_step<R: Print>(
+    rt: &R,
     cfg: Config,
     s: &[u8],
     names: &[u8],
@@ -265,33 +280,34 @@ fn tell_step(
 ) {
     let st = calls::note_operations(cfg, s, steps, ops);
     let t = calls::calls_until(s, steps, ops);
-    start_text(a);
-    show_verdict(s, names, x, causes::cause_of(cfg, st, x), place, k);
-    end_text(a);
+    start_text(rt, a);
+    show_verdict(rt, s, names, x, causes::cause_of(cfg, st, x), place, k);
+    end_text(rt, a);
     if a.page {
-        show_reasons(cfg, s, names, a, t, st, x, place, k);
-        say(b"<p><a href=\"#x\">To the refused step</a></p>\n");
-        show_steps(cfg, s, names, a, ops, st, x, steps, place);
+        show_reasons(rt, cfg, s, names, a, t, st, x, place, k);
+        say(rt, b"<p><a href=\"#x\">To the refused step</a></p>\n");
+        show_steps(rt, cfg, s, names, a, ops, st, x, steps, place);
         return;
     }
-    show_steps(cfg, s, names, a, ops, st, x, steps, place);
-    show_reasons(cfg, s, names, a, t, st, x, place, k);
+    show_steps(rt, cfg, s, names, a, ops, st, x, steps, place);
+    show_reasons(rt, cfg, s, names, a, t, st, x, place, k);
 }
 
-fn start_text(a: Asked) {
+fn start_text<R: Print>(rt: &R, a: Asked) {
     if a.page {
-        page::open_text();
+        page::open_text(rt);
     }
 }
 
-fn end_text(a: Asked) {
+fn end_text<R: Print>(rt: &R, a: Asked) {
     if a.page {
-        page::close_text();
+        page::close_text(rt);
     }
 }
 
 // A field that can't be read, behind the accepted steps.
-fn tell_damaged(
+fn tell_damaged<R: Print>(
+    rt: &R,
     cfg: Config,
     s: &[u8],
     names: &[u8],
@@ -301,12 +317,12 @@ fn tell_damaged(
     place: usize,
 ) {
     calls::note_operations(cfg, s, steps, ops);
-    show_damaged(a, steps, place);
-    show_all(cfg, s, names, a, ops, steps);
-    end_damaged(s, a, steps, place);
+    show_damaged(rt, a, steps, place);
+    show_all(rt, cfg, s, names, a, ops, steps);
+    end_damaged(rt, s, a, steps, place);
 }
 
-fn show_damaged(a: Asked, steps: usize, place: usize) {
+fn show_damaged<R: Print>(rt: &R, a: Asked, steps: usize, place: usize) {
     let mut line = [0u8; 256];
     let mut at = put_with(&mut line, 0, b"REFUSED at field ", place as u64);
     at = put(&mut line, at, b", by rule 18 (a damaged field). The ");
@@ -316,21 +332,21 @@ fn show_damaged(a: Asked, steps: usize, place: usize) {
         at,
         b" before it were allowed; the recording can't be read from there on.\n\n",
     );
-    start_text(a);
-    show(&line, at);
-    end_text(a);
+    start_text(rt, a);
+    show(rt, &line, at);
+    end_text(rt, a);
 }
 
-fn end_damaged(s: &[u8], a: Asked, steps: usize, place: usize) {
-    end_table(a);
-    start_text(a);
-    damaged::show_recording(s, steps, place);
-    end_text(a);
+fn end_damaged<R: Print>(rt: &R, s: &[u8], a: Asked, steps: usize, place: usize) {
+    end_table(rt, a);
+    start_text(rt, a);
+    damaged::show_recording(rt, s, steps, place);
+    end_text(rt, a);
 }
 
-fn end_table(a: Asked) {
+fn end_table<R: Print>(rt: &R, a: Asked) {
     if a.page {
-        page::show_foot();
+        page::show_foot(rt);
     }
 }
 
@@ -364,7 +380,8 @@ fn readable(s: &[u8], most: usize) -> usize {
     k
 }
 
-fn tell_refused(
+fn tell_refused<R: Print>(
+    rt: &R,
     cfg: Config,
     s: &[u8],
     names: &[u8],
@@ -374,19 +391,19 @@ fn tell_refused(
     k: u8,
 ) {
     if place == 0 {
-        say(b"REFUSED: the first state is not sound.\n");
+        say(rt, b"REFUSED: the first state is not sound.\n");
         return;
     }
     if 4097 < place {
         return;
     }
     if k == 18 {
-        tell_damaged(cfg, s, names, a, ops, readable(s, place - 1), place);
+        tell_damaged(rt, cfg, s, names, a, ops, readable(s, place - 1), place);
         return;
     }
     let f = recording::read_field(s, (place - 1) * 16);
     if let Field::Step(x, _) = f {
-        tell_step(cfg, s, names, a, ops, x, place - 1, place, k);
+        tell_step(rt, cfg, s, names, a, ops, x, place - 1, place, k);
     }
 }
 
@@ -421,7 +438,8 @@ fn put_taken(out: &mut [u8], at: usize, steps: usize, whole: bool) -> usize {
 }
 
 // Every step allowed, to the end or to the allowance.
-fn tell_taken(
+fn tell_taken<R: Print>(
+    rt: &R,
     cfg: Config,
     s: &[u8],
     names: &[u8],
@@ -433,30 +451,39 @@ fn tell_taken(
     calls::note_operations(cfg, s, steps, ops);
     let mut line = [0u8; 256];
     let at = put_taken(&mut line, 0, steps, whole);
-    start_text(a);
-    show(&line, at);
-    end_text(a);
+    start_text(rt, a);
+    show(rt, &line, at);
+    end_text(rt, a);
     if a.page {
-        start_text(a);
-        sections::show_calls(cfg, names, s, steps, ops, a.all);
-        end_text(a);
-        show_all(cfg, s, names, a, ops, steps);
-        page::show_foot();
+        start_text(rt, a);
+        sections::show_calls(rt, cfg, names, s, steps, ops, a.all);
+        end_text(rt, a);
+        show_all(rt, cfg, s, names, a, ops, steps);
+        page::show_foot(rt);
         return;
     }
     if steps < 31 {
-        show_all(cfg, s, names, a, ops, steps);
-        say(b"\n");
+        show_all(rt, cfg, s, names, a, ops, steps);
+        say(rt, b"\n");
     } else if a.all {
-        show_all(cfg, s, names, a, ops, steps);
-        say(b"\n");
+        show_all(rt, cfg, s, names, a, ops, steps);
+        say(rt, b"\n");
     }
-    sections::show_calls(cfg, names, s, steps, ops, a.all);
+    sections::show_calls(rt, cfg, names, s, steps, ops, a.all);
 }
 
 // The table of steps that are all accepted.
-fn show_all(cfg: Config, s: &[u8], names: &[u8], a: Asked, ops: &[u8], steps: usize) {
+fn show_all<R: Print>(
+    rt: &R,
+    cfg: Config,
+    s: &[u8],
+    names: &[u8],
+    a: Asked,
+    ops: &[u8],
+    steps: usize,
+) {
     show_table(
+        rt,
         cfg,
         names,
         s,
@@ -467,54 +494,71 @@ fn show_all(cfg: Config, s: &[u8], names: &[u8], a: Asked, ops: &[u8], steps: us
 
 // ---- the two files
 
-fn tell_line(config: &[u8], s: &[u8], names: &[u8], a: Asked, ops: &mut [u8], line: Line) {
+fn tell_line<R: Print>(
+    rt: &R,
+    config: &[u8],
+    s: &[u8],
+    names: &[u8],
+    a: Asked,
+    ops: &mut [u8],
+    line: Line,
+) {
     let r = reading::read_config(config);
     let cfg = r.config;
     match line {
-        Line::Accepted(n) => tell_taken(cfg, s, names, a, ops, n, true),
-        Line::Unfinished(n) => tell_taken(cfg, s, names, a, ops, n, false),
-        Line::Refused(place, k) => tell_refused(cfg, s, names, a, ops, place, k),
-        Line::Configuration(place, k) => tell_config(config, a, place, k),
-        Line::TooLong => tell_long(a),
+        Line::Accepted(n) => tell_taken(rt, cfg, s, names, a, ops, n, true),
+        Line::Unfinished(n) => tell_taken(rt, cfg, s, names, a, ops, n, false),
+        Line::Refused(place, k) => tell_refused(rt, cfg, s, names, a, ops, place, k),
+        Line::Configuration(place, k) => tell_config(rt, config, a, place, k),
+        Line::TooLong => tell_long(rt, a),
     }
 }
 
-fn tell_config(config: &[u8], a: Asked, place: usize, k: u8) {
-    start_text(a);
-    damaged::show_config(config, place, k);
-    end_text(a);
+fn tell_config<R: Print>(rt: &R, config: &[u8], a: Asked, place: usize, k: u8) {
+    start_text(rt, a);
+    damaged::show_config(rt, config, place, k);
+    end_text(rt, a);
 }
 
-fn tell_long(a: Asked) {
-    start_text(a);
+fn tell_long<R: Print>(rt: &R, a: Asked) {
+    start_text(rt, a);
     say(
+        rt,
         b"INPUT TOO LONG: a configuration has at most 4,096 bytes, and a recording at most 65,536. ./judge --long judges a longer recording.\n",
     );
-    end_text(a);
+    end_text(rt, a);
 }
 
-fn tell(config: &[u8], s: &[u8], names: &[u8], a: Asked) {
+fn tell<R: Print>(rt: &R, config: &[u8], s: &[u8], names: &[u8], a: Asked) {
     let line = judging::line_of(config, s);
     if a.page {
-        page::show_top();
+        page::show_top(rt);
     }
     let mut ops = [255u8; 4096];
-    tell_line(config, s, names, a, &mut ops, line);
+    tell_line(rt, config, s, names, a, &mut ops, line);
     if a.page {
-        page::show_end();
+        page::show_end(rt);
     }
 }
 
 // The same for the first bytes of two buffers.
-fn tell_recording(config: &[u8], s: &[u8], m: usize, names: &[u8], a: Asked) {
+fn tell_recording<R: Print>(rt: &R, config: &[u8], s: &[u8], m: usize, names: &[u8], a: Asked) {
     if m <= s.len() {
-        tell(config, &s[..m], names, a);
+        tell(rt, config, &s[..m], names, a);
     }
 }
 
-fn tell_front(config: &[u8], n: usize, s: &[u8], m: usize, names: &[u8], a: Asked) {
+fn tell_front<R: Print>(
+    rt: &R,
+    config: &[u8],
+    n: usize,
+    s: &[u8],
+    m: usize,
+    names: &[u8],
+    a: Asked,
+) {
     if n <= config.len() {
-        tell_recording(&config[..n], s, m, names, a);
+        tell_recording(rt, &config[..n], s, m, names, a);
     }
 }
 
@@ -527,25 +571,30 @@ fn asked_of(b: u8) -> Asked {
 }
 
 // The file that an argument names, read into buf.
-fn read_arg(i: usize, buf: &mut [u8]) -> Got
+fn read_arg<R: Env + Files + Input, E: Print>(rt: &R, stderr: &E, i: usize, buf: &mut [u8]) -> Got
     ensures { Fits result (length buf.new) }
 {
-    let mut name = io::buffer();
-    let n = os::arg(i, &mut name);
-    let got = program_io::read_named(&name[..n], buf);
-    let Got::Bytes(k) = got else {
-        os::fail(&name[..n]);
-        return Got::Failed;
-    };
-    Got::Bytes(k)
+    let mut name = [0u8; program_io::NAME_ROOM];
+    let n = program_io::arg(rt, i, &mut name);
+    let got = program_io::read_named(rt, &name[..n], buf);
+    if let Got::Failed(e) = got {
+        program_io::fail(stderr, &name[..n], e);
+    }
+    got
 }
 
 // Takes the names of the file that the fourth argument names, if there is one; whether it could be read.
-fn load_names(names: &mut [u8], text: &mut [u8], page: bool) -> bool {
-    if os::arg_count() < 5 {
+fn load_names<R: Env + Files + Input, E: Print>(
+    rt: &R,
+    stderr: &E,
+    names: &mut [u8],
+    text: &mut [u8],
+    page: bool,
+) -> bool {
+    if program_io::arg_count(rt) < 5 {
         return true;
     }
-    let got = read_arg(4, text);
+    let got = read_arg(rt, stderr, 4, text);
     let Got::Bytes(size) = got else {
         return false;
     };
@@ -553,32 +602,46 @@ fn load_names(names: &mut [u8], text: &mut [u8], page: bool) -> bool {
     true
 }
 
-fn ask() -> Asked {
+fn ask<R: Env>(rt: &R) -> Asked {
     let mut word = [0u8; 8];
-    os::arg(1, &mut word);
+    program_io::arg(rt, 1, &mut word);
     asked_of(word[0])
 }
 
-fn run(config: &mut [u8], recording: &mut [u8], names: &mut [u8], text: &mut [u8]) {
-    let a = ask();
-    if !load_names(names, text, a.page) {
+fn run<R: Env + Files + Input + Print, E: Print>(
+    rt: &R,
+    stderr: &E,
+    config: &mut [u8],
+    recording: &mut [u8],
+    names: &mut [u8],
+    text: &mut [u8],
+) {
+    let a = ask(rt);
+    if !load_names(rt, stderr, names, text, a.page) {
         return;
     }
-    let c = read_arg(2, config);
+    let c = read_arg(rt, stderr, 2, config);
     let Got::Bytes(n) = c else {
         return;
     };
-    let r = read_arg(3, recording);
+    let r = read_arg(rt, stderr, 3, recording);
     let Got::Bytes(m) = r else {
         return;
     };
-    tell_front(config, n, recording, m, names, a);
+    tell_front(rt, config, n, recording, m, names, a);
 }
 
-fn main() {
+fn main(rt: HostRuntime) {
     let mut config = [0u8; judging::CONFIG_ROOM];
     let mut recording = [0u8; judging::RECORDING_ROOM];
     let mut names = [0u8; names::ROOM];
     let mut text = [0u8; 65536];
-    run(&mut config, &mut recording, &mut names, &mut text);
+    run(
+        &rt,
+        &rt.stderr(),
+        &mut config,
+        &mut recording,
+        &mut names,
+        &mut text,
+    );
 }

@@ -10,39 +10,48 @@ use values::Step;
 use whys::Cause;
 
 // The page up to its table.
-pub(crate) fn show_top() {
+pub(crate) fn show_top<R: Print>(rt: &R) {
     say(
+        rt,
         b"<!DOCTYPE html>\n<html lang=\"en\"><head><meta charset=\"utf-8\"><meta name=\"viewport\" content=\"width=device-width, initial-scale=1\"><title>What was recorded</title>\n",
     );
     say(
+        rt,
         b"<style>body{font:15px/1.45 system-ui,sans-serif;margin:1em;color:#111;background:#fff}pre{white-space:pre-wrap;font:13px/1.5 ui-monospace,monospace}",
     );
     say(
+        rt,
         b"div{overflow-x:auto}section{content-visibility:auto;contain-intrinsic-size:auto 1900px}table{border-collapse:collapse;font:12px/1.35 ui-monospace,monospace}td,th{padding:1px 8px;text-align:left;vertical-align:top;white-space:nowrap}",
     );
     say(
+        rt,
         b"th{border-bottom:2px solid #555;background:#fff}td.n{text-align:right;color:#555}td.l{background:#eef4fb;border-left:3px solid #4a7ebb}td.f{background:#f3e3ee;border-left:3px dashed #8a2f6b}td.o{background:#fdf0d5;border-left:6px solid #d98e04}",
     );
     say(
+        rt,
         b"td.d{color:#666;border-left:1px solid #ccc}tr.x td{background:#fbdcdc;border-top:2px solid #b00;border-bottom:2px solid #b00;font-weight:bold}tr.g td{color:#666}",
     );
     say(
+        rt,
         b"@media print{div{overflow:visible}section{content-visibility:visible}table{font-size:8px}td,th{padding:1px 3px;white-space:normal}tr{break-inside:avoid}}",
     );
-    say(b"@media(max-width:600px){body{margin:.5em}table{font-size:11px}}</style></head><body>\n");
+    say(
+        rt,
+        b"@media(max-width:600px){body{margin:.5em}table{font-size:11px}}</style></head><body>\n",
+    );
 }
 
-pub(crate) fn show_end() {
-    say(b"</body></html>\n");
+pub(crate) fn show_end<R: Print>(rt: &R) {
+    say(rt, b"</body></html>\n");
 }
 
 // Text of the sections stands as it is.
-pub(crate) fn open_text() {
-    say(b"<pre>");
+pub(crate) fn open_text<R: Print>(rt: &R) {
+    say(rt, b"<pre>");
 }
 
-pub(crate) fn close_text() {
-    say(b"</pre>\n");
+pub(crate) fn close_text<R: Print>(rt: &R) {
+    say(rt, b"</pre>\n");
 }
 
 // The head of a column that is at least so many letters wide, in every part of the table alike.
@@ -89,13 +98,13 @@ fn put_operation_heads(out: &mut [u8], at: usize, names: &[u8], w: Widths) -> us
     next
 }
 
-pub(crate) fn show_head(names: &[u8], w: Widths) {
-    say(b"<div>");
-    show_part(names, w);
+pub(crate) fn show_head<R: Print>(rt: &R, names: &[u8], w: Widths) {
+    say(rt, b"<div>");
+    show_part(rt, names, w);
 }
 
 // A part of the table, under its heads. A browser lays out the parts that are in view, so that many steps are there as soon as few.
-fn show_part(names: &[u8], w: Widths) {
+fn show_part<R: Print>(rt: &R, names: &[u8], w: Widths) {
     let mut line = [0u8; 8192];
     let mut at = put(
         &mut line,
@@ -107,19 +116,19 @@ fn show_part(names: &[u8], w: Widths) {
     at = put_lane_heads(&mut line, at, w);
     at = put_operation_heads(&mut line, at, names, w);
     at = put(&mut line, at, b"</tr></thead><tbody>\n");
-    show(&line, at);
+    show(rt, &line, at);
 }
 
-pub(crate) fn show_foot() {
-    say(b"</tbody></table></section></div>\n");
+pub(crate) fn show_foot<R: Print>(rt: &R) {
+    say(rt, b"</tbody></table></section></div>\n");
 }
 
 // Every hundred steps a new part.
-fn show_break(names: &[u8], w: Widths, place: usize) {
+fn show_break<R: Print>(rt: &R, names: &[u8], w: Widths, place: usize) {
     if place % 100 == 1 {
         if 1 < place {
-            say(b"</tbody></table></section>\n");
-            show_part(names, w);
+            say(rt, b"</tbody></table></section>\n");
+            show_part(rt, names, w);
         }
     }
 }
@@ -244,7 +253,8 @@ fn put_front(out: &mut [u8], at: usize, place: usize, ms: u64) -> usize {
     put(out, b, b"<td>")
 }
 
-pub(crate) fn show_row(
+pub(crate) fn show_row<R: Print>(
+    rt: &R,
     names: &[u8],
     s: &[u8],
     w: Widths,
@@ -253,7 +263,7 @@ pub(crate) fn show_row(
     place: usize,
     ms: u64,
 ) {
-    show_break(names, w, place);
+    show_break(rt, names, w, place);
     let mut line = [0u8; 16384];
     let mut at = put(&mut line, 0, b"<tr>");
     at = put_front(&mut line, at, place, ms);
@@ -261,7 +271,7 @@ pub(crate) fn show_row(
     at = put_cells(&mut line, at, names, s, after, x, w);
     at = put_states(&mut line, at, after, x, w, ms);
     at = put(&mut line, at, b"\n");
-    show(&line, at);
+    show(rt, &line, at);
 }
 
 fn put_owner(out: &mut [u8], at: usize, x: Step) -> usize {
@@ -272,7 +282,14 @@ fn put_owner(out: &mut [u8], at: usize, x: Step) -> usize {
     at
 }
 
-pub(crate) fn show_refused(names: &[u8], x: Step, c: Cause, place: usize, ms: u64) {
+pub(crate) fn show_refused<R: Print>(
+    rt: &R,
+    names: &[u8],
+    x: Step,
+    c: Cause,
+    place: usize,
+    ms: u64,
+) {
     let mut line = [0u8; 2048];
     let mut at = put(&mut line, 0, b"<tr class=x id=x>");
     at = put_with(&mut line, at, b"<td class=n>X ", place as u64);
@@ -281,5 +298,5 @@ pub(crate) fn show_refused(names: &[u8], x: Step, c: Cause, place: usize, ms: u6
     at = put_owner(&mut line, at, x);
     at = put_refused(&mut line, at, names, x, c);
     at = put(&mut line, at, b"\n");
-    show(&line, at);
+    show(rt, &line, at);
 }

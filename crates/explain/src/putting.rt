@@ -1,5 +1,4 @@
 // Text put into a lent line, as far as it has room, and a line shown.
-use libc::STDOUT_FILENO;
 use wire::Wrote;
 
 // The byte at a place, 0 past the end.
@@ -120,9 +119,9 @@ pub(crate) fn put_bytes(out: &mut [u8], at: usize, s: &[u8], from: usize, to: us
 }
 
 // Shows a line in one write.
-pub(crate) fn show(out: &[u8], at: usize) {
+pub(crate) fn show<R: Print>(rt: &R, out: &[u8], at: usize) {
     if at <= out.len() {
-        io::write_all(STDOUT_FILENO, &out[..at]);
+        let _ = rt.write_all(&out[..at]);
     }
 }
 
@@ -139,13 +138,13 @@ fn trimmed(out: &[u8], at: usize) -> usize {
 }
 
 // Shows a line without the spaces at its end, and with its line feed.
-pub(crate) fn show_trimmed(out: &mut [u8], at: usize) {
+pub(crate) fn show_trimmed<R: Print>(rt: &R, out: &mut [u8], at: usize) {
     let n = trimmed(out, at);
     let m = put(out, n, b"\n");
-    show(out, m);
+    show(rt, out, m);
 }
 
 // Shows fixed words in one write.
-pub(crate) fn say(s: &[u8]) {
-    io::write_all(STDOUT_FILENO, s);
+pub(crate) fn say<R: Print>(rt: &R, s: &[u8]) {
+    let _ = rt.write_all(s);
 }

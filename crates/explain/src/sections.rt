@@ -142,7 +142,7 @@ fn put_codes(out: &mut [u8], at: usize, cfg: Config, st: State, names: &[u8], i:
     next
 }
 
-fn show_slot(cfg: Config, st: State, names: &[u8], i: u8) {
+fn show_slot<R: Print>(rt: &R, cfg: Config, st: State, names: &[u8], i: u8) {
     let slots = st.slots;
     let x = slots.get(i);
     if !x.used {
@@ -157,7 +157,7 @@ fn show_slot(cfg: Config, st: State, names: &[u8], i: u8) {
     let from = put_failed(&mut line, at, l.failed);
     at = put_codes(&mut line, from, cfg, st, names, i);
     at = end_options(&mut line, from, at);
-    show(&line, at);
+    show(rt, &line, at);
 }
 
 fn put_failed(out: &mut [u8], at: usize, failed: bool) -> usize {
@@ -176,7 +176,7 @@ fn end_options(out: &mut [u8], from: usize, at: usize) -> usize {
     put(out, at, b"\n")
 }
 
-fn show_scheduler(cfg: Config, st: State, names: &[u8]) {
+fn show_scheduler<R: Print>(rt: &R, cfg: Config, st: State, names: &[u8]) {
     let mut line = [0u8; 16384];
     let mut at = put(&mut line, 0, b"  the scheduler");
     let from = at;
@@ -185,7 +185,7 @@ fn show_scheduler(cfg: Config, st: State, names: &[u8]) {
     at = put_code(&mut line, at, cfg, st, names, 17, 0);
     at = put_wait(&mut line, at, passing::passes(cfg, st, 4294967295));
     at = end_options(&mut line, from, at);
-    show(&line, at);
+    show(rt, &line, at);
 }
 
 // How long a wait may be.
@@ -198,19 +198,19 @@ fn put_wait(out: &mut [u8], at: usize, most: u32) -> usize {
 }
 
 // What may happen in a state.
-pub(crate) fn show_allowed(cfg: Config, st: State, names: &[u8]) {
-    say(b"\nAllowed here (what is handed over is left open):\n");
-    show_scheduler(cfg, st, names);
+pub(crate) fn show_allowed<R: Print>(rt: &R, cfg: Config, st: State, names: &[u8]) {
+    say(rt, b"\nAllowed here (what is handed over is left open):\n");
+    show_scheduler(rt, cfg, st, names);
     let mut i: u8 = 0;
     while i < 32 {
-        show_slot(cfg, st, names, i);
+        show_slot(rt, cfg, st, names, i);
         i = i + 1;
     }
 }
 
 // ---- where it stands
 
-pub(crate) fn show_place(s: &[u8], place: usize) {
+pub(crate) fn show_place<R: Print>(rt: &R, s: &[u8], place: usize) {
     if 4096 < place {
         return;
     }
@@ -225,20 +225,23 @@ pub(crate) fn show_place(s: &[u8], place: usize) {
     at = put(&mut line, at, b" (counted from 0):");
     at = put_bytes(&mut line, at, s, from, from + 16);
     at = put(&mut line, at, b"\n");
-    show(&line, at);
+    show(rt, &line, at);
 }
 
-pub(crate) fn show_rest(s: &[u8], place: usize) {
+pub(crate) fn show_rest<R: Print>(rt: &R, s: &[u8], place: usize) {
     let all = s.len() / 16;
     let mut line = [0u8; 256];
     if place < all {
         let a = put(&mut line, 0, b"Nothing behind it was tried: ");
         let b = put_count(&mut line, a, (all - place) as u64, b"more step");
         let c = put(&mut line, b, b" may be right or wrong.\n");
-        show(&line, c);
+        show(rt, &line, c);
         return;
     }
-    say(b"It is the last step of the recording; nothing behind it was tried.\n");
+    say(
+        rt,
+        b"It is the last step of the recording; nothing behind it was tried.\n",
+    );
 }
 
 // ---- a guess at what was lost
@@ -269,11 +272,12 @@ fn put_inserted(
     }
 }
 
-fn show_fill(names: &[u8], text: &[u8], steps: usize) {
+fn show_fill<R: Print>(rt: &R, names: &[u8], text: &[u8], steps: usize) {
     if steps < 2 {
         return;
     }
     say(
+        rt,
         b"\nA guess, and no proof of what happened: with these steps before it, lost by the recorder, the step would have been right.\n",
     );
     let mut line = [0u8; 1024];
@@ -285,11 +289,11 @@ fn show_fill(names: &[u8], text: &[u8], steps: usize) {
         at,
         b"The recording as it stands is refused all the same. ./mend looks for such steps in all of it.\n",
     );
-    show(&line, at);
+    show(rt, &line, at);
 }
 
 // The fill of the gap before a step, if there is one: a recording of this step alone is mended from the state reached.
-pub(crate) fn show_guess(cfg: Config, st: State, names: &[u8], x: Step) {
+pub(crate) fn show_guess<R: Print>(rt: &R, cfg: Config, st: State, names: &[u8], x: Step) {
     let mut one = [0u8; 19];
     recording::write_step(&mut one, 0, x);
     recording::write_end(&mut one, 16);
@@ -297,7 +301,7 @@ pub(crate) fn show_guess(cfg: Config, st: State, names: &[u8], x: Step) {
     let mut report = [0u8; 128];
     let m = mending::mend(cfg, st, &one, &mut text, &mut report);
     match m {
-        Mended::Whole(steps, _) => show_fill(names, &text, steps),
+        Mended::Whole(steps, _) => show_fill(rt, names, &text, steps),
         Mended::Refused(_, _) => {}
     }
 }
@@ -374,7 +378,7 @@ fn put_late(out: &mut [u8], at: usize, t: Told) -> usize {
 // ---- the calls of an accepted recording
 
 // One call that ended at this step, or was open at the end.
-fn show_call(t: Told, ms: u64) {
+fn show_call<R: Print>(rt: &R, t: Told, ms: u64) {
     let mut line = [0u8; 512];
     let mut at = put_with(&mut line, 0, b"  the call of step ", t.called as u64);
     at = put(&mut line, at, b" by ");
@@ -382,7 +386,7 @@ fn show_call(t: Told, ms: u64) {
     at = put_how(&mut line, at, t);
     at = put_lasted(&mut line, at, t.at, ms);
     at = put(&mut line, at, b"\n");
-    show(&line, at);
+    show(rt, &line, at);
 }
 
 fn put_lasted(out: &mut [u8], at: usize, from: u64, to: u64) -> usize {
@@ -426,7 +430,16 @@ fn up(n: u32, b: bool) -> u32 {
 }
 
 // The sums after a step; each call of the operation is shown where it ends, if the last of them are reached.
-fn tallied(t: Sums, op: u8, x: Step, place: usize, o: u8, from: u32, told: bool) -> Sums {
+fn tallied<R: Print>(
+    rt: &R,
+    t: Sums,
+    op: u8,
+    x: Step,
+    place: usize,
+    o: u8,
+    from: u32,
+    told: bool,
+) -> Sums {
     let before = t.calls;
     let calls = before.after(op, x, place, t.ms);
     let a = before.get(o);
@@ -439,7 +452,7 @@ fn tallied(t: Sums, op: u8, x: Step, place: usize, o: u8, from: u32, told: bool)
         u.failures = up(t.failures, b.how == 3);
         if told {
             if from < u.started {
-                show_call(b, t.ms);
+                show_call(rt, b, t.ms);
             }
         }
     }
@@ -449,7 +462,15 @@ fn tallied(t: Sums, op: u8, x: Step, place: usize, o: u8, from: u32, told: bool)
     u
 }
 
-fn tally(s: &[u8], steps: usize, ops: &[u8], o: u8, from: u32, told: bool) -> Sums {
+fn tally<R: Print>(
+    rt: &R,
+    s: &[u8],
+    steps: usize,
+    ops: &[u8],
+    o: u8,
+    from: u32,
+    told: bool,
+) -> Sums {
     let mut t = NO_SUMS;
     let mut k: usize = 0;
     while k < 4096 {
@@ -460,13 +481,13 @@ fn tally(s: &[u8], steps: usize, ops: &[u8], o: u8, from: u32, told: bool) -> Su
         let Field::Step(x, _) = f else {
             return t;
         };
-        t = tallied(t, byte_at(ops, k), x, k + 1, o, from, told);
+        t = tallied(rt, t, byte_at(ops, k), x, k + 1, o, from, told);
         k = k + 1;
     }
     t
 }
 
-fn show_sums(names: &[u8], t: Sums, o: u8) {
+fn show_sums<R: Print>(rt: &R, names: &[u8], t: Sums, o: u8) {
     let mut line = [0u8; 512];
     let mut at = put_part(&mut line, 0, names, 0x16, o);
     at = put(&mut line, at, b": ");
@@ -476,7 +497,7 @@ fn show_sums(names: &[u8], t: Sums, o: u8) {
     at = put_sum(&mut line, at, b", failed: ", t.failures);
     at = put_sum(&mut line, at, b"; handed back too late: ", t.late);
     at = put(&mut line, at, b"\n");
-    show(&line, at);
+    show(rt, &line, at);
 }
 
 // A sum with its words, unless it is 0.
@@ -487,7 +508,7 @@ fn put_sum(out: &mut [u8], at: usize, s: &[u8], n: u32) -> usize {
     put_with(out, at, s, n as u64)
 }
 
-fn show_skipped(n: u32) {
+fn show_skipped<R: Print>(rt: &R, n: u32) {
     if n == 0 {
         return;
     }
@@ -495,13 +516,21 @@ fn show_skipped(n: u32) {
     let a = put(&mut line, 0, b"  the first ");
     let b = put_count(&mut line, a, n as u64, b"call");
     let c = put(&mut line, b, b" not shown (--all shows them)\n");
-    show(&line, c);
+    show(rt, &line, c);
 }
 
 // An operation and its calls: the last twelve, or all.
-fn show_operation(names: &[u8], s: &[u8], steps: usize, ops: &[u8], o: u8, all: bool) {
-    let t = tally(s, steps, ops, o, 0, false);
-    show_sums(names, t, o);
+fn show_operation<R: Print>(
+    rt: &R,
+    names: &[u8],
+    s: &[u8],
+    steps: usize,
+    ops: &[u8],
+    o: u8,
+    all: bool,
+) {
+    let t = tally(rt, s, steps, ops, o, 0, false);
+    show_sums(rt, names, t, o);
     if t.started == 0 {
         return;
     }
@@ -511,23 +540,31 @@ fn show_operation(names: &[u8], s: &[u8], steps: usize, ops: &[u8], o: u8, all: 
             from = t.started - 12;
         }
     }
-    show_skipped(from);
-    let u = tally(s, steps, ops, o, from, true);
+    show_skipped(rt, from);
+    let u = tally(rt, s, steps, ops, o, from, true);
     let calls = u.calls;
     let last = calls.get(o);
     if last.ended == 0 {
-        show_call(last, u.ms);
+        show_call(rt, last, u.ms);
     }
 }
 
 // Every operation and its calls.
-pub(crate) fn show_calls(cfg: Config, names: &[u8], s: &[u8], steps: usize, ops: &[u8], all: bool) {
+pub(crate) fn show_calls<R: Print>(
+    rt: &R,
+    cfg: Config,
+    names: &[u8],
+    s: &[u8],
+    steps: usize,
+    ops: &[u8],
+    all: bool,
+) {
     let operations = cfg.operations;
     let n = operations.n;
     let mut o: u8 = 0;
     while o < 8 {
         if o < n {
-            show_operation(names, s, steps, ops, o, all);
+            show_operation(rt, names, s, steps, ops, o, all);
         }
         o = o + 1;
     }

@@ -502,7 +502,8 @@ pub(crate) fn put_front(out: &mut [u8], mark: u8, place: usize, ms: u64) -> usiz
     put(out, c, b"  ")
 }
 
-pub(crate) fn show_row(
+pub(crate) fn show_row<R: Print>(
+    rt: &R,
     names: &[u8],
     s: &[u8],
     p: Plan,
@@ -518,7 +519,7 @@ pub(crate) fn show_row(
     at = end_cell(&mut line, from, at, w.scheduler);
     at = put_slots(&mut line, at, names, s, p, w, after, x);
     at = put_states(&mut line, at, after, w);
-    show_trimmed(&mut line, at);
+    show_trimmed(rt, &mut line, at);
 }
 
 fn put_lane_head(out: &mut [u8], at: usize, i: u8, width: u16) -> usize {
@@ -565,14 +566,14 @@ fn put_slot_heads(out: &mut [u8], at: usize, p: Plan, w: Widths) -> usize {
     put_lane_heads(out, at, w)
 }
 
-pub(crate) fn show_head(names: &[u8], p: Plan, w: Widths) {
+pub(crate) fn show_head<R: Print>(rt: &R, names: &[u8], p: Plan, w: Widths) {
     let mut line = [0u8; 8192];
     let from = put(&mut line, 0, b"  step      ms  ");
     let mut at = put(&mut line, from, b"scheduler");
     at = end_cell(&mut line, from, at, w.scheduler);
     at = put_slot_heads(&mut line, at, p, w);
     at = put_operation_heads(&mut line, at, names, w);
-    show_trimmed(&mut line, at);
+    show_trimmed(rt, &mut line, at);
 }
 
 // The empty lane of a slot before the one that acts.
@@ -610,7 +611,8 @@ fn put_margin(out: &mut [u8], at: usize, p: Plan, w: Widths, x: Step) -> usize {
 }
 
 // The refused step's row, where it would stand.
-pub(crate) fn show_refused(
+pub(crate) fn show_refused<R: Print>(
+    rt: &R,
     names: &[u8],
     p: Plan,
     w: Widths,
@@ -624,17 +626,17 @@ pub(crate) fn show_refused(
     at = put_margin(&mut line, at, p, w, x);
     at = put_refused(&mut line, at, names, x, c);
     at = put(&mut line, at, b"\n");
-    show(&line, at);
+    show(rt, &line, at);
 }
 
-fn show_skipped(n: usize) {
+fn show_skipped<R: Print>(rt: &R, n: usize) {
     if n == 0 {
         return;
     }
     let mut line = [0u8; 128];
     let a = put_with(&mut line, 0, b"   ..  ", n as u64);
     let b = put(&mut line, a, b" not shown here (--all shows them)\n");
-    show(&line, b);
+    show(rt, &line, b);
 }
 
 // ---- walks
@@ -651,17 +653,26 @@ pub(crate) fn new_walk(cfg: Config, shows: bool, w: Widths) -> Walk {
 }
 
 // One row of a walk that bears on the focus.
-fn meet(names: &[u8], s: &[u8], p: Plan, t: Walk, o: u8, x: Step, place: usize) -> Walk {
+fn meet<R: Print>(
+    rt: &R,
+    names: &[u8],
+    s: &[u8],
+    p: Plan,
+    t: Walk,
+    o: u8,
+    x: Step,
+    place: usize,
+) -> Walk {
     let after = t.state;
     let w = t.widths;
     let mut u = t;
     if t.shows {
-        show_skipped(t.skipped);
+        show_skipped(rt, t.skipped);
         u.skipped = 0;
         if p.page {
-            crate::page::show_row(names, s, w, after, x, place, t.ms);
+            crate::page::show_row(rt, names, s, w, after, x, place, t.ms);
         } else {
-            show_row(names, s, p, w, after, x, place, t.ms);
+            show_row(rt, names, s, p, w, after, x, place, t.ms);
         }
         return u;
     }
@@ -670,7 +681,16 @@ fn meet(names: &[u8], s: &[u8], p: Plan, t: Walk, o: u8, x: Step, place: usize) 
 }
 
 // A step of a walk behind its state: it is met, or skipped.
-fn weigh(names: &[u8], s: &[u8], p: Plan, t: Walk, o: u8, x: Step, place: usize) -> Walk {
+fn weigh<R: Print>(
+    rt: &R,
+    names: &[u8],
+    s: &[u8],
+    p: Plan,
+    t: Walk,
+    o: u8,
+    x: Step,
+    place: usize,
+) -> Walk {
     let mut u = t;
     if 4096 < t.bearing {
         return u;
@@ -684,7 +704,7 @@ fn weigh(names: &[u8], s: &[u8], p: Plan, t: Walk, o: u8, x: Step, place: usize)
             u.skipped = t.skipped + 1;
             return u;
         }
-        return meet(names, s, p, u, o, x, place);
+        return meet(rt, names, s, p, u, o, x, place);
     }
     u.skipped = t.skipped + 1;
     u
@@ -738,7 +758,8 @@ fn giving(st: State, x: Step) -> Step {
 }
 
 // One accepted step of a walk.
-fn pass(
+fn pass<R: Print>(
+    rt: &R,
     cfg: Config,
     names: &[u8],
     s: &[u8],
@@ -755,11 +776,12 @@ fn pass(
     let mut u = t;
     u.state = after;
     u.ms = later(t.ms, x);
-    weigh(names, s, p, u, o, giving(st, answering(x, a)), place)
+    weigh(rt, names, s, p, u, o, giving(st, answering(x, a)), place)
 }
 
 // The accepted steps from the start on.
-pub(crate) fn go_through(
+pub(crate) fn go_through<R: Print>(
+    rt: &R,
     cfg: Config,
     names: &[u8],
     s: &[u8],
@@ -777,7 +799,7 @@ pub(crate) fn go_through(
         let Field::Step(x, _) = f else {
             return t;
         };
-        t = pass(cfg, names, s, p, t, byte_at(ops, k), x, k + 1);
+        t = pass(rt, cfg, names, s, p, t, byte_at(ops, k), x, k + 1);
         k = k + 1;
     }
     t
