@@ -5,6 +5,8 @@ ghost use Rattle.std.specs.Prelude.{◌≡◌, [], ◌∷◌, length, ◌*◌, �
 ghost use Rattle.wire.specs.Bytes.{Written};
 ghost use Rattle.lines.specs.Lines.{line_bytes};
 ghost use Rattle.mender.specs.Told.{told_by, told_of, told_text, told_report, insert_word, gap_word, note_line, told_line, text_size};
+ghost use Rattle.std.specs.Bool.{OnTrue};
+ghost use Rattle.std.specs.Io.KnownBytes.{Appends};
 
 use gaps::Mended;
 use judging::{MAX_CONFIG, MAX_RECORDING};
