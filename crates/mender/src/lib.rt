@@ -4,7 +4,7 @@
 ghost use Rattle.std.specs.Prelude.{◌≡◌, [], ◌∷◌, length, ◌*◌, ◌+◌, ◌≤◌};
 ghost use Rattle.wire.specs.Bytes.{Written};
 ghost use Rattle.lines.specs.Lines.{line_bytes};
-ghost use Rattle.mender.specs.Told.{told_by, told_of, told_text, told_report, insert_word, gap_word, note_line, told_line, text_size};
+ghost use Rattle.mender.specs.Told.{told_by, told_of, told_text, told_report, insert_word, gap_word, note_line, notes_lines, told_line, text_size};
 ghost use Rattle.std.specs.Bool.{OnTrue};
 ghost use Rattle.std.specs.Io.KnownBytes.{Appends};
 
@@ -125,7 +125,9 @@ fn put_two(buf: &mut [u8], at: usize, word: &[u8], place: usize, k: u8) -> Wrote
 }
 
 // Prints the lines of the first notes of a report, as many as there are, each in one write; whether all went out.
-pub fn print_notes<W: Write>(out: &mut W, report: &[u8], notes: usize) -> bool {
+pub fn print_notes<W: Write>(out: &mut W, report: &[u8], notes: usize) -> bool
+    ensures { OnTrue result (Appends (W.contents out.old) (W.contents out.new) (notes_lines report.now notes)) }
+{
     let mut at: usize = 0;
     let mut left = notes;
     while left > 0 {
@@ -143,21 +145,31 @@ pub fn print_notes<W: Write>(out: &mut W, report: &[u8], notes: usize) -> bool {
 }
 
 // The line of the note at the front of a report.
-fn print_note<W: Write>(out: &mut W, report: &[u8]) -> bool {
+fn print_note<W: Write>(out: &mut W, report: &[u8]) -> bool
+    ensures { OnTrue result (Appends (W.contents out.old) (W.contents out.new) (note_line report.now)) }
+{
     if report.len() < gaps::NOTE {
         return false;
     }
+    let mut text = [0u8; 128];
+    let w = put_front(&mut text, report);
+    let Wrote::To(n) = w else {
+        return false;
+    };
+    out.write_all(&text[..n]).is_ok()
+}
+
+// The line of the note at the front of a report, written at the start of a buffer.
+fn put_front(buf: &mut [u8], report: &[u8]) -> Wrote
+    requires { 16 ≤ length report.now }
+    ensures { Written buf.old 0 (note_line report.now) result buf.new }
+{
     let note = [
         report[0], report[1], report[2], report[3], report[4], report[5], report[6], report[7],
         report[8], report[9], report[10], report[11], report[12], report[13], report[14],
         report[15],
     ];
-    let mut text = [0u8; 128];
-    let w = put_note(&mut text, 0, &note);
-    let Wrote::To(n) = w else {
-        return false;
-    };
-    out.write_all(&text[..n]).is_ok()
+    put_note(buf, 0, &note)
 }
 
 // Prints the last line, in one write; whether all of it went out.
