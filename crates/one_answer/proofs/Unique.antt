@@ -1,7 +1,7 @@
 -- Each contract of a public function has one answer: no two that differ meet it, nor two that leave differing bytes in a lent buffer.
 -- The contracts are those of the code itself: `Reads.Post` is what the `ensures` lines of a function ask of its result and of what it leaves in the places lent to it, so that a
 -- contract that says less than it did breaks its line here. One law serves them all: what equals one thing is equal (`same`; of a written text `written_once`).
--- Every public function has its line; tools/listed holds this page to the code. `lending::step_lent`, which is proved by hand, has `Lent-one` in crate lending; crate program_io,
+-- Every public function has its line; tools/listed holds this page to the code. `lending::step_lent` has `lent_one` in crate lending; crate program_io,
 -- which reads and prints, has none (docs/contracts.md).
 -- Assumes nothing.
 use Prim.Native.Nat.{ℕ}
