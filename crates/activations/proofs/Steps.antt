@@ -29,6 +29,7 @@ use Rattle.stays_sound.proofs.Ways.{Way}
 use Rattle.stays_sound.proofs.Ways as go
 use Rattle.stays_sound.proofs.Accepted.{accepted, gone}
 use Rattle.history.proofs.Runs.{taken_of}
+use Rattle.state.specs.Places.{place_in, with_place}
 use Rattle.activations.specs.Claims.{pending_of, top_at, Plain, hands_on_to, triggers, loses, spawns, StepCounts, TopHolds}
 
 -- ---- the top
@@ -108,19 +109,19 @@ module _ (cfg : Config) (st : State) (s : Step) (r : ℕ) (p : Plain cfg r) (g :
   here = omega (arith, runnables-length cfg st g, runnables-most cfg g.config, p.0)
 
   fed-pending : (q : ℕ) (v : Value) → pending_of (fed cfg st q v) r ≡ pick (is_fed cfg st.elements q r) (one_more (top_at cfg r) (pending_of st r)) (pending_of st r)
-  unfolding fed fed_runnables runnable_in
+  unfolding fed fed_runnables place_in
   fed-pending q v =
       ap (λ (x : Runnable). x.pending) (each_at (λ (k : ℕ) (x : Runnable). pick (is_fed cfg st.elements q k) (woken (runnable_conf_in cfg.runnables k) x) x) no_runnable cfg.runnables.n st.runnables.at r p.0 here)
       ∙ woken-pending (is_fed cfg st.elements q r) (runnable_conf_in cfg.runnables r) (runnable_in st.runnables r)
 
   given-at : (k : ℕ) (c : Copies) → (runnable_in (given_runnables cfg st.elements k c st.runnables) r).pending ≡ pick (is_given_to cfg st.elements k c r) (one_more (top_at cfg r) (pending_of st r)) (pending_of st r)
-  unfolding given_runnables runnable_in
+  unfolding given_runnables place_in
   given-at k c =
       ap (λ (x : Runnable). x.pending) (each_at (λ (j : ℕ) (x : Runnable). pick (is_given_to cfg st.elements k c j) (woken (runnable_conf_in cfg.runnables j) x) x) no_runnable cfg.runnables.n st.runnables.at r p.0 here)
       ∙ woken-pending (is_given_to cfg st.elements k c r) (runnable_conf_in cfg.runnables r) (runnable_in st.runnables r)
 
   closed-pending : (o : ℕ) (v : Value) → pending_of (closed cfg st o v) r ≡ pick (is_returned cfg o r) (one_more (top_at cfg r) (pending_of st r)) (pending_of st r)
-  unfolding closed returned_runnables runnable_in
+  unfolding closed returned_runnables place_in
   closed-pending o v =
       ap (λ (x : Runnable). x.pending) (each_at (λ (k : ℕ) (x : Runnable). pick (is_returned cfg o k) (woken (runnable_conf_in cfg.runnables k) x) x) no_runnable cfg.runnables.n st.runnables.at r p.0 here)
       ∙ woken-pending (is_returned cfg o r) (runnable_conf_in cfg.runnables r) (runnable_in st.runnables r)
@@ -142,11 +143,11 @@ module _ (cfg : Config) (st : State) (s : Step) (r : ℕ) (p : Plain cfg r) (g :
 
   -- one runnable changed: r itself, or another
   put_same : (x : Runnable) → runnable_in (with_runnable st.runnables r x) r ≡ x
-  unfolding runnable_in with_runnable
+  unfolding place_in with_place
   put_same x = get_or-set_same st.runnables.at r x no_runnable here
 
   put_other : (k : ℕ) (x : Runnable) → (r ≡ k → ⊥) → runnable_in (with_runnable st.runnables k x) r ≡ runnable_in st.runnables r
-  unfolding runnable_in with_runnable
+  unfolding place_in with_place
   put_other k x n = get_or-set_other st.runnables.at k r x no_runnable n
 
   tick-pending : (k : ℕ) → (runnable_in (with_runnable st.runnables k (woken (runnable_conf_in cfg.runnables k) (runnable_in st.runnables k))) r).pending ≡ pick (eqb k r) (one_more (top_at cfg r) (pending_of st r)) (pending_of st r)

@@ -3,8 +3,7 @@
 use Rattle.std.specs.Prelude.{ℕ, ◌+◌, Bool, ltb, eqb}
 use Rattle.laws.specs.Choice.{both}
 use Rattle.laws.specs.Loop.{first_below, count_below}
-use Rattle.config.specs.declared.Lists.{Lists}
-use Rattle.config.specs.Tables.{max_listed, listed_in}
+use Rattle.config.specs.Tables.{Lists, max_listed, listed_in}
 
 -- how many of the first n pairs are of the runnable r (W-211)
 unfoldable pub listed_below : Lists → ℕ → ℕ → ℕ

@@ -1,11 +1,14 @@
 // The parts of a configuration at their real sizes. Each kind stands in a table of its own, and a table type says how many it holds.
 #![tactic(auto)]
 
-ghost use Rattle.std.specs.Prelude.{◌≡◌, eqb};
+ghost use Rattle.std.specs.Prelude.{◌≡◌, ◌+◌, eqb};
 ghost use Rattle.laws.specs.Choice.{bit, both};
 ghost use Rattle.config.specs.Editions.{is_edition, marks_invalid, has_step, lists_elements, has_field};
-ghost use Rattle.config.specs.Tables.{no_runnable_confs, no_variable_confs, no_area_confs, no_required_confs, no_provided_confs, no_links, no_operation_confs, no_timer_confs, no_data_events, no_return_events, runnable_conf_in, variable_conf_in, area_conf_in, required_conf_in, provided_conf_in, link_in, operation_conf_in, timer_conf_in, data_event_in, return_event_in, add_runnable_conf, add_variable_conf, add_area_conf, add_required_conf, add_provided_conf, add_link, add_operation_conf, add_timer_conf, add_data_event, add_return_event, no_config, top_of, no_lists, listed_in, add_listed};
+ghost use Rattle.config.specs.Table.{no_parts, part_in, add_part};
+ghost use Rattle.config.specs.Tables.{no_runnable_conf, no_variable_conf, no_area_conf, no_required_conf, no_provided_conf, no_link, no_operation_conf, no_timer_conf, no_data_event, no_return_event, no_listed, no_config, top_of};
 ghost use Rattle.config.specs.Lists.{listed_below, first_listed, lists_at, element_at, place_of, is_listed};
+
+use values::Part;
 
 // A flag as a number.
 pub fn bit(b: bool) -> u8
@@ -17,6 +20,57 @@ pub fn bit(b: bool) -> u8
 // The top of a capacity, and so the places of a queue.
 pub const MAX_CAPACITY: u8 = 16;
 
+// The parts of a kind in a configuration, in the order of the file and counted from 0; the first n places are in use.
+#[derive(Clone, Copy)]
+pub struct Table<T, const N: usize> {
+    pub n: u8,
+    pub at: [T; N],
+}
+
+impl<T: Part, const N: usize> Table<T, N> {
+    pub fn none() -> Table<T, N>
+        ensures { result ≡ no_parts T.blank }
+    {
+        Table {
+            n: 0,
+            at: [T::blank(); N],
+        }
+    }
+
+    // What stands at place i, or the blank part past the last place.
+    pub fn get(self, i: u8) -> T
+        ensures { result ≡ part_in T.blank self i }
+    {
+        self.part(i as usize)
+    }
+
+    // The same for a place that may be past what a byte counts.
+    #[tactic(auto, unfolding(crate::specs::Table::part_in))]
+    pub fn part(self, k: usize) -> T
+        ensures { result ≡ part_in T.blank self k }
+    {
+        if k < N {
+            return self.at[k];
+        }
+        T::blank()
+    }
+
+    // One more, at the first unused place; nothing changes where there is none.
+    #[tactic(auto, unfolding(crate::specs::Table::add_part))]
+    pub fn add(self, x: T) -> Table<T, N>
+        ensures { result ≡ add_part self x }
+    {
+        let k = self.n as usize;
+        if k < N && self.n < u8::MAX {
+            let mut t = self;
+            t.at[k] = x;
+            t.n += 1;
+            return t;
+        }
+        self
+    }
+}
+
 #[derive(Clone, Copy)]
 pub struct RunnableConf {
     pub component: u8,
@@ -27,50 +81,11 @@ pub struct RunnableConf {
     pub capacity: u8,
 }
 
-// The runnables, in the order of the file and counted from 0; the first n places are in use.
-#[derive(Clone, Copy)]
-pub struct RunnableConfs {
-    pub n: u8,
-    pub at: [RunnableConf; RunnableConfs::MAX],
-}
+// The runnables, in the order of the file and counted from 0.
+pub type RunnableConfs = Table<RunnableConf, { RunnableConf::MAX }>;
 
 impl RunnableConfs {
-    pub const MAX: usize = 16;
-
-    pub fn none() -> RunnableConfs
-        ensures { result ≡ no_runnable_confs }
-    {
-        RunnableConfs {
-            n: 0,
-            at: [RunnableConf::BLANK; RunnableConfs::MAX],
-        }
-    }
-
-    // What stands at place i, or the blank part past the last place.
-    pub fn get(self, i: u8) -> RunnableConf
-        ensures { result ≡ runnable_conf_in self i }
-    {
-        let k = i as usize;
-        if k < RunnableConfs::MAX {
-            return self.at[k];
-        }
-        RunnableConf::BLANK
-    }
-
-    // One more, at the first unused place; nothing changes where there is none.
-    pub fn add(self, x: RunnableConf) -> RunnableConfs
-        ensures { result ≡ add_runnable_conf self x }
-    {
-        let n = self.n;
-        let k = n as usize;
-        if k < RunnableConfs::MAX {
-            let mut t = self;
-            t.at[k] = x;
-            t.n = n + 1;
-            return t;
-        }
-        self
-    }
+    pub const MAX: usize = RunnableConf::MAX;
 }
 
 impl RunnableConf {
@@ -82,6 +97,9 @@ impl RunnableConf {
         interval: 0,
         capacity: 0,
     };
+
+    // How many a configuration may have.
+    pub const MAX: usize = 16;
 
     // The most activations that are pending where they are counted.
     pub const MAX_PENDING: u8 = 15;
@@ -97,6 +115,14 @@ impl RunnableConf {
     }
 }
 
+impl Part for RunnableConf {
+    ghost blank = { no_runnable_conf };
+
+    fn blank() -> RunnableConf {
+        RunnableConf::BLANK
+    }
+}
+
 #[derive(Clone, Copy)]
 pub struct VariableConf {
     pub component: u8,
@@ -104,50 +130,11 @@ pub struct VariableConf {
     pub initial: u32,
 }
 
-// The variables, in the order of the file and counted from 0; the first n places are in use.
-#[derive(Clone, Copy)]
-pub struct VariableConfs {
-    pub n: u8,
-    pub at: [VariableConf; VariableConfs::MAX],
-}
+// The variables, in the order of the file and counted from 0.
+pub type VariableConfs = Table<VariableConf, { VariableConf::MAX }>;
 
 impl VariableConfs {
-    pub const MAX: usize = 16;
-
-    pub fn none() -> VariableConfs
-        ensures { result ≡ no_variable_confs }
-    {
-        VariableConfs {
-            n: 0,
-            at: [VariableConf::BLANK; VariableConfs::MAX],
-        }
-    }
-
-    // What stands at place i, or the blank part past the last place.
-    pub fn get(self, i: u8) -> VariableConf
-        ensures { result ≡ variable_conf_in self i }
-    {
-        let k = i as usize;
-        if k < VariableConfs::MAX {
-            return self.at[k];
-        }
-        VariableConf::BLANK
-    }
-
-    // One more, at the first unused place; nothing changes where there is none.
-    pub fn add(self, x: VariableConf) -> VariableConfs
-        ensures { result ≡ add_variable_conf self x }
-    {
-        let n = self.n;
-        let k = n as usize;
-        if k < VariableConfs::MAX {
-            let mut t = self;
-            t.at[k] = x;
-            t.n = n + 1;
-            return t;
-        }
-        self
-    }
+    pub const MAX: usize = VariableConf::MAX;
 }
 
 impl VariableConf {
@@ -156,6 +143,17 @@ impl VariableConf {
         initialed: false,
         initial: 0,
     };
+
+    // How many a configuration may have.
+    pub const MAX: usize = 16;
+}
+
+impl Part for VariableConf {
+    ghost blank = { no_variable_conf };
+
+    fn blank() -> VariableConf {
+        VariableConf::BLANK
+    }
 }
 
 #[derive(Clone, Copy)]
@@ -163,54 +161,26 @@ pub struct AreaConf {
     pub component: u8,
 }
 
-// The exclusive areas, in the order of the file and counted from 0; the first n places are in use.
-#[derive(Clone, Copy)]
-pub struct AreaConfs {
-    pub n: u8,
-    pub at: [AreaConf; AreaConfs::MAX],
-}
+// The exclusive areas, in the order of the file and counted from 0.
+pub type AreaConfs = Table<AreaConf, { AreaConf::MAX }>;
 
 impl AreaConfs {
-    pub const MAX: usize = 16;
-
-    pub fn none() -> AreaConfs
-        ensures { result ≡ no_area_confs }
-    {
-        AreaConfs {
-            n: 0,
-            at: [AreaConf::BLANK; AreaConfs::MAX],
-        }
-    }
-
-    // What stands at place i, or the blank part past the last place.
-    pub fn get(self, i: u8) -> AreaConf
-        ensures { result ≡ area_conf_in self i }
-    {
-        let k = i as usize;
-        if k < AreaConfs::MAX {
-            return self.at[k];
-        }
-        AreaConf::BLANK
-    }
-
-    // One more, at the first unused place; nothing changes where there is none.
-    pub fn add(self, x: AreaConf) -> AreaConfs
-        ensures { result ≡ add_area_conf self x }
-    {
-        let n = self.n;
-        let k = n as usize;
-        if k < AreaConfs::MAX {
-            let mut t = self;
-            t.at[k] = x;
-            t.n = n + 1;
-            return t;
-        }
-        self
-    }
+    pub const MAX: usize = AreaConf::MAX;
 }
 
 impl AreaConf {
     pub const BLANK: AreaConf = AreaConf { component: 0 };
+
+    // How many a configuration may have.
+    pub const MAX: usize = 16;
+}
+
+impl Part for AreaConf {
+    ghost blank = { no_area_conf };
+
+    fn blank() -> AreaConf {
+        AreaConf::BLANK
+    }
 }
 
 #[derive(Clone, Copy)]
@@ -219,50 +189,11 @@ pub struct RequiredConf {
     pub capacity: u8,
 }
 
-// The required elements, in the order of the file and counted from 0; the first n places are in use.
-#[derive(Clone, Copy)]
-pub struct RequiredConfs {
-    pub n: u8,
-    pub at: [RequiredConf; RequiredConfs::MAX],
-}
+// The required elements, in the order of the file and counted from 0.
+pub type RequiredConfs = Table<RequiredConf, { RequiredConf::MAX }>;
 
 impl RequiredConfs {
-    pub const MAX: usize = 16;
-
-    pub fn none() -> RequiredConfs
-        ensures { result ≡ no_required_confs }
-    {
-        RequiredConfs {
-            n: 0,
-            at: [RequiredConf::BLANK; RequiredConfs::MAX],
-        }
-    }
-
-    // What stands at place i, or the blank part past the last place.
-    pub fn get(self, i: u8) -> RequiredConf
-        ensures { result ≡ required_conf_in self i }
-    {
-        let k = i as usize;
-        if k < RequiredConfs::MAX {
-            return self.at[k];
-        }
-        RequiredConf::BLANK
-    }
-
-    // One more, at the first unused place; nothing changes where there is none.
-    pub fn add(self, x: RequiredConf) -> RequiredConfs
-        ensures { result ≡ add_required_conf self x }
-    {
-        let n = self.n;
-        let k = n as usize;
-        if k < RequiredConfs::MAX {
-            let mut t = self;
-            t.at[k] = x;
-            t.n = n + 1;
-            return t;
-        }
-        self
-    }
+    pub const MAX: usize = RequiredConf::MAX;
 }
 
 impl RequiredConf {
@@ -270,6 +201,17 @@ impl RequiredConf {
         component: 0,
         capacity: 0,
     };
+
+    // How many a configuration may have.
+    pub const MAX: usize = 16;
+}
+
+impl Part for RequiredConf {
+    ghost blank = { no_required_conf };
+
+    fn blank() -> RequiredConf {
+        RequiredConf::BLANK
+    }
 }
 
 #[derive(Clone, Copy)]
@@ -278,50 +220,11 @@ pub struct ProvidedConf {
     pub queued: bool,
 }
 
-// The provided elements, in the order of the file and counted from 0; the first n places are in use.
-#[derive(Clone, Copy)]
-pub struct ProvidedConfs {
-    pub n: u8,
-    pub at: [ProvidedConf; ProvidedConfs::MAX],
-}
+// The provided elements, in the order of the file and counted from 0.
+pub type ProvidedConfs = Table<ProvidedConf, { ProvidedConf::MAX }>;
 
 impl ProvidedConfs {
-    pub const MAX: usize = 16;
-
-    pub fn none() -> ProvidedConfs
-        ensures { result ≡ no_provided_confs }
-    {
-        ProvidedConfs {
-            n: 0,
-            at: [ProvidedConf::BLANK; ProvidedConfs::MAX],
-        }
-    }
-
-    // What stands at place i, or the blank part past the last place.
-    pub fn get(self, i: u8) -> ProvidedConf
-        ensures { result ≡ provided_conf_in self i }
-    {
-        let k = i as usize;
-        if k < ProvidedConfs::MAX {
-            return self.at[k];
-        }
-        ProvidedConf::BLANK
-    }
-
-    // One more, at the first unused place; nothing changes where there is none.
-    pub fn add(self, x: ProvidedConf) -> ProvidedConfs
-        ensures { result ≡ add_provided_conf self x }
-    {
-        let n = self.n;
-        let k = n as usize;
-        if k < ProvidedConfs::MAX {
-            let mut t = self;
-            t.at[k] = x;
-            t.n = n + 1;
-            return t;
-        }
-        self
-    }
+    pub const MAX: usize = ProvidedConf::MAX;
 }
 
 impl ProvidedConf {
@@ -329,6 +232,17 @@ impl ProvidedConf {
         component: 0,
         queued: false,
     };
+
+    // How many a configuration may have.
+    pub const MAX: usize = 16;
+}
+
+impl Part for ProvidedConf {
+    ghost blank = { no_provided_conf };
+
+    fn blank() -> ProvidedConf {
+        ProvidedConf::BLANK
+    }
 }
 
 #[derive(Clone, Copy)]
@@ -337,50 +251,11 @@ pub struct Link {
     pub required: u8,
 }
 
-// The links, in the order of the file and counted from 0; the first n places are in use.
-#[derive(Clone, Copy)]
-pub struct Links {
-    pub n: u8,
-    pub at: [Link; Links::MAX],
-}
+// The links, in the order of the file and counted from 0.
+pub type Links = Table<Link, { Link::MAX }>;
 
 impl Links {
-    pub const MAX: usize = 32;
-
-    pub fn none() -> Links
-        ensures { result ≡ no_links }
-    {
-        Links {
-            n: 0,
-            at: [Link::BLANK; Links::MAX],
-        }
-    }
-
-    // What stands at place i, or the blank part past the last place.
-    pub fn get(self, i: u8) -> Link
-        ensures { result ≡ link_in self i }
-    {
-        let k = i as usize;
-        if k < Links::MAX {
-            return self.at[k];
-        }
-        Link::BLANK
-    }
-
-    // One more, at the first unused place; nothing changes where there is none.
-    pub fn add(self, x: Link) -> Links
-        ensures { result ≡ add_link self x }
-    {
-        let n = self.n;
-        let k = n as usize;
-        if k < Links::MAX {
-            let mut t = self;
-            t.at[k] = x;
-            t.n = n + 1;
-            return t;
-        }
-        self
-    }
+    pub const MAX: usize = Link::MAX;
 }
 
 impl Link {
@@ -388,6 +263,17 @@ impl Link {
         provided: 0,
         required: 0,
     };
+
+    // How many a configuration may have.
+    pub const MAX: usize = 32;
+}
+
+impl Part for Link {
+    ghost blank = { no_link };
+
+    fn blank() -> Link {
+        Link::BLANK
+    }
 }
 
 #[derive(Clone, Copy)]
@@ -398,50 +284,11 @@ pub struct OperationConf {
     pub timeout: u32,
 }
 
-// The operations, in the order of the file and counted from 0; the first n places are in use.
-#[derive(Clone, Copy)]
-pub struct OperationConfs {
-    pub n: u8,
-    pub at: [OperationConf; OperationConfs::MAX],
-}
+// The operations, in the order of the file and counted from 0.
+pub type OperationConfs = Table<OperationConf, { OperationConf::MAX }>;
 
 impl OperationConfs {
-    pub const MAX: usize = 8;
-
-    pub fn none() -> OperationConfs
-        ensures { result ≡ no_operation_confs }
-    {
-        OperationConfs {
-            n: 0,
-            at: [OperationConf::BLANK; OperationConfs::MAX],
-        }
-    }
-
-    // What stands at place i, or the blank part past the last place.
-    pub fn get(self, i: u8) -> OperationConf
-        ensures { result ≡ operation_conf_in self i }
-    {
-        let k = i as usize;
-        if k < OperationConfs::MAX {
-            return self.at[k];
-        }
-        OperationConf::BLANK
-    }
-
-    // One more, at the first unused place; nothing changes where there is none.
-    pub fn add(self, x: OperationConf) -> OperationConfs
-        ensures { result ≡ add_operation_conf self x }
-    {
-        let n = self.n;
-        let k = n as usize;
-        if k < OperationConfs::MAX {
-            let mut t = self;
-            t.at[k] = x;
-            t.n = n + 1;
-            return t;
-        }
-        self
-    }
+    pub const MAX: usize = OperationConf::MAX;
 }
 
 impl OperationConf {
@@ -451,6 +298,17 @@ impl OperationConf {
         server: 0,
         timeout: 0,
     };
+
+    // How many a configuration may have.
+    pub const MAX: usize = 8;
+}
+
+impl Part for OperationConf {
+    ghost blank = { no_operation_conf };
+
+    fn blank() -> OperationConf {
+        OperationConf::BLANK
+    }
 }
 
 #[derive(Clone, Copy)]
@@ -459,50 +317,11 @@ pub struct TimerConf {
     pub period: u32,
 }
 
-// The timers, in the order of the file and counted from 0; the first n places are in use.
-#[derive(Clone, Copy)]
-pub struct TimerConfs {
-    pub n: u8,
-    pub at: [TimerConf; TimerConfs::MAX],
-}
+// The timers, in the order of the file and counted from 0.
+pub type TimerConfs = Table<TimerConf, { TimerConf::MAX }>;
 
 impl TimerConfs {
-    pub const MAX: usize = 8;
-
-    pub fn none() -> TimerConfs
-        ensures { result ≡ no_timer_confs }
-    {
-        TimerConfs {
-            n: 0,
-            at: [TimerConf::BLANK; TimerConfs::MAX],
-        }
-    }
-
-    // What stands at place i, or the blank part past the last place.
-    pub fn get(self, i: u8) -> TimerConf
-        ensures { result ≡ timer_conf_in self i }
-    {
-        let k = i as usize;
-        if k < TimerConfs::MAX {
-            return self.at[k];
-        }
-        TimerConf::BLANK
-    }
-
-    // One more, at the first unused place; nothing changes where there is none.
-    pub fn add(self, x: TimerConf) -> TimerConfs
-        ensures { result ≡ add_timer_conf self x }
-    {
-        let n = self.n;
-        let k = n as usize;
-        if k < TimerConfs::MAX {
-            let mut t = self;
-            t.at[k] = x;
-            t.n = n + 1;
-            return t;
-        }
-        self
-    }
+    pub const MAX: usize = TimerConf::MAX;
 }
 
 impl TimerConf {
@@ -510,6 +329,17 @@ impl TimerConf {
         runnable: 0,
         period: 0,
     };
+
+    // How many a configuration may have.
+    pub const MAX: usize = 8;
+}
+
+impl Part for TimerConf {
+    ghost blank = { no_timer_conf };
+
+    fn blank() -> TimerConf {
+        TimerConf::BLANK
+    }
 }
 
 #[derive(Clone, Copy)]
@@ -518,50 +348,11 @@ pub struct DataEvent {
     pub required: u8,
 }
 
-// The data events, in the order of the file and counted from 0; the first n places are in use.
-#[derive(Clone, Copy)]
-pub struct DataEvents {
-    pub n: u8,
-    pub at: [DataEvent; DataEvents::MAX],
-}
+// The data events, in the order of the file and counted from 0.
+pub type DataEvents = Table<DataEvent, { DataEvent::MAX }>;
 
 impl DataEvents {
-    pub const MAX: usize = 32;
-
-    pub fn none() -> DataEvents
-        ensures { result ≡ no_data_events }
-    {
-        DataEvents {
-            n: 0,
-            at: [DataEvent::BLANK; DataEvents::MAX],
-        }
-    }
-
-    // What stands at place i, or the blank part past the last place.
-    pub fn get(self, i: u8) -> DataEvent
-        ensures { result ≡ data_event_in self i }
-    {
-        let k = i as usize;
-        if k < DataEvents::MAX {
-            return self.at[k];
-        }
-        DataEvent::BLANK
-    }
-
-    // One more, at the first unused place; nothing changes where there is none.
-    pub fn add(self, x: DataEvent) -> DataEvents
-        ensures { result ≡ add_data_event self x }
-    {
-        let n = self.n;
-        let k = n as usize;
-        if k < DataEvents::MAX {
-            let mut t = self;
-            t.at[k] = x;
-            t.n = n + 1;
-            return t;
-        }
-        self
-    }
+    pub const MAX: usize = DataEvent::MAX;
 }
 
 impl DataEvent {
@@ -569,6 +360,17 @@ impl DataEvent {
         runnable: 0,
         required: 0,
     };
+
+    // How many a configuration may have.
+    pub const MAX: usize = 32;
+}
+
+impl Part for DataEvent {
+    ghost blank = { no_data_event };
+
+    fn blank() -> DataEvent {
+        DataEvent::BLANK
+    }
 }
 
 #[derive(Clone, Copy)]
@@ -577,50 +379,11 @@ pub struct ReturnEvent {
     pub operation: u8,
 }
 
-// The return events, in the order of the file and counted from 0; the first n places are in use.
-#[derive(Clone, Copy)]
-pub struct ReturnEvents {
-    pub n: u8,
-    pub at: [ReturnEvent; ReturnEvents::MAX],
-}
+// The return events, in the order of the file and counted from 0.
+pub type ReturnEvents = Table<ReturnEvent, { ReturnEvent::MAX }>;
 
 impl ReturnEvents {
-    pub const MAX: usize = 16;
-
-    pub fn none() -> ReturnEvents
-        ensures { result ≡ no_return_events }
-    {
-        ReturnEvents {
-            n: 0,
-            at: [ReturnEvent::BLANK; ReturnEvents::MAX],
-        }
-    }
-
-    // What stands at place i, or the blank part past the last place.
-    pub fn get(self, i: u8) -> ReturnEvent
-        ensures { result ≡ return_event_in self i }
-    {
-        let k = i as usize;
-        if k < ReturnEvents::MAX {
-            return self.at[k];
-        }
-        ReturnEvent::BLANK
-    }
-
-    // One more, at the first unused place; nothing changes where there is none.
-    pub fn add(self, x: ReturnEvent) -> ReturnEvents
-        ensures { result ≡ add_return_event self x }
-    {
-        let n = self.n;
-        let k = n as usize;
-        if k < ReturnEvents::MAX {
-            let mut t = self;
-            t.at[k] = x;
-            t.n = n + 1;
-            return t;
-        }
-        self
-    }
+    pub const MAX: usize = ReturnEvent::MAX;
 }
 
 impl ReturnEvent {
@@ -628,6 +391,17 @@ impl ReturnEvent {
         runnable: 0,
         operation: 0,
     };
+
+    // How many a configuration may have.
+    pub const MAX: usize = 16;
+}
+
+impl Part for ReturnEvent {
+    ghost blank = { no_return_event };
+
+    fn blank() -> ReturnEvent {
+        ReturnEvent::BLANK
+    }
 }
 
 // An element that a runnable lists: to be copied at its spawn, or to be written at its end.
@@ -637,63 +411,22 @@ pub struct Listed {
     pub element: u8,
 }
 
-// The listed elements, in the order of the file and counted from 0; the first n places are in use.
-#[derive(Clone, Copy)]
-pub struct Lists {
-    pub n: u8,
-    pub at: [Listed; Lists::MAX],
-}
+// The listed elements, in the order of the file and counted from 0.
+pub type Lists = Table<Listed, { Listed::MAX }>;
 
 impl Lists {
-    pub const MAX: usize = 64;
+    pub const MAX: usize = Listed::MAX;
 
     // The most elements that one runnable lists.
     pub const MAX_LISTED: u8 = 4;
-
-    pub fn none() -> Lists
-        ensures { result ≡ no_lists }
-    {
-        Lists {
-            n: 0,
-            at: [Listed::BLANK; Lists::MAX],
-        }
-    }
-
-    // What stands at place i, or the blank part past the last place.
-    pub fn get(self, i: usize) -> Listed
-        ensures { result ≡ listed_in self i }
-    {
-        if i < Lists::MAX {
-            return self.at[i];
-        }
-        Listed::BLANK
-    }
-
-    // One more, at the first unused place; nothing changes where there is none.
-    pub fn add(self, x: Listed) -> Lists
-        ensures { result ≡ add_listed self x }
-    {
-        let n = self.n;
-        let k = n as usize;
-        if k < Lists::MAX {
-            let mut t = self;
-            t.at[k] = x;
-            t.n = n + 1;
-            return t;
-        }
-        self
-    }
 
     // How many of the first n pairs are of the runnable r.
     pub fn below(self, r: u8, n: u8) -> u8
         ensures { result ≡ listed_below self r n }
     {
         let mut m: u8 = 0;
-        let mut k: u8 = 0;
-        while k < n {
-            let x = self.get(k as usize);
-            m = m + bit(x.runnable == r);
-            k = k + 1;
+        for k in 0..n {
+            m += bit(self.get(k).runnable == r);
         }
         m
     }
@@ -702,38 +435,36 @@ impl Lists {
     pub fn first(self, r: u8) -> u8
         ensures { result ≡ first_listed self r }
     {
-        let n = self.n;
-        let mut k: u8 = 0;
-        while k < n {
-            let x = self.get(k as usize);
-            if x.runnable == r {
+        for k in 0..self.n {
+            if self.get(k).runnable == r {
                 return k;
             }
-            k = k + 1;
         }
-        n
+        self.n
+    }
+
+    // Where the pair would stand that is j places behind the first of the runnable r.
+    fn behind(self, r: u8, j: u8) -> usize
+        ensures { result ≡ first_listed self r + j }
+    {
+        self.first(r) as usize + j as usize
     }
 
     // The runnable r has a pair j places behind its first.
+    #[tactic(auto, unfolding(crate::specs::Lists::lists_at))]
     pub fn lists_at(self, r: u8, j: u8) -> bool
         ensures { result ≡ lists_at self r j }
     {
-        let k = self.first(r) as usize + j as usize;
-        let n = self.n as usize;
-        if k < n {
-            let x = self.get(k);
-            return x.runnable == r;
-        }
-        false
+        let k = self.behind(r, j);
+        k < self.n as usize && self.part(k).runnable == r
     }
 
     // The element of that pair.
+    #[tactic(auto, unfolding(crate::specs::Lists::element_at))]
     pub fn element_at(self, r: u8, j: u8) -> u8
         ensures { result ≡ element_at self r j }
     {
-        let k = self.first(r) as usize + j as usize;
-        let x = self.get(k);
-        x.element
+        self.part(self.behind(r, j)).element
     }
 
     // It is there, and its element is q.
@@ -747,12 +478,10 @@ impl Lists {
     pub fn place(self, r: u8, q: u8) -> u8
         ensures { result ≡ place_of self r q }
     {
-        let mut j: u8 = 0;
-        while j < Lists::MAX_LISTED {
+        for j in 0..Lists::MAX_LISTED {
             if self.has_at(r, q, j) {
                 return j;
             }
-            j = j + 1;
         }
         Lists::MAX_LISTED
     }
@@ -770,6 +499,17 @@ impl Listed {
         runnable: 0,
         element: 0,
     };
+
+    // How many a configuration may have.
+    pub const MAX: usize = 64;
+}
+
+impl Part for Listed {
+    ghost blank = { no_listed };
+
+    fn blank() -> Listed {
+        Listed::BLANK
+    }
 }
 
 // A configuration: its kinds of parts, and its edition.
@@ -846,14 +586,12 @@ pub fn lists_elements(e: u8) -> bool
 }
 
 // The edition has fields with this tag.
+#[tactic(auto, unfolding(crate::specs::Editions::has_field))]
 pub fn has_field(e: u8, tag: u8) -> bool
     ensures { result ≡ has_field e tag }
 {
-    if tag == numbers::TAG_INCOMING {
-        return lists_elements(e);
+    match tag {
+        numbers::TAG_INCOMING | numbers::TAG_OUTGOING => lists_elements(e),
+        _ => true,
     }
-    if tag == numbers::TAG_OUTGOING {
-        return lists_elements(e);
-    }
-    true
 }

@@ -28,6 +28,7 @@ use Rattle.reading.proofs.Sound.{read-sound}
 use Rattle.round_trips.proofs.EachEntry.{part-fits}
 use Rattle.round_trips.proofs.Sameness.{no_more}
 use Rattle.history.proofs.Beside.{all_alike}
+use Rattle.config.specs.Table.{add_part}
 use Rattle.crew.specs.Crew.{Fixed}
 
 -- ---- initials
@@ -48,7 +49,7 @@ unfolding no_config
 blank-small = record { each = λ i. all_alike (λ (x : VariableConf). x.initial < 2 ^ 32) 16 no_variable_conf i (omega arith) }
 
 added-small : (t : VariableConfs) (x : VariableConf) → x.initial < 2 ^ 32 → ((i : ℕ) → (get_or t.at i no_variable_conf).initial < 2 ^ 32) → (i : ℕ) → (get_or (add_variable_conf t x).at i no_variable_conf).initial < 2 ^ 32
-unfolding add_variable_conf
+unfolding add_part
 added-small t x b h i =
     pick-has (λ (u : VariableConfs). (get_or u.at i no_variable_conf).initial < 2 ^ 32) (ltb t.n max_variable_confs) (record { n = t.n + 1; at = set t.at t.n x }) t
     (λ _. set_all (λ (y : VariableConf). y.initial < 2 ^ 32) t.at t.n x no_variable_conf b h i) (λ _. h i)

@@ -28,8 +28,8 @@ use Rattle.config.specs.Tables.{required_conf_in, provided_conf_in}
 use Rattle.entries.specs.Entries.{entry_of}
 use Rattle.entries.specs.Faults.{is_queued, config_sound}
 use Rattle.state.specs.Parts.{no_values, no_element}
-use Rattle.state.specs.Queues.{up_one, push_value, rest_values, first_value}
-use Rattle.state.specs.Start.{start_element, start_elements, start_of}
+use Rattle.state.specs.Queues.{up_one, push_value, rest_values, first_value, oldest, pushed, without_oldest}
+use Rattle.state.specs.Start.{start_element, start_elements, start_of, started}
 use Rattle.state.specs.Tables.{no_elements, element_in, with_element, slot_in, copy_in}
 use Rattle.rules.specs.Rows.{a_slot, scheduler, rows, row_of}
 use Rattle.rules.specs.Sound.{component_of, is_stored, values_sound, element_sound, elements_sound}
@@ -58,6 +58,7 @@ use Rattle.history.proofs.Lets.{sent-queued}
 use Rattle.history.proofs.Runs.{Halves, halves, first, along}
 use Rattle.history.proofs.Sends.{said}
 use Rattle.crew.specs.Crew.{NamesParts}
+use Rattle.state.specs.Places.{no_places, place_in, with_place}
 use Rattle.crew.specs.Values.{values_after, values_in, ValuesWaitingFit, OkHadRoom, FullNamesSpent, ReceivesOldest, HeldWaits}
 
 -- ---- the followed values, step by step
@@ -144,7 +145,7 @@ module _ (cfg : Config) (c : config_sound cfg ≡ true) (q : ℕ) (y : is_queued
       go (no n) = absurd (clash (ltb 0 room) y (ap (λ x. ltb 0 x.capacity) (required-blank cfg c q (omega (arith, n)))))
 
   follows-start : Follows (start_of cfg).elements q []
-  unfolding start_of start_elements element_in no_elements no_element no_values
+  unfolding start_of started place_in no_places no_element no_values
   follows-start =
       let z : (element_in (start_of cfg).elements q).queue.queued ≡ 0 =
       each-has (λ (k : ℕ) (x : Element). start_element (required_conf_in cfg.required k)) no_element (λ (k : ℕ) (x : Element). x.queue.queued ≡ 0) cfg.required.n no_elements.at q
@@ -208,7 +209,7 @@ module _ (cfg : Config) (c : config_sound cfg ≡ true) (q : ℕ) (y : is_queued
     handed-queue i = pick-has (λ (u : Elements). (element_in u q).queue ≡ x.queue) (hands_on cfg st i) _ st.elements (λ _. (given-queue _ _ 4).1) (λ _. refl)
 
     copied-queue : (r : ℕ) → (element_in (copied_elements cfg r st.elements) q).queue ≡ x.queue
-    unfolding copied_elements seen_elements element_in
+    unfolding copied_elements seen_elements place_in
     copied-queue r =
         pick-has (λ (u : Elements). (get_or u.at q no_element).queue ≡ x.queue) (lists_at cfg.incoming r 0) _ st.elements
         (λ _. each-has (λ (k : ℕ) (z : Element). pick (is_listed cfg.incoming r k) (seen z) z) no_element (λ k z. z.queue ≡ (get_or st.elements.at k no_element).queue) cfg.required.n st.elements.at q
@@ -216,7 +217,7 @@ module _ (cfg : Config) (c : config_sound cfg ≡ true) (q : ℕ) (y : is_queued
 
     -- another element is replaced, or this one with its queue kept
     replaced : (k : ℕ) (z : Element) → z.queue ≡ (element_in st.elements k).queue → (element_in (with_element st.elements k z) q).queue ≡ x.queue
-    unfolding element_in with_element
+    unfolding place_in with_place
     replaced k z e = go (ℕ_discrete q k)
       where
         go : Dec (q ≡ k) → (get_or (set st.elements.at k z) q no_element).queue ≡ (get_or st.elements.at q no_element).queue
@@ -226,7 +227,7 @@ module _ (cfg : Config) (c : config_sound cfg ≡ true) (q : ℕ) (y : is_queued
     -- a send: a linked queue with room has the value as its newest, any other is as it was
     pushed : (w : List Value) (v : Value) → x.queue.queued < room → Follows st.elements q w
         → Beside (λ (a b : Value). a ≡ b) void_v void_v (push_value x.queue v).queued (push_value x.queue v).at (w ++ (v ∷ []))
-    unfolding push_value
+    unfolding pushed
     pushed w v l r =
         let e : up_one x.queue.queued ≡ x.queue.queued + 1 = mod-eq_of_lt (omega (arith, l, length_most cfg c q)) in
         rw e (beside-push (λ (a b : Value). a ≡ b) void_v void_v x.queue.queued x.queue.at w v v (omega (arith, l, length_most cfg c q, places)) refl r)
@@ -246,11 +247,11 @@ module _ (cfg : Config) (c : config_sound cfg ≡ true) (q : ℕ) (y : is_queued
 
     -- a receive: the oldest is gone from its queue, and where there was none nothing is
     taken : (w : List Value) → Follows st.elements q w → Beside (λ (a b : Value). a ≡ b) void_v void_v (rest_values x.queue).queued (rest_values x.queue).at (drop 1 w)
-    unfolding rest_values
+    unfolding without_oldest
     taken w r = beside-pop (λ (a b : Value). a ≡ b) void_v void_v x.queue.queued x.queue.at w (omega (arith, most, length_most cfg c q, places)) r
 
     follows-receive : (s : Step) (w : List Value) → s.code ≡ receive_code → Follows st.elements q w → Follows (received st s.who s.what).elements q (values_after cfg q w s)
-    unfolding values_after element_in with_element
+    unfolding values_after place_in with_place
     follows-receive s w k r = go (ℕ_discrete s.what q)
       where
         go : Dec (s.what ≡ q) → Follows (received st s.who s.what).elements q (values_after cfg q w s)
@@ -317,7 +318,7 @@ names-parts cfg before after s st c e =
 
 -- the answer to a receive, by its way
 oldest : (cfg : Config) (st : State) (s : Step) (w : List Value) {u : Value} {t : State} → Follows st.elements s.what w → Way cfg st s receive_code u t → u ≡ get_or w 0 no_data_v
-unfolding first_value
+unfolding oldest
 oldest cfg st s [] r (go.receive_none e i) = refl
 oldest cfg st s (v ∷ w) r (go.receive_none e i) = absurd (omega (arith, r.size, eqb-true (element_in st.elements s.what).queue.queued 0 e))
 oldest cfg st s [] r (go.receive z) = absurd (omega (arith, r.size, z.some))

@@ -23,6 +23,7 @@ use Rattle.entries.specs.Faults.{is_queued}
 use Rattle.state.specs.Parts.{no_element}
 use Rattle.state.specs.Tables.{element_in}
 use Rattle.effects.specs.Fullness.{FullQueue}
+use Rattle.state.specs.Places.{place_in}
 use Rattle.effects.specs.Steps.{linked, accepts, queueing, fed_element, fed_elements, is_full, full_mask, sent_of}
 
 not-true : (b : Bool) → not b ≡ true → b ≡ false
@@ -98,7 +99,7 @@ module _ (cfg : Config) (t : Elements) (p q : ℕ) where
 
     -- the element is so after the send
     pub fed-at : q < cfg.required.n → q < length t.at → element_in (fed_elements cfg p v t) q ≡ fed_element cfg p v q here
-    unfolding element_in fed_elements
+    unfolding place_in fed_elements
     fed-at l b = each_at (fed_element cfg p v) no_element cfg.required.n t.at q l b
 
 -- ---- the answer

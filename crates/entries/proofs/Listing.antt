@@ -16,7 +16,7 @@ use Rattle.laws.specs.Loop.{sum_below, count_below, first_below}
 use Rattle.laws.proofs.Choosing.{both_left, both_right, either-right, bit-most}
 use Rattle.laws.proofs.Looping.{spread, sum_bound, first-is}
 use Rattle.config.specs.declared.Config.{Config}
-use Rattle.config.specs.declared.Lists.{Lists}
+use Rattle.config.specs.Tables.{Lists}
 use Rattle.config.specs.Tables.{max_listed, max_runnable_confs, listed_in}
 use Rattle.config.specs.Lists.{listed_below, first_listed, lists_at, element_at, place_of, is_listed}
 use Rattle.entries.specs.declared.Entry.{Entry}

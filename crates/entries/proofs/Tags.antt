@@ -15,6 +15,7 @@ use Rattle.config.specs.declared.Config.{Config}
 use Rattle.config.specs.Editions.{is_edition}
 use Rattle.config.specs.Tables.{no_config, runnable_conf_in, variable_conf_in, area_conf_in, required_conf_in, provided_conf_in, link_in, operation_conf_in, timer_conf_in, data_event_in, return_event_in, listed_in}
 use Rattle.entries.specs.Entries.{no_entry, max_of, count_of, places_of, entry_of}
+use Rattle.config.specs.Table.{part_in}
 use Rattle.entries.specs.Faults.{in_range, names_there, pairs_well, entry_fault, is_no_entry, place_sound, kind_sound, parts_sound, config_sound}
 
 module _ (k : ℕ) (n : 0x10 ≤ k → k ≤ last_tag → ⊥) where
@@ -66,5 +67,5 @@ unfolding count_of no_config
 blank_none k = simp pick-alike
 
 pub blank-sound : config_sound no_config ≡ true
-unfolding config_sound is_edition parts_sound kind_sound all_below place_sound entry_fault is_no_entry in_range names_there pairs_well max_of count_of places_of entry_of no_config runnable_conf_in variable_conf_in area_conf_in required_conf_in provided_conf_in link_in operation_conf_in timer_conf_in data_event_in return_event_in listed_in
+unfolding config_sound is_edition parts_sound kind_sound all_below place_sound entry_fault is_no_entry in_range names_there pairs_well max_of count_of places_of entry_of no_config part_in
 blank-sound = refl

@@ -5,27 +5,27 @@ use Rattle.std.specs.Prelude.{ℕ, ◌+◌, ◌*◌, ◌%◌, ltb, eqb, length}
 use Rattle.numbers.specs.Tags.{edition_tag, runnable_tag, variable_tag, area_tag, required_tag, provided_tag, link_tag, operation_tag, timer_tag, data_event_tag, return_event_tag, incoming_tag, outgoing_tag}
 use Rattle.laws.specs.Choice.{pick, bit}
 use Rattle.config.specs.declared.RunnableConf.{RunnableConf}
-use Rattle.config.specs.declared.RunnableConfs.{RunnableConfs}
+use Rattle.config.specs.Tables.{RunnableConfs}
 use Rattle.config.specs.declared.VariableConf.{VariableConf}
-use Rattle.config.specs.declared.VariableConfs.{VariableConfs}
+use Rattle.config.specs.Tables.{VariableConfs}
 use Rattle.config.specs.declared.AreaConf.{AreaConf}
-use Rattle.config.specs.declared.AreaConfs.{AreaConfs}
+use Rattle.config.specs.Tables.{AreaConfs}
 use Rattle.config.specs.declared.RequiredConf.{RequiredConf}
-use Rattle.config.specs.declared.RequiredConfs.{RequiredConfs}
+use Rattle.config.specs.Tables.{RequiredConfs}
 use Rattle.config.specs.declared.ProvidedConf.{ProvidedConf}
-use Rattle.config.specs.declared.ProvidedConfs.{ProvidedConfs}
+use Rattle.config.specs.Tables.{ProvidedConfs}
 use Rattle.config.specs.declared.Link.{Link}
-use Rattle.config.specs.declared.Links.{Links}
+use Rattle.config.specs.Tables.{Links}
 use Rattle.config.specs.declared.OperationConf.{OperationConf}
-use Rattle.config.specs.declared.OperationConfs.{OperationConfs}
+use Rattle.config.specs.Tables.{OperationConfs}
 use Rattle.config.specs.declared.TimerConf.{TimerConf}
-use Rattle.config.specs.declared.TimerConfs.{TimerConfs}
+use Rattle.config.specs.Tables.{TimerConfs}
 use Rattle.config.specs.declared.DataEvent.{DataEvent}
-use Rattle.config.specs.declared.DataEvents.{DataEvents}
+use Rattle.config.specs.Tables.{DataEvents}
 use Rattle.config.specs.declared.ReturnEvent.{ReturnEvent}
-use Rattle.config.specs.declared.ReturnEvents.{ReturnEvents}
+use Rattle.config.specs.Tables.{ReturnEvents}
 use Rattle.config.specs.declared.Listed.{Listed}
-use Rattle.config.specs.declared.Lists.{Lists}
+use Rattle.config.specs.Tables.{Lists}
 use Rattle.config.specs.declared.Config.{Config}
 use Rattle.config.specs.Tables.{max_runnable_confs, max_variable_confs, max_area_confs, max_required_confs, max_provided_confs, max_links, max_operation_confs, max_timer_confs, max_data_events, max_return_events, max_lists, runnable_conf_in, variable_conf_in, area_conf_in, required_conf_in, provided_conf_in, link_in, operation_conf_in, timer_conf_in, data_event_in, return_event_in, listed_in, add_runnable_conf, add_variable_conf, add_area_conf, add_required_conf, add_provided_conf, add_link, add_operation_conf, add_timer_conf, add_data_event, add_return_event, add_listed}
 use Rattle.entries.specs.declared.Entry.{Entry}

@@ -15,13 +15,15 @@ use Rattle.config.specs.Tables.{runnable_conf_in, add_runnable_conf, variable_co
 use Rattle.state.specs.Parts.{no_requests, no_runnable, no_values, no_element, no_stack, no_slot, no_client, no_owed, no_variable, no_area, no_operation, no_timer, no_awaited, no_copies}
 use Rattle.state.specs.Tables.{with_runnables, with_variables, with_areas, with_elements, with_operations, with_timers, with_slots, no_runnables, runnable_in, with_runnable, no_variables, variable_in, with_variable, no_areas, area_in, with_area, no_elements, element_in, with_element, no_operations, operation_in, with_operation, no_timers, timer_in, with_timer, no_slots, slot_in, with_slot, copies_in, copy_in, no_copied, with_copies, with_copy, with_incoming, with_outgoing}
 use Rattle.state.specs.Fields.{with_pending}
-use Rattle.state.specs.Queues.{push_request, first_request, rest_requests, push_value, first_value, rest_values, push_area, top_area, pop_area}
-use Rattle.state.specs.Start.{start_variable, start_element, start_runnables, start_variables, start_elements, start_of}
+use Rattle.state.specs.Queues.{push_request, first_request, rest_requests, push_value, first_value, rest_values, push_area, top_area, pop_area, oldest, pushed, without_oldest}
+use Rattle.state.specs.Start.{start_variable, start_element, start_runnables, start_variables, start_elements, start_of, started}
 use Rattle.entries.specs.Entries.{max_of, count_of, places_of, entry_of, placed, with_edition, with_required_confs, with_incoming_list}
 use Rattle.entries.specs.Faults.{in_range, names_there, is_server, is_queued, rises, rises_at, pairs_well, entry_fault, is_no_entry, place_sound, kind_sound, config_sound, parts_sound, has_room, lists_well}
 use Rattle.rules.specs.Sound.{is_no_client, client_fits, requests_sound, values_sound, runnable_sound, variable_sound, is_stored, element_sound, is_outcome, calling_sound, done_sound, operation_sound, timer_sound, waits_well, life_sound, owed_sound, area_fits, stack_sound, is_no_slot, slot_sound, of_runnable, slots_of, count_sound, times_in, holders, area_sound, is_client, queued_as, served_as, clients_as, client_sound, queued_sound, served_sound, called_sound, waits_on, waiters_of, waiter_sound, runnables_sound, variables_sound, elements_sound, operations_sound, timers_sound, slots_sound, counts_sound, areas_sound, clients_sound, waiters_sound, shaped, sound_of, most_pending, is_no_awaited, awaits_well, is_no_life, is_no_owed, is_no_stack, held_well, copied_sound, copies_sound, copy_sound, has_copy, is_no_copy}
 use Rattle.effects.specs.Steps.{failing, on_operation, awaiting, on_element}
 use Rattle.faces.specs.Types.{Value, Config, Client, Requests, Runnables, Elements, Operations, Life, Stack, Slot, Slots, State, Awaited, Copied}
+use Rattle.config.specs.Table.{add_part, part_in}
+use Rattle.state.specs.Places.{no_places, place_in, with_place}
 use Rattle.state.specs.Fields.{with_left}
 
 -- ---- the configuration: a client and a server component with two runnables each, of which one counts its activations, a synchronous and two asynchronous operations of the one on the other, two areas, a queued element
@@ -191,7 +193,7 @@ unfolding sound_of clauses
 clauses-are cfg st = refl
 
 pub state-sound : sound_of config state ≡ true
-unfolding all_of all_below any_below sum_below first_below each_below shifted place_filled filled is_void is_payload is_kind is_mask is_good same_value runnable_conf_in add_runnable_conf variable_conf_in add_variable_conf area_conf_in add_area_conf required_conf_in add_required_conf provided_conf_in add_provided_conf link_in add_link operation_conf_in add_operation_conf timer_conf_in add_timer_conf data_event_in add_data_event return_event_in add_return_event no_config no_requests no_runnable no_values no_element no_stack no_slot no_runnables runnable_in with_runnable no_variables variable_in with_variable no_areas area_in with_area no_elements element_in with_element no_operations operation_in with_operation no_timers timer_in with_timer no_slots slot_in with_slot push_request first_request rest_requests push_value first_value rest_values push_area top_area pop_area start_variable start_element start_runnables start_variables start_elements start_of max_of count_of places_of entry_of placed in_range names_there is_server is_queued rises rises_at pairs_well entry_fault is_no_entry place_sound kind_sound config_sound is_no_client client_fits requests_sound values_sound runnable_sound variable_sound is_stored element_sound is_outcome calling_sound done_sound operation_sound timer_sound waits_well life_sound owed_sound area_fits stack_sound is_no_slot slot_sound of_runnable slots_of count_sound times_in holders area_sound is_client queued_as served_as clients_as client_sound queued_sound served_sound called_sound waits_on waiters_of waiter_sound runnables_sound variables_sound elements_sound operations_sound timers_sound slots_sound counts_sound areas_sound clients_sound waiters_sound shaped sound_of config_with config caller nested one served life idle waiter first second slots_with runnables_with asked queue_one queue_two operations_with done_with shut_with free_with elements_with state is_edition parts_sound marks_invalid top_of most_pending is_no_awaited awaits_well is_no_life is_no_owed is_no_stack held_well awaiter has_room lists_well has_field lists_elements listed_below listed_in add_listed copied_sound copies_sound copy_sound has_copy is_no_copy copies_in copy_in lists_at first_listed no_copied no_copies with_copies with_copy
+unfolding all_of all_below any_below sum_below first_below each_below shifted place_filled filled is_void is_payload is_kind is_mask is_good same_value part_in add_part no_config no_requests no_runnable no_values no_element no_stack no_slot no_places place_in with_place pushed oldest without_oldest push_area top_area pop_area start_variable start_element started start_of max_of count_of places_of entry_of placed in_range names_there is_server is_queued rises rises_at pairs_well entry_fault is_no_entry place_sound kind_sound config_sound is_no_client client_fits requests_sound values_sound runnable_sound variable_sound is_stored element_sound is_outcome calling_sound done_sound operation_sound timer_sound waits_well life_sound owed_sound area_fits stack_sound is_no_slot slot_sound of_runnable slots_of count_sound times_in holders area_sound is_client queued_as served_as clients_as client_sound queued_sound served_sound called_sound waits_on waiters_of waiter_sound runnables_sound variables_sound elements_sound operations_sound timers_sound slots_sound counts_sound areas_sound clients_sound waiters_sound shaped sound_of config_with config caller nested one served life idle waiter first second slots_with runnables_with asked queue_one queue_two operations_with done_with shut_with free_with elements_with state is_edition parts_sound marks_invalid top_of most_pending is_no_awaited awaits_well is_no_life is_no_owed is_no_stack held_well awaiter has_room lists_well has_field lists_elements listed_below copied_sound copies_sound copy_sound has_copy is_no_copy copy_in lists_at first_listed no_copies with_copy
 state-sound = refl
 
 -- ---- near it, and unsound for one clause alone
@@ -437,7 +439,7 @@ near =
 
 -- of each, the clauses hold as it says: all but one
 pub near-unsound : map (λ (x : Near). clauses x.config x.state) near ≡ map (λ (x : Near). all_but x.fails) near
-unfolding all_of all_below any_below sum_below first_below each_below shifted place_filled filled is_void is_payload is_kind is_mask is_good same_value runnable_conf_in add_runnable_conf variable_conf_in add_variable_conf area_conf_in add_area_conf required_conf_in add_required_conf provided_conf_in add_provided_conf link_in add_link operation_conf_in add_operation_conf timer_conf_in add_timer_conf data_event_in add_data_event return_event_in add_return_event no_config no_requests no_runnable no_values no_element no_stack no_slot no_runnables runnable_in with_runnable no_variables variable_in with_variable no_areas area_in with_area no_elements element_in with_element no_operations operation_in with_operation no_timers timer_in with_timer no_slots slot_in with_slot push_request first_request rest_requests push_value first_value rest_values push_area top_area pop_area start_variable start_element start_runnables start_variables start_elements start_of max_of count_of places_of entry_of placed in_range names_there is_server is_queued rises rises_at pairs_well entry_fault is_no_entry place_sound kind_sound config_sound is_no_client client_fits requests_sound values_sound runnable_sound variable_sound is_stored element_sound is_outcome calling_sound done_sound operation_sound timer_sound waits_well life_sound owed_sound area_fits stack_sound is_no_slot slot_sound of_runnable slots_of count_sound times_in holders area_sound is_client queued_as served_as clients_as client_sound queued_sound served_sound called_sound waits_on waiters_of waiter_sound runnables_sound variables_sound elements_sound operations_sound timers_sound slots_sound counts_sound areas_sound clients_sound waiters_sound shaped sound_of config_with config caller nested one served life idle waiter first second slots_with runnables_with asked queue_one queue_two operations_with done_with shut_with free_with elements_with state clauses near all_but unconfigured slots_more server_pending twice_without other_server variable_unused queue_long queue_ok behind_queue count_above err_numbered timer_unused waits_async waits_foreign owes_finished finished_plain foreign_area empty_used empty_failed no_instance held_free held_twice call_alone call_ahead client_twice past_twice apart_twice call_unbound waiters_two is_edition parts_sound marks_invalid editioned holding edition_three marked_second top_of most_pending pending_with twice_pending past_top is_no_awaited awaits_well is_no_life is_no_owed is_no_stack held_well awaiter besides held_nowhere held_foreign held_long idle_counts caller_counts has_room lists_well has_field lists_elements listed_below listed_in add_listed copied_sound copies_sound copy_sound has_copy is_no_copy copies_in copy_in lists_at first_listed no_copied no_copies with_copies with_copy listing copied listed_first copy_empty copy_unlisted copy_ok
+unfolding all_of all_below any_below sum_below first_below each_below shifted place_filled filled is_void is_payload is_kind is_mask is_good same_value part_in add_part no_config no_requests no_runnable no_values no_element no_stack no_slot no_places place_in with_place pushed oldest without_oldest push_area top_area pop_area start_variable start_element started start_of max_of count_of places_of entry_of placed in_range names_there is_server is_queued rises rises_at pairs_well entry_fault is_no_entry place_sound kind_sound config_sound is_no_client client_fits requests_sound values_sound runnable_sound variable_sound is_stored element_sound is_outcome calling_sound done_sound operation_sound timer_sound waits_well life_sound owed_sound area_fits stack_sound is_no_slot slot_sound of_runnable slots_of count_sound times_in holders area_sound is_client queued_as served_as clients_as client_sound queued_sound served_sound called_sound waits_on waiters_of waiter_sound runnables_sound variables_sound elements_sound operations_sound timers_sound slots_sound counts_sound areas_sound clients_sound waiters_sound shaped sound_of config_with config caller nested one served life idle waiter first second slots_with runnables_with asked queue_one queue_two operations_with done_with shut_with free_with elements_with state clauses near all_but unconfigured slots_more server_pending twice_without other_server variable_unused queue_long queue_ok behind_queue count_above err_numbered timer_unused waits_async waits_foreign owes_finished finished_plain foreign_area empty_used empty_failed no_instance held_free held_twice call_alone call_ahead client_twice past_twice apart_twice call_unbound waiters_two is_edition parts_sound marks_invalid editioned holding edition_three marked_second top_of most_pending pending_with twice_pending past_top is_no_awaited awaits_well is_no_life is_no_owed is_no_stack held_well awaiter besides held_nowhere held_foreign held_long idle_counts caller_counts has_room lists_well has_field lists_elements listed_below copied_sound copies_sound copy_sound has_copy is_no_copy copy_in lists_at first_listed no_copies with_copy listing copied listed_first copy_empty copy_unlisted copy_ok
 near-unsound = refl
 
 -- ---- near it, and sound
@@ -461,15 +463,15 @@ sound_too =
     ∷ []
 
 pub near-sound : map (λ (x : State). sound_of config x) sound_too ≡ true ∷ true ∷ true ∷ true ∷ true ∷ true ∷ true ∷ true ∷ true ∷ true ∷ true ∷ []
-unfolding all_of all_below any_below sum_below first_below each_below shifted place_filled filled is_void is_payload is_kind is_mask is_good same_value runnable_conf_in add_runnable_conf variable_conf_in add_variable_conf area_conf_in add_area_conf required_conf_in add_required_conf provided_conf_in add_provided_conf link_in add_link operation_conf_in add_operation_conf timer_conf_in add_timer_conf data_event_in add_data_event return_event_in add_return_event no_config no_requests no_runnable no_values no_element no_stack no_slot no_runnables runnable_in with_runnable no_variables variable_in with_variable no_areas area_in with_area no_elements element_in with_element no_operations operation_in with_operation no_timers timer_in with_timer no_slots slot_in with_slot push_request first_request rest_requests push_value first_value rest_values push_area top_area pop_area start_variable start_element start_runnables start_variables start_elements start_of max_of count_of places_of entry_of placed in_range names_there is_server is_queued rises rises_at pairs_well entry_fault is_no_entry place_sound kind_sound config_sound is_no_client client_fits requests_sound values_sound runnable_sound variable_sound is_stored element_sound is_outcome calling_sound done_sound operation_sound timer_sound waits_well life_sound owed_sound area_fits stack_sound is_no_slot slot_sound of_runnable slots_of count_sound times_in holders area_sound is_client queued_as served_as clients_as client_sound queued_sound served_sound called_sound waits_on waiters_of waiter_sound runnables_sound variables_sound elements_sound operations_sound timers_sound slots_sound counts_sound areas_sound clients_sound waiters_sound shaped sound_of config_with config caller nested one served life idle waiter first second slots_with runnables_with asked queue_one queue_two operations_with done_with shut_with free_with elements_with state sound_too is_edition parts_sound marks_invalid top_of most_pending pending_with is_no_awaited awaits_well is_no_life is_no_owed is_no_stack held_well awaiter besides has_room lists_well has_field lists_elements listed_below listed_in add_listed copied_sound copies_sound copy_sound has_copy is_no_copy copies_in copy_in lists_at first_listed no_copied no_copies with_copies with_copy
+unfolding all_of all_below any_below sum_below first_below each_below shifted place_filled filled is_void is_payload is_kind is_mask is_good same_value part_in add_part no_config no_requests no_runnable no_values no_element no_stack no_slot no_places place_in with_place pushed oldest without_oldest push_area top_area pop_area start_variable start_element started start_of max_of count_of places_of entry_of placed in_range names_there is_server is_queued rises rises_at pairs_well entry_fault is_no_entry place_sound kind_sound config_sound is_no_client client_fits requests_sound values_sound runnable_sound variable_sound is_stored element_sound is_outcome calling_sound done_sound operation_sound timer_sound waits_well life_sound owed_sound area_fits stack_sound is_no_slot slot_sound of_runnable slots_of count_sound times_in holders area_sound is_client queued_as served_as clients_as client_sound queued_sound served_sound called_sound waits_on waiters_of waiter_sound runnables_sound variables_sound elements_sound operations_sound timers_sound slots_sound counts_sound areas_sound clients_sound waiters_sound shaped sound_of config_with config caller nested one served life idle waiter first second slots_with runnables_with asked queue_one queue_two operations_with done_with shut_with free_with elements_with state sound_too is_edition parts_sound marks_invalid top_of most_pending pending_with is_no_awaited awaits_well is_no_life is_no_owed is_no_stack held_well awaiter besides has_room lists_well has_field lists_elements listed_below copied_sound copies_sound copy_sound has_copy is_no_copy copy_in lists_at first_listed no_copies with_copy
 near-sound = refl
 
 -- Invalid is kept soundly under edition 1, NeverReceived under both
 pub editions-sound : sound_of (editioned 1) (holding invalid_v) ∷ sound_of (editioned 1) (holding never_received_v) ∷ sound_of (editioned 2) (holding never_received_v) ∷ [] ≡ true ∷ true ∷ true ∷ []
-unfolding all_of all_below any_below sum_below first_below each_below shifted place_filled filled is_void is_payload is_kind is_mask is_good same_value runnable_conf_in add_runnable_conf variable_conf_in add_variable_conf area_conf_in add_area_conf required_conf_in add_required_conf provided_conf_in add_provided_conf link_in add_link operation_conf_in add_operation_conf timer_conf_in add_timer_conf data_event_in add_data_event return_event_in add_return_event no_config no_requests no_runnable no_values no_element no_stack no_slot no_runnables runnable_in with_runnable no_variables variable_in with_variable no_areas area_in with_area no_elements element_in with_element no_operations operation_in with_operation no_timers timer_in with_timer no_slots slot_in with_slot push_request first_request rest_requests push_value first_value rest_values push_area top_area pop_area start_variable start_element start_runnables start_variables start_elements start_of max_of count_of places_of entry_of placed in_range names_there is_server is_queued rises rises_at pairs_well entry_fault is_no_entry place_sound kind_sound config_sound is_no_client client_fits requests_sound values_sound runnable_sound variable_sound is_stored element_sound is_outcome calling_sound done_sound operation_sound timer_sound waits_well life_sound owed_sound area_fits stack_sound is_no_slot slot_sound of_runnable slots_of count_sound times_in holders area_sound is_client queued_as served_as clients_as client_sound queued_sound served_sound called_sound waits_on waiters_of waiter_sound runnables_sound variables_sound elements_sound operations_sound timers_sound slots_sound counts_sound areas_sound clients_sound waiters_sound shaped sound_of config_with config caller nested one served life idle waiter first second slots_with runnables_with asked queue_one queue_two operations_with done_with shut_with free_with elements_with state sound_too is_edition parts_sound marks_invalid editioned holding top_of most_pending is_no_awaited awaits_well is_no_life is_no_owed is_no_stack held_well has_room lists_well has_field lists_elements listed_below listed_in add_listed copied_sound copies_sound copy_sound has_copy is_no_copy copies_in copy_in lists_at first_listed no_copied no_copies with_copies with_copy listing copied
+unfolding all_of all_below any_below sum_below first_below each_below shifted place_filled filled is_void is_payload is_kind is_mask is_good same_value part_in add_part no_config no_requests no_runnable no_values no_element no_stack no_slot no_places place_in with_place pushed oldest without_oldest push_area top_area pop_area start_variable start_element started start_of max_of count_of places_of entry_of placed in_range names_there is_server is_queued rises rises_at pairs_well entry_fault is_no_entry place_sound kind_sound config_sound is_no_client client_fits requests_sound values_sound runnable_sound variable_sound is_stored element_sound is_outcome calling_sound done_sound operation_sound timer_sound waits_well life_sound owed_sound area_fits stack_sound is_no_slot slot_sound of_runnable slots_of count_sound times_in holders area_sound is_client queued_as served_as clients_as client_sound queued_sound served_sound called_sound waits_on waiters_of waiter_sound runnables_sound variables_sound elements_sound operations_sound timers_sound slots_sound counts_sound areas_sound clients_sound waiters_sound shaped sound_of config_with config caller nested one served life idle waiter first second slots_with runnables_with asked queue_one queue_two operations_with done_with shut_with free_with elements_with state sound_too is_edition parts_sound marks_invalid editioned holding top_of most_pending is_no_awaited awaits_well is_no_life is_no_owed is_no_stack held_well has_room lists_well has_field lists_elements listed_below copied_sound copies_sound copy_sound has_copy is_no_copy copy_in lists_at first_listed no_copies with_copy listing copied
 editions-sound = refl
 
 -- an instance has copied a Number, or nothing yet
 pub copies-sound : sound_of (listing 2) (with_incoming (holding never_received_v) (copied 0 (number_v 5))) ∷ sound_of (listing 2) (holding never_received_v) ∷ [] ≡ true ∷ true ∷ []
-unfolding all_of all_below any_below sum_below first_below each_below shifted place_filled filled is_void is_payload is_kind is_mask is_good same_value runnable_conf_in add_runnable_conf variable_conf_in add_variable_conf area_conf_in add_area_conf required_conf_in add_required_conf provided_conf_in add_provided_conf link_in add_link operation_conf_in add_operation_conf timer_conf_in add_timer_conf data_event_in add_data_event return_event_in add_return_event no_config no_requests no_runnable no_values no_element no_stack no_slot no_runnables runnable_in with_runnable no_variables variable_in with_variable no_areas area_in with_area no_elements element_in with_element no_operations operation_in with_operation no_timers timer_in with_timer no_slots slot_in with_slot push_request first_request rest_requests push_value first_value rest_values push_area top_area pop_area start_variable start_element start_runnables start_variables start_elements start_of max_of count_of places_of entry_of placed in_range names_there is_server is_queued rises rises_at pairs_well entry_fault is_no_entry place_sound kind_sound config_sound is_no_client client_fits requests_sound values_sound runnable_sound variable_sound is_stored element_sound is_outcome calling_sound done_sound operation_sound timer_sound waits_well life_sound owed_sound area_fits stack_sound is_no_slot slot_sound of_runnable slots_of count_sound times_in holders area_sound is_client queued_as served_as clients_as client_sound queued_sound served_sound called_sound waits_on waiters_of waiter_sound runnables_sound variables_sound elements_sound operations_sound timers_sound slots_sound counts_sound areas_sound clients_sound waiters_sound shaped sound_of config_with config caller nested one served life idle waiter first second slots_with runnables_with asked queue_one queue_two operations_with done_with shut_with free_with elements_with state sound_too is_edition parts_sound marks_invalid editioned holding top_of most_pending is_no_awaited awaits_well is_no_life is_no_owed is_no_stack held_well has_room lists_well has_field lists_elements listed_below listed_in add_listed copied_sound copies_sound copy_sound has_copy is_no_copy copies_in copy_in lists_at first_listed no_copied no_copies with_copies with_copy listing copied
+unfolding all_of all_below any_below sum_below first_below each_below shifted place_filled filled is_void is_payload is_kind is_mask is_good same_value part_in add_part no_config no_requests no_runnable no_values no_element no_stack no_slot no_places place_in with_place pushed oldest without_oldest push_area top_area pop_area start_variable start_element started start_of max_of count_of places_of entry_of placed in_range names_there is_server is_queued rises rises_at pairs_well entry_fault is_no_entry place_sound kind_sound config_sound is_no_client client_fits requests_sound values_sound runnable_sound variable_sound is_stored element_sound is_outcome calling_sound done_sound operation_sound timer_sound waits_well life_sound owed_sound area_fits stack_sound is_no_slot slot_sound of_runnable slots_of count_sound times_in holders area_sound is_client queued_as served_as clients_as client_sound queued_sound served_sound called_sound waits_on waiters_of waiter_sound runnables_sound variables_sound elements_sound operations_sound timers_sound slots_sound counts_sound areas_sound clients_sound waiters_sound shaped sound_of config_with config caller nested one served life idle waiter first second slots_with runnables_with asked queue_one queue_two operations_with done_with shut_with free_with elements_with state sound_too is_edition parts_sound marks_invalid editioned holding top_of most_pending is_no_awaited awaits_well is_no_life is_no_owed is_no_stack held_well has_room lists_well has_field lists_elements listed_below copied_sound copies_sound copy_sound has_copy is_no_copy copy_in lists_at first_listed no_copies with_copy listing copied
 copies-sound = refl

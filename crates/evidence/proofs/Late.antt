@@ -16,8 +16,8 @@ use Rattle.config.specs.Editions.{is_edition, marks_invalid, has_step, has_field
 use Rattle.config.specs.Tables.{runnable_conf_in, add_runnable_conf, variable_conf_in, add_variable_conf, area_conf_in, add_area_conf, required_conf_in, add_required_conf, provided_conf_in, add_provided_conf, link_in, add_link, operation_conf_in, add_operation_conf, timer_conf_in, add_timer_conf, data_event_in, add_data_event, return_event_in, add_return_event, no_config, top_of, add_listed, listed_in}
 use Rattle.state.specs.Parts.{no_requests, no_runnable, no_values, no_element, no_stack, no_slot, no_copies}
 use Rattle.state.specs.Tables.{no_runnables, runnable_in, with_runnable, no_variables, variable_in, with_variable, no_areas, area_in, with_area, no_elements, element_in, with_element, no_operations, operation_in, with_operation, no_timers, timer_in, with_timer, no_slots, slot_in, with_slot, copies_in, copy_in, no_copied}
-use Rattle.state.specs.Queues.{push_request, first_request, rest_requests, push_value, first_value, rest_values, push_area, top_area, pop_area}
-use Rattle.state.specs.Start.{start_variable, start_element, start_runnables, start_variables, start_elements, start_of}
+use Rattle.state.specs.Queues.{push_request, first_request, rest_requests, push_value, first_value, rest_values, push_area, top_area, pop_area, oldest, pushed, without_oldest}
+use Rattle.state.specs.Start.{start_variable, start_element, start_runnables, start_variables, start_elements, start_of, started}
 use Rattle.entries.specs.Entries.{max_of, count_of, places_of, entry_of, placed}
 use Rattle.entries.specs.Faults.{in_range, names_there, is_server, is_queued, rises, rises_at, pairs_well, entry_fault, is_no_entry, place_sound, kind_sound, config_sound, parts_sound, has_room, lists_well}
 use Rattle.rules.specs.Sound.{is_no_client, client_fits, requests_sound, values_sound, runnable_sound, variable_sound, is_stored, element_sound, is_outcome, calling_sound, done_sound, operation_sound, timer_sound, waits_well, life_sound, owed_sound, area_fits, stack_sound, is_no_slot, slot_sound, of_runnable, slots_of, count_sound, times_in, holders, area_sound, is_client, queued_as, served_as, clients_as, client_sound, queued_sound, served_sound, called_sound, waits_on, waiters_of, waiter_sound, runnables_sound, variables_sound, elements_sound, operations_sound, timers_sound, slots_sound, counts_sound, areas_sound, clients_sound, waiters_sound, shaped, sound_of, most_pending, is_no_awaited, awaits_well, is_no_life, is_no_owed, is_no_stack, held_well, copied_sound, copies_sound, copy_sound, has_copy, is_no_copy}
@@ -32,6 +32,8 @@ use Rattle.judging.specs.Judging.{judge_from, judge_of, rest_of}
 use Rattle.judging.specs.Line.{judged_line, read_line, line_of}
 use Rattle.judging.specs.declared.Line.{Line}
 use Rattle.judging.specs.declared.Line.TheVariants.{Accepted, Refused, Configuration}
+use Rattle.config.specs.Table.{add_part, part_in}
+use Rattle.state.specs.Places.{no_places, place_in, with_place}
 use Rattle.history.specs.History.{no_request, by_timeout, by_instance, by_failure, History, nothing, observe, history_from, history_of, time_of, time_in, time_since}
 
 -- ---- the fields, byte by byte
@@ -321,7 +323,7 @@ pub table : List Row
 table = late ∷ false_claim ∷ wait_too_long ∷ in_time ∷ no_call ∷ call_twice ∷ exit_below ∷ send_third ∷ []
 
 pub late-plans : map (λ (x : Row). line_of x.config x.recording) table ≡ map (λ (x : Row). x.line) table
-unfolding all_of all_below any_below sum_below mask_below first_below each_below shifted place_filled filled is_void is_payload is_kind is_mask is_good same_value runnable_conf_in add_runnable_conf variable_conf_in add_variable_conf area_conf_in add_area_conf required_conf_in add_required_conf provided_conf_in add_provided_conf link_in add_link operation_conf_in add_operation_conf timer_conf_in add_timer_conf data_event_in add_data_event return_event_in add_return_event no_config no_requests no_runnable no_values no_element no_stack no_slot no_runnables runnable_in with_runnable no_variables variable_in with_variable no_areas area_in with_area no_elements element_in with_element no_operations operation_in with_operation no_timers timer_in with_timer no_slots slot_in with_slot push_request first_request rest_requests push_value first_value rest_values push_area top_area pop_area start_variable start_element start_runnables start_variables start_elements start_of max_of count_of places_of entry_of placed in_range names_there is_server is_queued rises rises_at pairs_well entry_fault is_no_entry place_sound kind_sound config_sound is_no_client client_fits requests_sound values_sound runnable_sound variable_sound is_stored element_sound is_outcome calling_sound done_sound operation_sound timer_sound waits_well life_sound owed_sound area_fits stack_sound is_no_slot slot_sound of_runnable slots_of count_sound times_in holders area_sound is_client queued_as served_as clients_as client_sound queued_sound served_sound called_sound waits_on waiters_of waiter_sound runnables_sound variables_sound elements_sound operations_sound timers_sound slots_sound counts_sound areas_sound clients_sound waiters_sound shaped sound_of rows row_of argues formed part_there queues_as part_own asks_synchronous finished_lets failed_lets life_lets owned_refusal instance_refusal scheduler_refusal refusal_by refusal_of read_variable_of write_variable_of enter_of on_top exit_of read_of updated_of linked accepts fed_element fed_elements feeds is_fed fed_runnables fed write_of invalidate_of is_full full_mask sent_of send_of receive_of requests_full caller_after called call_of poll_of collect_of result_of closing returns is_returned returned_runnables closed answers hand_back_of timeout_of end_of is_due may_spawn starting instance_of is_empty_at lowest_empty found_empty spawned spawn_of tick_of operation_lets timer_lets operations_let timers_let operation_after operations_after timers_after runnables_after all_let waited wait_of fail_of act_of possible_of agrees claimed_of inner_of step_of values_good tested step_in end_in field_of size_of entry_read in_order head_of body_fault refused_at read_from config_of judge_from judge_of rest_of judged_line read_line line_of first_field last_field client server operation area queue sender link spawn_client spawn_server call_seven call_again wait_fifty wait_longer times_out back_late back_in_time ask_timeout ask_nine ask_void enter_first enter_second exit_first send_one send_two send_three receive_one receive_two receive_none joined file late_config areas_config queue_config late false_claim wait_too_long in_time no_call call_twice exit_below send_third table is_edition parts_sound has_step marks_invalid top_of most_pending one_more is_no_awaited awaits_well is_no_life is_no_owed is_no_stack ends_waiting waiting_lets held_well asks_waiting slot_lets slots_let slots_after hold_of give_up_of whole_from whole_of nothing observe history_from history_of time_of time_in named_there listed_there lists_of has_room lists_well has_field lists_elements listed_below size_in listed_in add_listed copied_sound copies_sound copy_sound has_copy is_no_copy copies_in copy_in lists_at first_listed handed_elements handed_runnables cleared copied_elements copied_into no_copied no_copies
+unfolding all_of all_below any_below sum_below mask_below first_below each_below shifted place_filled filled is_void is_payload is_kind is_mask is_good same_value part_in add_part no_config no_requests no_runnable no_values no_element no_stack no_slot no_places place_in with_place pushed oldest without_oldest push_area top_area pop_area start_variable start_element started start_of max_of count_of places_of entry_of placed in_range names_there is_server is_queued rises rises_at pairs_well entry_fault is_no_entry place_sound kind_sound config_sound is_no_client client_fits requests_sound values_sound runnable_sound variable_sound is_stored element_sound is_outcome calling_sound done_sound operation_sound timer_sound waits_well life_sound owed_sound area_fits stack_sound is_no_slot slot_sound of_runnable slots_of count_sound times_in holders area_sound is_client queued_as served_as clients_as client_sound queued_sound served_sound called_sound waits_on waiters_of waiter_sound runnables_sound variables_sound elements_sound operations_sound timers_sound slots_sound counts_sound areas_sound clients_sound waiters_sound shaped sound_of rows row_of argues formed part_there queues_as part_own asks_synchronous finished_lets failed_lets life_lets owned_refusal instance_refusal scheduler_refusal refusal_by refusal_of read_variable_of write_variable_of enter_of on_top exit_of read_of updated_of linked accepts fed_element fed_elements feeds is_fed fed_runnables fed write_of invalidate_of is_full full_mask sent_of send_of receive_of requests_full caller_after called call_of poll_of collect_of result_of closing returns is_returned returned_runnables closed answers hand_back_of timeout_of end_of is_due may_spawn starting instance_of is_empty_at lowest_empty found_empty spawned spawn_of tick_of operation_lets timer_lets operations_let timers_let operation_after operations_after timers_after runnables_after all_let waited wait_of fail_of act_of possible_of agrees claimed_of inner_of step_of values_good tested step_in end_in field_of size_of entry_read in_order head_of body_fault refused_at read_from config_of judge_from judge_of rest_of judged_line read_line line_of first_field last_field client server operation area queue sender link spawn_client spawn_server call_seven call_again wait_fifty wait_longer times_out back_late back_in_time ask_timeout ask_nine ask_void enter_first enter_second exit_first send_one send_two send_three receive_one receive_two receive_none joined file late_config areas_config queue_config late false_claim wait_too_long in_time no_call call_twice exit_below send_third table is_edition parts_sound has_step marks_invalid top_of most_pending one_more is_no_awaited awaits_well is_no_life is_no_owed is_no_stack ends_waiting waiting_lets held_well asks_waiting slot_lets slots_let slots_after hold_of give_up_of whole_from whole_of nothing observe history_from history_of time_of time_in named_there listed_there lists_of has_room lists_well has_field lists_elements listed_below size_in copied_sound copies_sound copy_sound has_copy is_no_copy copy_in lists_at first_listed handed_elements handed_runnables cleared copied_elements copied_into no_copies
 late-plans = refl
 
 -- ---- the calls of two rows, followed
@@ -349,12 +351,12 @@ pub histories : map followed (late ∷ in_time ∷ []) ≡
       endings = record { on = 0; call = 2; at = 4; how = by_instance 2 (number_v 9) } ∷ [];
     }
     ∷ []
-unfolding all_of all_below any_below sum_below mask_below first_below each_below shifted place_filled filled is_void is_payload is_kind is_mask is_good same_value runnable_conf_in add_runnable_conf variable_conf_in add_variable_conf area_conf_in add_area_conf required_conf_in add_required_conf provided_conf_in add_provided_conf link_in add_link operation_conf_in add_operation_conf timer_conf_in add_timer_conf data_event_in add_data_event return_event_in add_return_event no_config no_requests no_runnable no_values no_element no_stack no_slot no_runnables runnable_in with_runnable no_variables variable_in with_variable no_areas area_in with_area no_elements element_in with_element no_operations operation_in with_operation no_timers timer_in with_timer no_slots slot_in with_slot push_request first_request rest_requests push_value first_value rest_values push_area top_area pop_area start_variable start_element start_runnables start_variables start_elements start_of max_of count_of places_of entry_of placed in_range names_there is_server is_queued rises rises_at pairs_well entry_fault is_no_entry place_sound kind_sound config_sound is_no_client client_fits requests_sound values_sound runnable_sound variable_sound is_stored element_sound is_outcome calling_sound done_sound operation_sound timer_sound waits_well life_sound owed_sound area_fits stack_sound is_no_slot slot_sound of_runnable slots_of count_sound times_in holders area_sound is_client queued_as served_as clients_as client_sound queued_sound served_sound called_sound waits_on waiters_of waiter_sound runnables_sound variables_sound elements_sound operations_sound timers_sound slots_sound counts_sound areas_sound clients_sound waiters_sound shaped sound_of rows row_of argues formed part_there queues_as part_own asks_synchronous finished_lets failed_lets life_lets owned_refusal instance_refusal scheduler_refusal refusal_by refusal_of read_variable_of write_variable_of enter_of on_top exit_of read_of updated_of linked accepts fed_element fed_elements feeds is_fed fed_runnables fed write_of invalidate_of is_full full_mask sent_of send_of receive_of requests_full caller_after called call_of poll_of collect_of result_of closing returns is_returned returned_runnables closed answers hand_back_of timeout_of end_of is_due may_spawn starting instance_of is_empty_at lowest_empty found_empty spawned spawn_of tick_of operation_lets timer_lets operations_let timers_let operation_after operations_after timers_after runnables_after all_let waited wait_of fail_of act_of possible_of agrees claimed_of inner_of step_of values_good tested step_in end_in field_of size_of entry_read in_order head_of body_fault refused_at read_from config_of judge_from judge_of rest_of judged_line read_line line_of first_field last_field client server operation area queue sender link spawn_client spawn_server call_seven call_again wait_fifty wait_longer times_out back_late back_in_time ask_timeout ask_nine ask_void enter_first enter_second exit_first send_one send_two send_three receive_one receive_two receive_none joined file late_config areas_config queue_config late false_claim wait_too_long in_time no_call call_twice exit_below send_third table whole_from whole_of nothing observe history_from history_of followed is_edition parts_sound has_step marks_invalid top_of most_pending one_more is_no_awaited awaits_well is_no_life is_no_owed is_no_stack ends_waiting waiting_lets held_well asks_waiting slot_lets slots_let slots_after hold_of give_up_of time_of time_in named_there listed_there lists_of has_room lists_well has_field lists_elements listed_below size_in listed_in add_listed copied_sound copies_sound copy_sound has_copy is_no_copy copies_in copy_in lists_at first_listed handed_elements handed_runnables cleared copied_elements copied_into no_copied no_copies
+unfolding all_of all_below any_below sum_below mask_below first_below each_below shifted place_filled filled is_void is_payload is_kind is_mask is_good same_value part_in add_part no_config no_requests no_runnable no_values no_element no_stack no_slot no_places place_in with_place pushed oldest without_oldest push_area top_area pop_area start_variable start_element started start_of max_of count_of places_of entry_of placed in_range names_there is_server is_queued rises rises_at pairs_well entry_fault is_no_entry place_sound kind_sound config_sound is_no_client client_fits requests_sound values_sound runnable_sound variable_sound is_stored element_sound is_outcome calling_sound done_sound operation_sound timer_sound waits_well life_sound owed_sound area_fits stack_sound is_no_slot slot_sound of_runnable slots_of count_sound times_in holders area_sound is_client queued_as served_as clients_as client_sound queued_sound served_sound called_sound waits_on waiters_of waiter_sound runnables_sound variables_sound elements_sound operations_sound timers_sound slots_sound counts_sound areas_sound clients_sound waiters_sound shaped sound_of rows row_of argues formed part_there queues_as part_own asks_synchronous finished_lets failed_lets life_lets owned_refusal instance_refusal scheduler_refusal refusal_by refusal_of read_variable_of write_variable_of enter_of on_top exit_of read_of updated_of linked accepts fed_element fed_elements feeds is_fed fed_runnables fed write_of invalidate_of is_full full_mask sent_of send_of receive_of requests_full caller_after called call_of poll_of collect_of result_of closing returns is_returned returned_runnables closed answers hand_back_of timeout_of end_of is_due may_spawn starting instance_of is_empty_at lowest_empty found_empty spawned spawn_of tick_of operation_lets timer_lets operations_let timers_let operation_after operations_after timers_after runnables_after all_let waited wait_of fail_of act_of possible_of agrees claimed_of inner_of step_of values_good tested step_in end_in field_of size_of entry_read in_order head_of body_fault refused_at read_from config_of judge_from judge_of rest_of judged_line read_line line_of first_field last_field client server operation area queue sender link spawn_client spawn_server call_seven call_again wait_fifty wait_longer times_out back_late back_in_time ask_timeout ask_nine ask_void enter_first enter_second exit_first send_one send_two send_three receive_one receive_two receive_none joined file late_config areas_config queue_config late false_claim wait_too_long in_time no_call call_twice exit_below send_third table whole_from whole_of nothing observe history_from history_of followed is_edition parts_sound has_step marks_invalid top_of most_pending one_more is_no_awaited awaits_well is_no_life is_no_owed is_no_stack ends_waiting waiting_lets held_well asks_waiting slot_lets slots_let slots_after hold_of give_up_of time_of time_in named_there listed_there lists_of has_room lists_well has_field lists_elements listed_below size_in copied_sound copies_sound copy_sound has_copy is_no_copy copy_in lists_at first_listed handed_elements handed_runnables cleared copied_elements copied_into no_copies
 histories = refl
 
 -- (a) the waits from the call at place 2 to the timeout add up to 50
 pub fifty-waited : time_since 2 (take 4 (steps_in late.recording)) ≡ 50
-unfolding all_of all_below any_below sum_below mask_below first_below each_below shifted place_filled filled is_void is_payload is_kind is_mask is_good same_value runnable_conf_in add_runnable_conf variable_conf_in add_variable_conf area_conf_in add_area_conf required_conf_in add_required_conf provided_conf_in add_provided_conf link_in add_link operation_conf_in add_operation_conf timer_conf_in add_timer_conf data_event_in add_data_event return_event_in add_return_event no_config no_requests no_runnable no_values no_element no_stack no_slot no_runnables runnable_in with_runnable no_variables variable_in with_variable no_areas area_in with_area no_elements element_in with_element no_operations operation_in with_operation no_timers timer_in with_timer no_slots slot_in with_slot push_request first_request rest_requests push_value first_value rest_values push_area top_area pop_area start_variable start_element start_runnables start_variables start_elements start_of max_of count_of places_of entry_of placed in_range names_there is_server is_queued rises rises_at pairs_well entry_fault is_no_entry place_sound kind_sound config_sound is_no_client client_fits requests_sound values_sound runnable_sound variable_sound is_stored element_sound is_outcome calling_sound done_sound operation_sound timer_sound waits_well life_sound owed_sound area_fits stack_sound is_no_slot slot_sound of_runnable slots_of count_sound times_in holders area_sound is_client queued_as served_as clients_as client_sound queued_sound served_sound called_sound waits_on waiters_of waiter_sound runnables_sound variables_sound elements_sound operations_sound timers_sound slots_sound counts_sound areas_sound clients_sound waiters_sound shaped sound_of rows row_of argues formed part_there queues_as part_own asks_synchronous finished_lets failed_lets life_lets owned_refusal instance_refusal scheduler_refusal refusal_by refusal_of read_variable_of write_variable_of enter_of on_top exit_of read_of updated_of linked accepts fed_element fed_elements feeds is_fed fed_runnables fed write_of invalidate_of is_full full_mask sent_of send_of receive_of requests_full caller_after called call_of poll_of collect_of result_of closing returns is_returned returned_runnables closed answers hand_back_of timeout_of end_of is_due may_spawn starting instance_of is_empty_at lowest_empty found_empty spawned spawn_of tick_of operation_lets timer_lets operations_let timers_let operation_after operations_after timers_after runnables_after all_let waited wait_of fail_of act_of possible_of agrees claimed_of inner_of step_of values_good tested step_in end_in field_of size_of entry_read in_order head_of body_fault refused_at read_from config_of judge_from judge_of rest_of judged_line read_line line_of first_field last_field client server operation area queue sender link spawn_client spawn_server call_seven call_again wait_fifty wait_longer times_out back_late back_in_time ask_timeout ask_nine ask_void enter_first enter_second exit_first send_one send_two send_three receive_one receive_two receive_none joined file late_config areas_config queue_config late false_claim wait_too_long in_time no_call call_twice exit_below send_third table whole_from whole_of time_of time_in is_edition parts_sound has_step marks_invalid top_of most_pending one_more is_no_awaited awaits_well is_no_life is_no_owed is_no_stack ends_waiting waiting_lets held_well asks_waiting slot_lets slots_let slots_after hold_of give_up_of nothing observe history_from history_of named_there listed_there lists_of has_room lists_well has_field lists_elements listed_below size_in listed_in add_listed copied_sound copies_sound copy_sound has_copy is_no_copy copies_in copy_in lists_at first_listed handed_elements handed_runnables cleared copied_elements copied_into no_copied no_copies
+unfolding all_of all_below any_below sum_below mask_below first_below each_below shifted place_filled filled is_void is_payload is_kind is_mask is_good same_value part_in add_part no_config no_requests no_runnable no_values no_element no_stack no_slot no_places place_in with_place pushed oldest without_oldest push_area top_area pop_area start_variable start_element started start_of max_of count_of places_of entry_of placed in_range names_there is_server is_queued rises rises_at pairs_well entry_fault is_no_entry place_sound kind_sound config_sound is_no_client client_fits requests_sound values_sound runnable_sound variable_sound is_stored element_sound is_outcome calling_sound done_sound operation_sound timer_sound waits_well life_sound owed_sound area_fits stack_sound is_no_slot slot_sound of_runnable slots_of count_sound times_in holders area_sound is_client queued_as served_as clients_as client_sound queued_sound served_sound called_sound waits_on waiters_of waiter_sound runnables_sound variables_sound elements_sound operations_sound timers_sound slots_sound counts_sound areas_sound clients_sound waiters_sound shaped sound_of rows row_of argues formed part_there queues_as part_own asks_synchronous finished_lets failed_lets life_lets owned_refusal instance_refusal scheduler_refusal refusal_by refusal_of read_variable_of write_variable_of enter_of on_top exit_of read_of updated_of linked accepts fed_element fed_elements feeds is_fed fed_runnables fed write_of invalidate_of is_full full_mask sent_of send_of receive_of requests_full caller_after called call_of poll_of collect_of result_of closing returns is_returned returned_runnables closed answers hand_back_of timeout_of end_of is_due may_spawn starting instance_of is_empty_at lowest_empty found_empty spawned spawn_of tick_of operation_lets timer_lets operations_let timers_let operation_after operations_after timers_after runnables_after all_let waited wait_of fail_of act_of possible_of agrees claimed_of inner_of step_of values_good tested step_in end_in field_of size_of entry_read in_order head_of body_fault refused_at read_from config_of judge_from judge_of rest_of judged_line read_line line_of first_field last_field client server operation area queue sender link spawn_client spawn_server call_seven call_again wait_fifty wait_longer times_out back_late back_in_time ask_timeout ask_nine ask_void enter_first enter_second exit_first send_one send_two send_three receive_one receive_two receive_none joined file late_config areas_config queue_config late false_claim wait_too_long in_time no_call call_twice exit_below send_third table whole_from whole_of time_of time_in is_edition parts_sound has_step marks_invalid top_of most_pending one_more is_no_awaited awaits_well is_no_life is_no_owed is_no_stack ends_waiting waiting_lets held_well asks_waiting slot_lets slots_let slots_after hold_of give_up_of nothing observe history_from history_of named_there listed_there lists_of has_room lists_well has_field lists_elements listed_below size_in copied_sound copies_sound copy_sound has_copy is_no_copy copy_in lists_at first_listed handed_elements handed_runnables cleared copied_elements copied_into no_copies
 fifty-waited = refl
 
 -- ---- full queues (W-201)
@@ -394,7 +396,7 @@ pub full_table : List Row
 full_table = send_third ∷ send_older ∷ send_wrong ∷ send_bare ∷ send_high ∷ send_soon ∷ call_wrong ∷ send_four ∷ []
 
 pub full-queues : map (λ (x : Row). line_of x.config x.recording) full_table ≡ map (λ (x : Row). x.line) full_table
-unfolding all_of all_below any_below sum_below mask_below first_below each_below shifted place_filled filled is_void is_payload is_kind is_mask is_good same_value runnable_conf_in add_runnable_conf variable_conf_in add_variable_conf area_conf_in add_area_conf required_conf_in add_required_conf provided_conf_in add_provided_conf link_in add_link operation_conf_in add_operation_conf timer_conf_in add_timer_conf data_event_in add_data_event return_event_in add_return_event no_config no_requests no_runnable no_values no_element no_stack no_slot no_runnables runnable_in with_runnable no_variables variable_in with_variable no_areas area_in with_area no_elements element_in with_element no_operations operation_in with_operation no_timers timer_in with_timer no_slots slot_in with_slot push_request first_request rest_requests push_value first_value rest_values push_area top_area pop_area start_variable start_element start_runnables start_variables start_elements start_of max_of count_of places_of entry_of placed in_range names_there is_server is_queued rises rises_at pairs_well entry_fault is_no_entry place_sound kind_sound config_sound is_no_client client_fits requests_sound values_sound runnable_sound variable_sound is_stored element_sound is_outcome calling_sound done_sound operation_sound timer_sound waits_well life_sound owed_sound area_fits stack_sound is_no_slot slot_sound of_runnable slots_of count_sound times_in holders area_sound is_client queued_as served_as clients_as client_sound queued_sound served_sound called_sound waits_on waiters_of waiter_sound runnables_sound variables_sound elements_sound operations_sound timers_sound slots_sound counts_sound areas_sound clients_sound waiters_sound shaped sound_of rows row_of argues formed part_there queues_as part_own asks_synchronous finished_lets failed_lets life_lets owned_refusal instance_refusal scheduler_refusal refusal_by refusal_of read_variable_of write_variable_of enter_of on_top exit_of read_of updated_of linked accepts fed_element fed_elements feeds is_fed fed_runnables fed write_of invalidate_of is_full full_mask sent_of send_of receive_of requests_full caller_after called call_of poll_of collect_of result_of closing returns is_returned returned_runnables closed answers hand_back_of timeout_of end_of is_due may_spawn starting instance_of is_empty_at lowest_empty found_empty spawned spawn_of tick_of operation_lets timer_lets operations_let timers_let operation_after operations_after timers_after runnables_after all_let waited wait_of fail_of act_of possible_of agrees claimed_of inner_of step_of values_good tested step_in end_in field_of size_of entry_read in_order head_of body_fault refused_at read_from config_of judge_from judge_of rest_of judged_line read_line line_of first_field last_field client server operation queue sender link scale link_second link_fourth link_third spawn_client call_seven call_full send_one send_two send_three send_limit send_other send_nothing send_beyond send_early send_aside send_all take_second send_again take_again receive_one receive_two receive_none joined file late_config queue_config scales_config send_third send_older send_wrong send_bare send_high send_soon call_wrong send_four full_table is_edition parts_sound has_step marks_invalid top_of most_pending one_more is_no_awaited awaits_well is_no_life is_no_owed is_no_stack ends_waiting waiting_lets held_well asks_waiting slot_lets slots_let slots_after hold_of give_up_of whole_from whole_of nothing observe history_from history_of time_of time_in named_there listed_there lists_of has_room lists_well has_field lists_elements listed_below size_in listed_in add_listed copied_sound copies_sound copy_sound has_copy is_no_copy copies_in copy_in lists_at first_listed handed_elements handed_runnables cleared copied_elements copied_into no_copied no_copies
+unfolding all_of all_below any_below sum_below mask_below first_below each_below shifted place_filled filled is_void is_payload is_kind is_mask is_good same_value part_in add_part no_config no_requests no_runnable no_values no_element no_stack no_slot no_places place_in with_place pushed oldest without_oldest push_area top_area pop_area start_variable start_element started start_of max_of count_of places_of entry_of placed in_range names_there is_server is_queued rises rises_at pairs_well entry_fault is_no_entry place_sound kind_sound config_sound is_no_client client_fits requests_sound values_sound runnable_sound variable_sound is_stored element_sound is_outcome calling_sound done_sound operation_sound timer_sound waits_well life_sound owed_sound area_fits stack_sound is_no_slot slot_sound of_runnable slots_of count_sound times_in holders area_sound is_client queued_as served_as clients_as client_sound queued_sound served_sound called_sound waits_on waiters_of waiter_sound runnables_sound variables_sound elements_sound operations_sound timers_sound slots_sound counts_sound areas_sound clients_sound waiters_sound shaped sound_of rows row_of argues formed part_there queues_as part_own asks_synchronous finished_lets failed_lets life_lets owned_refusal instance_refusal scheduler_refusal refusal_by refusal_of read_variable_of write_variable_of enter_of on_top exit_of read_of updated_of linked accepts fed_element fed_elements feeds is_fed fed_runnables fed write_of invalidate_of is_full full_mask sent_of send_of receive_of requests_full caller_after called call_of poll_of collect_of result_of closing returns is_returned returned_runnables closed answers hand_back_of timeout_of end_of is_due may_spawn starting instance_of is_empty_at lowest_empty found_empty spawned spawn_of tick_of operation_lets timer_lets operations_let timers_let operation_after operations_after timers_after runnables_after all_let waited wait_of fail_of act_of possible_of agrees claimed_of inner_of step_of values_good tested step_in end_in field_of size_of entry_read in_order head_of body_fault refused_at read_from config_of judge_from judge_of rest_of judged_line read_line line_of first_field last_field client server operation queue sender link scale link_second link_fourth link_third spawn_client call_seven call_full send_one send_two send_three send_limit send_other send_nothing send_beyond send_early send_aside send_all take_second send_again take_again receive_one receive_two receive_none joined file late_config queue_config scales_config send_third send_older send_wrong send_bare send_high send_soon call_wrong send_four full_table is_edition parts_sound has_step marks_invalid top_of most_pending one_more is_no_awaited awaits_well is_no_life is_no_owed is_no_stack ends_waiting waiting_lets held_well asks_waiting slot_lets slots_let slots_after hold_of give_up_of whole_from whole_of nothing observe history_from history_of time_of time_in named_there listed_there lists_of has_room lists_well has_field lists_elements listed_below size_in copied_sound copies_sound copy_sound has_copy is_no_copy copy_in lists_at first_listed handed_elements handed_runnables cleared copied_elements copied_into no_copies
 full-queues = refl
 
 -- ---- the two editions
@@ -437,7 +439,7 @@ edition_table =
     ∷ []
 
 pub both-editions : map (λ (x : Row). line_of x.config x.recording) edition_table ≡ map (λ (x : Row). x.line) edition_table
-unfolding all_of all_below any_below sum_below mask_below first_below each_below shifted place_filled filled is_void is_payload is_kind is_mask is_good same_value runnable_conf_in add_runnable_conf variable_conf_in add_variable_conf area_conf_in add_area_conf required_conf_in add_required_conf provided_conf_in add_provided_conf link_in add_link operation_conf_in add_operation_conf timer_conf_in add_timer_conf data_event_in add_data_event return_event_in add_return_event no_config no_requests no_runnable no_values no_element no_stack no_slot no_runnables runnable_in with_runnable no_variables variable_in with_variable no_areas area_in with_area no_elements element_in with_element no_operations operation_in with_operation no_timers timer_in with_timer no_slots slot_in with_slot push_request first_request rest_requests push_value first_value rest_values push_area top_area pop_area start_variable start_element start_runnables start_variables start_elements start_of max_of count_of places_of entry_of placed in_range names_there is_server is_queued rises rises_at pairs_well entry_fault is_no_entry place_sound kind_sound config_sound is_no_client client_fits requests_sound values_sound runnable_sound variable_sound is_stored element_sound is_outcome calling_sound done_sound operation_sound timer_sound waits_well life_sound owed_sound area_fits stack_sound is_no_slot slot_sound of_runnable slots_of count_sound times_in holders area_sound is_client queued_as served_as clients_as client_sound queued_sound served_sound called_sound waits_on waiters_of waiter_sound runnables_sound variables_sound elements_sound operations_sound timers_sound slots_sound counts_sound areas_sound clients_sound waiters_sound shaped sound_of rows row_of argues formed part_there queues_as part_own asks_synchronous finished_lets failed_lets life_lets owned_refusal instance_refusal scheduler_refusal refusal_by refusal_of read_variable_of write_variable_of enter_of on_top exit_of read_of updated_of linked accepts fed_element fed_elements feeds is_fed fed_runnables fed write_of invalidate_of is_full full_mask sent_of send_of receive_of requests_full caller_after called call_of poll_of collect_of result_of closing returns is_returned returned_runnables closed answers hand_back_of timeout_of end_of is_due may_spawn starting instance_of is_empty_at lowest_empty found_empty spawned spawn_of tick_of operation_lets timer_lets operations_let timers_let operation_after operations_after timers_after runnables_after all_let waited wait_of fail_of act_of possible_of agrees claimed_of inner_of step_of values_good tested step_in end_in field_of size_of entry_read in_order head_of body_fault refused_at read_from config_of judge_from judge_of rest_of judged_line read_line line_of first_field last_field client server operation queue sender link scale link_second link_fourth link_third spawn_client call_seven call_full send_one send_two send_three send_limit send_other send_nothing send_beyond send_early send_aside send_all take_second send_again take_again receive_one receive_two receive_none joined file late_config queue_config scales_config send_third send_older send_wrong send_bare send_high send_soon call_wrong send_four full_table is_edition parts_sound has_step marks_invalid board painter edition_config marks reads_invalid marks_nothing marks_with edition_table top_of most_pending one_more is_no_awaited awaits_well is_no_life is_no_owed is_no_stack ends_waiting waiting_lets held_well asks_waiting slot_lets slots_let slots_after hold_of give_up_of whole_from whole_of nothing observe history_from history_of time_of time_in named_there listed_there lists_of has_room lists_well has_field lists_elements listed_below size_in listed_in add_listed copied_sound copies_sound copy_sound has_copy is_no_copy copies_in copy_in lists_at first_listed handed_elements handed_runnables cleared copied_elements copied_into no_copied no_copies
+unfolding all_of all_below any_below sum_below mask_below first_below each_below shifted place_filled filled is_void is_payload is_kind is_mask is_good same_value part_in add_part no_config no_requests no_runnable no_values no_element no_stack no_slot no_places place_in with_place pushed oldest without_oldest push_area top_area pop_area start_variable start_element started start_of max_of count_of places_of entry_of placed in_range names_there is_server is_queued rises rises_at pairs_well entry_fault is_no_entry place_sound kind_sound config_sound is_no_client client_fits requests_sound values_sound runnable_sound variable_sound is_stored element_sound is_outcome calling_sound done_sound operation_sound timer_sound waits_well life_sound owed_sound area_fits stack_sound is_no_slot slot_sound of_runnable slots_of count_sound times_in holders area_sound is_client queued_as served_as clients_as client_sound queued_sound served_sound called_sound waits_on waiters_of waiter_sound runnables_sound variables_sound elements_sound operations_sound timers_sound slots_sound counts_sound areas_sound clients_sound waiters_sound shaped sound_of rows row_of argues formed part_there queues_as part_own asks_synchronous finished_lets failed_lets life_lets owned_refusal instance_refusal scheduler_refusal refusal_by refusal_of read_variable_of write_variable_of enter_of on_top exit_of read_of updated_of linked accepts fed_element fed_elements feeds is_fed fed_runnables fed write_of invalidate_of is_full full_mask sent_of send_of receive_of requests_full caller_after called call_of poll_of collect_of result_of closing returns is_returned returned_runnables closed answers hand_back_of timeout_of end_of is_due may_spawn starting instance_of is_empty_at lowest_empty found_empty spawned spawn_of tick_of operation_lets timer_lets operations_let timers_let operation_after operations_after timers_after runnables_after all_let waited wait_of fail_of act_of possible_of agrees claimed_of inner_of step_of values_good tested step_in end_in field_of size_of entry_read in_order head_of body_fault refused_at read_from config_of judge_from judge_of rest_of judged_line read_line line_of first_field last_field client server operation queue sender link scale link_second link_fourth link_third spawn_client call_seven call_full send_one send_two send_three send_limit send_other send_nothing send_beyond send_early send_aside send_all take_second send_again take_again receive_one receive_two receive_none joined file late_config queue_config scales_config send_third send_older send_wrong send_bare send_high send_soon call_wrong send_four full_table is_edition parts_sound has_step marks_invalid board painter edition_config marks reads_invalid marks_nothing marks_with edition_table top_of most_pending one_more is_no_awaited awaits_well is_no_life is_no_owed is_no_stack ends_waiting waiting_lets held_well asks_waiting slot_lets slots_let slots_after hold_of give_up_of whole_from whole_of nothing observe history_from history_of time_of time_in named_there listed_there lists_of has_room lists_well has_field lists_elements listed_below size_in copied_sound copies_sound copy_sound has_copy is_no_copy copy_in lists_at first_listed handed_elements handed_runnables cleared copied_elements copied_into no_copies
 both-editions = refl
 
 -- ---- pending activations (W-212): the two traces of the source's section V, without the counting flag and with it
@@ -496,7 +498,7 @@ pub triggered_table : List Row
 triggered_table = in_turn receiver ∷ in_turn counter ∷ together receiver ∷ together counter ∷ lost_one ∷ counts_both ∷ counts_no_more ∷ counter_serves ∷ flag_beyond ∷ []
 
 pub counted-activations : map (λ (x : Row). line_of x.config x.recording) triggered_table ≡ map (λ (x : Row). x.line) triggered_table
-unfolding all_of all_below any_below sum_below mask_below first_below each_below shifted place_filled filled is_void is_payload is_kind is_mask is_good same_value runnable_conf_in add_runnable_conf variable_conf_in add_variable_conf area_conf_in add_area_conf required_conf_in add_required_conf provided_conf_in add_provided_conf link_in add_link operation_conf_in add_operation_conf timer_conf_in add_timer_conf data_event_in add_data_event return_event_in add_return_event no_config no_requests no_runnable no_values no_element no_stack no_slot no_runnables runnable_in with_runnable no_variables variable_in with_variable no_areas area_in with_area no_elements element_in with_element no_operations operation_in with_operation no_timers timer_in with_timer no_slots slot_in with_slot push_request first_request rest_requests push_value first_value rest_values push_area top_area pop_area start_variable start_element start_runnables start_variables start_elements start_of max_of count_of places_of entry_of placed in_range names_there is_server is_queued rises rises_at pairs_well entry_fault is_no_entry place_sound kind_sound config_sound is_no_client client_fits requests_sound values_sound top_of most_pending runnable_sound variable_sound is_stored element_sound is_outcome calling_sound done_sound operation_sound timer_sound waits_well life_sound owed_sound area_fits stack_sound is_no_slot slot_sound of_runnable slots_of count_sound times_in holders area_sound is_client queued_as served_as clients_as client_sound queued_sound served_sound called_sound waits_on waiters_of waiter_sound runnables_sound variables_sound elements_sound operations_sound timers_sound slots_sound counts_sound areas_sound clients_sound waiters_sound shaped sound_of rows row_of argues formed part_there queues_as part_own asks_synchronous finished_lets failed_lets life_lets owned_refusal instance_refusal scheduler_refusal refusal_by refusal_of read_variable_of write_variable_of enter_of on_top exit_of read_of updated_of linked accepts fed_element fed_elements one_more feeds is_fed fed_runnables fed write_of invalidate_of is_full full_mask sent_of send_of receive_of requests_full caller_after called call_of poll_of collect_of result_of closing returns is_returned returned_runnables closed answers hand_back_of timeout_of end_of is_due may_spawn starting instance_of is_empty_at lowest_empty found_empty spawned spawn_of tick_of operation_lets timer_lets operations_let timers_let operation_after operations_after timers_after runnables_after all_let waited wait_of fail_of act_of possible_of agrees claimed_of inner_of step_of values_good tested step_in end_in field_of size_of entry_read in_order head_of body_fault refused_at read_from config_of judge_from judge_of rest_of judged_line read_line line_of first_field last_field client queue sender link spawn_client spawn_server send_one send_two receiver counter event spawn_next spawn_third joined file triggered_config in_turn together lost_one counts_both counts_no_more counter_serves flag_beyond triggered_table is_edition parts_sound has_step marks_invalid is_no_awaited awaits_well is_no_life is_no_owed is_no_stack ends_waiting waiting_lets held_well asks_waiting slot_lets slots_let slots_after hold_of give_up_of whole_from whole_of nothing observe history_from history_of time_of time_in named_there listed_there lists_of has_room lists_well has_field lists_elements listed_below size_in listed_in add_listed copied_sound copies_sound copy_sound has_copy is_no_copy copies_in copy_in lists_at first_listed handed_elements handed_runnables cleared copied_elements copied_into no_copied no_copies
+unfolding all_of all_below any_below sum_below mask_below first_below each_below shifted place_filled filled is_void is_payload is_kind is_mask is_good same_value part_in add_part no_config no_requests no_runnable no_values no_element no_stack no_slot no_places place_in with_place pushed oldest without_oldest push_area top_area pop_area start_variable start_element started start_of max_of count_of places_of entry_of placed in_range names_there is_server is_queued rises rises_at pairs_well entry_fault is_no_entry place_sound kind_sound config_sound is_no_client client_fits requests_sound values_sound top_of most_pending runnable_sound variable_sound is_stored element_sound is_outcome calling_sound done_sound operation_sound timer_sound waits_well life_sound owed_sound area_fits stack_sound is_no_slot slot_sound of_runnable slots_of count_sound times_in holders area_sound is_client queued_as served_as clients_as client_sound queued_sound served_sound called_sound waits_on waiters_of waiter_sound runnables_sound variables_sound elements_sound operations_sound timers_sound slots_sound counts_sound areas_sound clients_sound waiters_sound shaped sound_of rows row_of argues formed part_there queues_as part_own asks_synchronous finished_lets failed_lets life_lets owned_refusal instance_refusal scheduler_refusal refusal_by refusal_of read_variable_of write_variable_of enter_of on_top exit_of read_of updated_of linked accepts fed_element fed_elements one_more feeds is_fed fed_runnables fed write_of invalidate_of is_full full_mask sent_of send_of receive_of requests_full caller_after called call_of poll_of collect_of result_of closing returns is_returned returned_runnables closed answers hand_back_of timeout_of end_of is_due may_spawn starting instance_of is_empty_at lowest_empty found_empty spawned spawn_of tick_of operation_lets timer_lets operations_let timers_let operation_after operations_after timers_after runnables_after all_let waited wait_of fail_of act_of possible_of agrees claimed_of inner_of step_of values_good tested step_in end_in field_of size_of entry_read in_order head_of body_fault refused_at read_from config_of judge_from judge_of rest_of judged_line read_line line_of first_field last_field client queue sender link spawn_client spawn_server send_one send_two receiver counter event spawn_next spawn_third joined file triggered_config in_turn together lost_one counts_both counts_no_more counter_serves flag_beyond triggered_table is_edition parts_sound has_step marks_invalid is_no_awaited awaits_well is_no_life is_no_owed is_no_stack ends_waiting waiting_lets held_well asks_waiting slot_lets slots_let slots_after hold_of give_up_of whole_from whole_of nothing observe history_from history_of time_of time_in named_there listed_there lists_of has_room lists_well has_field lists_elements listed_below size_in copied_sound copies_sound copy_sound has_copy is_no_copy copy_in lists_at first_listed handed_elements handed_runnables cleared copied_elements copied_into no_copies
 counted-activations = refl
 
 -- ---- a crane that fails
@@ -529,7 +531,7 @@ pub crane_table : List Row
 crane_table = crane_in_time ∷ crane_too_late ∷ crane_number ∷ crane_enters_failed ∷ []
 
 pub failing-cranes : map (λ (x : Row). line_of x.config x.recording) crane_table ≡ map (λ (x : Row). x.line) crane_table
-unfolding all_of all_below any_below sum_below mask_below first_below each_below shifted place_filled filled is_void is_payload is_kind is_mask is_good same_value runnable_conf_in add_runnable_conf variable_conf_in add_variable_conf area_conf_in add_area_conf required_conf_in add_required_conf provided_conf_in add_provided_conf link_in add_link operation_conf_in add_operation_conf timer_conf_in add_timer_conf data_event_in add_data_event return_event_in add_return_event no_config no_requests no_runnable no_values no_element no_stack no_slot no_runnables runnable_in with_runnable no_variables variable_in with_variable no_areas area_in with_area no_elements element_in with_element no_operations operation_in with_operation no_timers timer_in with_timer no_slots slot_in with_slot push_request first_request rest_requests push_value first_value rest_values push_area top_area pop_area start_variable start_element start_runnables start_variables start_elements start_of max_of count_of places_of entry_of placed in_range names_there is_server is_queued rises rises_at pairs_well entry_fault is_no_entry place_sound kind_sound config_sound is_no_client client_fits requests_sound values_sound runnable_sound variable_sound is_stored element_sound is_outcome calling_sound done_sound operation_sound timer_sound waits_well life_sound owed_sound area_fits stack_sound is_no_slot slot_sound of_runnable slots_of count_sound times_in holders area_sound is_client queued_as served_as clients_as client_sound queued_sound served_sound called_sound waits_on waiters_of waiter_sound runnables_sound variables_sound elements_sound operations_sound timers_sound slots_sound counts_sound areas_sound clients_sound waiters_sound shaped sound_of rows row_of argues formed part_there queues_as part_own asks_synchronous finished_lets failed_lets life_lets owned_refusal instance_refusal scheduler_refusal refusal_by refusal_of read_variable_of write_variable_of enter_of on_top exit_of read_of updated_of linked accepts fed_element fed_elements feeds is_fed fed_runnables fed write_of invalidate_of is_full full_mask sent_of send_of receive_of requests_full caller_after called call_of poll_of collect_of result_of closing returns is_returned returned_runnables closed answers hand_back_of timeout_of end_of is_due may_spawn starting instance_of is_empty_at lowest_empty found_empty spawned spawn_of tick_of operation_lets timer_lets operations_let timers_let operation_after operations_after timers_after runnables_after all_let waited wait_of fail_of act_of possible_of agrees claimed_of inner_of step_of values_good tested step_in end_in field_of size_of entry_read in_order head_of body_fault refused_at read_from config_of judge_from judge_of rest_of judged_line read_line line_of first_field last_field client server operation area queue sender link spawn_client spawn_server call_seven call_again wait_fifty wait_longer times_out back_late back_in_time ask_timeout ask_nine ask_void enter_first enter_second exit_first send_one send_two send_three receive_one receive_two receive_none crane_area crane_enters_first crane_enters_second crane_fails crane_back crane_back_late crane_exits_second crane_exits_first crane_ends ask_server_err joined file late_config areas_config queue_config crane_config crane_in_time crane_too_late crane_number crane_enters_failed crane_table is_edition parts_sound has_step marks_invalid top_of most_pending one_more is_no_awaited awaits_well is_no_life is_no_owed is_no_stack ends_waiting waiting_lets held_well asks_waiting slot_lets slots_let slots_after hold_of give_up_of whole_from whole_of nothing observe history_from history_of time_of time_in named_there listed_there lists_of has_room lists_well has_field lists_elements listed_below size_in listed_in add_listed copied_sound copies_sound copy_sound has_copy is_no_copy copies_in copy_in lists_at first_listed handed_elements handed_runnables cleared copied_elements copied_into no_copied no_copies
+unfolding all_of all_below any_below sum_below mask_below first_below each_below shifted place_filled filled is_void is_payload is_kind is_mask is_good same_value part_in add_part no_config no_requests no_runnable no_values no_element no_stack no_slot no_places place_in with_place pushed oldest without_oldest push_area top_area pop_area start_variable start_element started start_of max_of count_of places_of entry_of placed in_range names_there is_server is_queued rises rises_at pairs_well entry_fault is_no_entry place_sound kind_sound config_sound is_no_client client_fits requests_sound values_sound runnable_sound variable_sound is_stored element_sound is_outcome calling_sound done_sound operation_sound timer_sound waits_well life_sound owed_sound area_fits stack_sound is_no_slot slot_sound of_runnable slots_of count_sound times_in holders area_sound is_client queued_as served_as clients_as client_sound queued_sound served_sound called_sound waits_on waiters_of waiter_sound runnables_sound variables_sound elements_sound operations_sound timers_sound slots_sound counts_sound areas_sound clients_sound waiters_sound shaped sound_of rows row_of argues formed part_there queues_as part_own asks_synchronous finished_lets failed_lets life_lets owned_refusal instance_refusal scheduler_refusal refusal_by refusal_of read_variable_of write_variable_of enter_of on_top exit_of read_of updated_of linked accepts fed_element fed_elements feeds is_fed fed_runnables fed write_of invalidate_of is_full full_mask sent_of send_of receive_of requests_full caller_after called call_of poll_of collect_of result_of closing returns is_returned returned_runnables closed answers hand_back_of timeout_of end_of is_due may_spawn starting instance_of is_empty_at lowest_empty found_empty spawned spawn_of tick_of operation_lets timer_lets operations_let timers_let operation_after operations_after timers_after runnables_after all_let waited wait_of fail_of act_of possible_of agrees claimed_of inner_of step_of values_good tested step_in end_in field_of size_of entry_read in_order head_of body_fault refused_at read_from config_of judge_from judge_of rest_of judged_line read_line line_of first_field last_field client server operation area queue sender link spawn_client spawn_server call_seven call_again wait_fifty wait_longer times_out back_late back_in_time ask_timeout ask_nine ask_void enter_first enter_second exit_first send_one send_two send_three receive_one receive_two receive_none crane_area crane_enters_first crane_enters_second crane_fails crane_back crane_back_late crane_exits_second crane_exits_first crane_ends ask_server_err joined file late_config areas_config queue_config crane_config crane_in_time crane_too_late crane_number crane_enters_failed crane_table is_edition parts_sound has_step marks_invalid top_of most_pending one_more is_no_awaited awaits_well is_no_life is_no_owed is_no_stack ends_waiting waiting_lets held_well asks_waiting slot_lets slots_let slots_after hold_of give_up_of whole_from whole_of nothing observe history_from history_of time_of time_in named_there listed_there lists_of has_room lists_well has_field lists_elements listed_below size_in copied_sound copies_sound copy_sound has_copy is_no_copy copy_in lists_at first_listed handed_elements handed_runnables cleared copied_elements copied_into no_copies
 failing-cranes = refl
 
 -- (i) the call at place 2 was ended at place 7 by the failure of the instance spawned for it. (j) it was ended by the timeout at place 8, and by nothing else
@@ -551,5 +553,5 @@ pub failing-histories : map followed (crane_in_time ∷ crane_too_late ∷ []) �
       endings = record { on = 0; call = 2; at = 8; how = by_timeout } ∷ [];
     }
     ∷ []
-unfolding all_of all_below any_below sum_below mask_below first_below each_below shifted place_filled filled is_void is_payload is_kind is_mask is_good same_value runnable_conf_in add_runnable_conf variable_conf_in add_variable_conf area_conf_in add_area_conf required_conf_in add_required_conf provided_conf_in add_provided_conf link_in add_link operation_conf_in add_operation_conf timer_conf_in add_timer_conf data_event_in add_data_event return_event_in add_return_event no_config no_requests no_runnable no_values no_element no_stack no_slot no_runnables runnable_in with_runnable no_variables variable_in with_variable no_areas area_in with_area no_elements element_in with_element no_operations operation_in with_operation no_timers timer_in with_timer no_slots slot_in with_slot push_request first_request rest_requests push_value first_value rest_values push_area top_area pop_area start_variable start_element start_runnables start_variables start_elements start_of max_of count_of places_of entry_of placed in_range names_there is_server is_queued rises rises_at pairs_well entry_fault is_no_entry place_sound kind_sound config_sound is_no_client client_fits requests_sound values_sound runnable_sound variable_sound is_stored element_sound is_outcome calling_sound done_sound operation_sound timer_sound waits_well life_sound owed_sound area_fits stack_sound is_no_slot slot_sound of_runnable slots_of count_sound times_in holders area_sound is_client queued_as served_as clients_as client_sound queued_sound served_sound called_sound waits_on waiters_of waiter_sound runnables_sound variables_sound elements_sound operations_sound timers_sound slots_sound counts_sound areas_sound clients_sound waiters_sound shaped sound_of rows row_of argues formed part_there queues_as part_own asks_synchronous finished_lets failed_lets life_lets owned_refusal instance_refusal scheduler_refusal refusal_by refusal_of read_variable_of write_variable_of enter_of on_top exit_of read_of updated_of linked accepts fed_element fed_elements feeds is_fed fed_runnables fed write_of invalidate_of is_full full_mask sent_of send_of receive_of requests_full caller_after called call_of poll_of collect_of result_of closing returns is_returned returned_runnables closed answers hand_back_of timeout_of end_of is_due may_spawn starting instance_of is_empty_at lowest_empty found_empty spawned spawn_of tick_of operation_lets timer_lets operations_let timers_let operation_after operations_after timers_after runnables_after all_let waited wait_of fail_of act_of possible_of agrees claimed_of inner_of step_of values_good tested step_in end_in field_of size_of entry_read in_order head_of body_fault refused_at read_from config_of judge_from judge_of rest_of judged_line read_line line_of first_field last_field client server operation area queue sender link spawn_client spawn_server call_seven call_again wait_fifty wait_longer times_out back_late back_in_time ask_timeout ask_nine ask_void enter_first enter_second exit_first send_one send_two send_three receive_one receive_two receive_none crane_area crane_enters_first crane_enters_second crane_fails crane_back crane_back_late crane_exits_second crane_exits_first crane_ends ask_server_err joined file late_config areas_config queue_config crane_config crane_in_time crane_too_late crane_number crane_enters_failed crane_table whole_from whole_of nothing observe history_from history_of followed is_edition parts_sound has_step marks_invalid top_of most_pending one_more is_no_awaited awaits_well is_no_life is_no_owed is_no_stack ends_waiting waiting_lets held_well asks_waiting slot_lets slots_let slots_after hold_of give_up_of time_of time_in named_there listed_there lists_of has_room lists_well has_field lists_elements listed_below size_in listed_in add_listed copied_sound copies_sound copy_sound has_copy is_no_copy copies_in copy_in lists_at first_listed handed_elements handed_runnables cleared copied_elements copied_into no_copied no_copies
+unfolding all_of all_below any_below sum_below mask_below first_below each_below shifted place_filled filled is_void is_payload is_kind is_mask is_good same_value part_in add_part no_config no_requests no_runnable no_values no_element no_stack no_slot no_places place_in with_place pushed oldest without_oldest push_area top_area pop_area start_variable start_element started start_of max_of count_of places_of entry_of placed in_range names_there is_server is_queued rises rises_at pairs_well entry_fault is_no_entry place_sound kind_sound config_sound is_no_client client_fits requests_sound values_sound runnable_sound variable_sound is_stored element_sound is_outcome calling_sound done_sound operation_sound timer_sound waits_well life_sound owed_sound area_fits stack_sound is_no_slot slot_sound of_runnable slots_of count_sound times_in holders area_sound is_client queued_as served_as clients_as client_sound queued_sound served_sound called_sound waits_on waiters_of waiter_sound runnables_sound variables_sound elements_sound operations_sound timers_sound slots_sound counts_sound areas_sound clients_sound waiters_sound shaped sound_of rows row_of argues formed part_there queues_as part_own asks_synchronous finished_lets failed_lets life_lets owned_refusal instance_refusal scheduler_refusal refusal_by refusal_of read_variable_of write_variable_of enter_of on_top exit_of read_of updated_of linked accepts fed_element fed_elements feeds is_fed fed_runnables fed write_of invalidate_of is_full full_mask sent_of send_of receive_of requests_full caller_after called call_of poll_of collect_of result_of closing returns is_returned returned_runnables closed answers hand_back_of timeout_of end_of is_due may_spawn starting instance_of is_empty_at lowest_empty found_empty spawned spawn_of tick_of operation_lets timer_lets operations_let timers_let operation_after operations_after timers_after runnables_after all_let waited wait_of fail_of act_of possible_of agrees claimed_of inner_of step_of values_good tested step_in end_in field_of size_of entry_read in_order head_of body_fault refused_at read_from config_of judge_from judge_of rest_of judged_line read_line line_of first_field last_field client server operation area queue sender link spawn_client spawn_server call_seven call_again wait_fifty wait_longer times_out back_late back_in_time ask_timeout ask_nine ask_void enter_first enter_second exit_first send_one send_two send_three receive_one receive_two receive_none crane_area crane_enters_first crane_enters_second crane_fails crane_back crane_back_late crane_exits_second crane_exits_first crane_ends ask_server_err joined file late_config areas_config queue_config crane_config crane_in_time crane_too_late crane_number crane_enters_failed crane_table whole_from whole_of nothing observe history_from history_of followed is_edition parts_sound has_step marks_invalid top_of most_pending one_more is_no_awaited awaits_well is_no_life is_no_owed is_no_stack ends_waiting waiting_lets held_well asks_waiting slot_lets slots_let slots_after hold_of give_up_of time_of time_in named_there listed_there lists_of has_room lists_well has_field lists_elements listed_below size_in copied_sound copies_sound copy_sound has_copy is_no_copy copy_in lists_at first_listed handed_elements handed_runnables cleared copied_elements copied_into no_copies
 failing-histories = refl

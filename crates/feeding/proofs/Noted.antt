@@ -20,6 +20,7 @@ use Rattle.state.specs.Parts.{no_runnable}
 use Rattle.state.specs.Tables.{element_in}
 use Rattle.effects.specs.Steps.{linked, accepts, woken, feeds, is_fed, fed_runnables, is_full, full_mask}
 use Rattle.feeding.specs.declared.Rooms.{Rooms}
+use Rattle.config.specs.Table.{part_in}
 use Rattle.feeding.specs.Rooms.{rooms_of, room_in, feeds_by, is_fed_by, fed_runnables_by, is_full_by, full_mask_by}
 
 pub rooms-made : {u : Rooms} {l : List Bool} → u.at ≡ l → ◌≡◌ {A = Rooms} u (record { at = l })
@@ -33,7 +34,7 @@ each_same f g d (suc n) l h = rw (each_same f g d n l h, h n (get_or (each_below
 
 module _ (cfg : Config) (t : Elements) (e : length cfg.required.at ≡ 16) where
   pub room-in : (q : ℕ) → room_in (rooms_of cfg t) q ≡ accepts cfg q (element_in t q)
-  unfolding room_in rooms_of accepts is_queued required_conf_in
+  unfolding room_in rooms_of accepts is_queued part_in
   room-in q = go (dec_lt q 16)
     where
       f : ℕ → Bool → Bool

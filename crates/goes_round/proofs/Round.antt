@@ -16,7 +16,7 @@ use Rattle.config.specs.Editions.{first_edition, is_edition, marks_invalid, has_
 use Rattle.config.specs.Tables.{runnable_conf_in, variable_conf_in, area_conf_in, required_conf_in, provided_conf_in, link_in, operation_conf_in, timer_conf_in, data_event_in, return_event_in, no_runnable_conf, no_variable_confs, no_area_confs, no_required_confs, no_provided_confs, no_links, no_operation_conf, no_timer_confs, no_data_events, no_return_events, no_lists, top_of, listed_in}
 use Rattle.state.specs.Parts.{no_requests, no_runnable, no_values, no_element, no_stack, no_slot, no_client, no_owed, no_operation, no_awaited, no_copies}
 use Rattle.state.specs.Tables.{no_runnables, runnable_in, with_runnable, no_variables, variable_in, with_variable, no_areas, area_in, with_area, no_elements, element_in, with_element, no_operations, operation_in, with_operation, no_timers, timer_in, with_timer, no_slots, slot_in, with_slot, copies_in, copy_in, no_copied}
-use Rattle.state.specs.Queues.{push_request, first_request, rest_requests, push_value, first_value, rest_values, push_area, top_area, pop_area}
+use Rattle.state.specs.Queues.{push_request, first_request, rest_requests, push_value, first_value, rest_values, push_area, top_area, pop_area, oldest, pushed, without_oldest}
 use Rattle.entries.specs.Entries.{max_of, count_of, places_of, entry_of}
 use Rattle.entries.specs.Faults.{in_range, names_there, is_server, is_queued, rises, rises_at, pairs_well, entry_fault, is_no_entry, place_sound, kind_sound, config_sound, parts_sound, has_room, lists_well}
 use Rattle.rules.specs.Sound.{is_no_client, client_fits, requests_sound, values_sound, runnable_sound, variable_sound, is_stored, element_sound, is_outcome, calling_sound, done_sound, operation_sound, timer_sound, waits_well, life_sound, owed_sound, area_fits, stack_sound, is_no_slot, slot_sound, of_runnable, slots_of, count_sound, times_in, holders, area_sound, is_client, queued_as, served_as, clients_as, client_sound, queued_sound, served_sound, called_sound, runnables_sound, variables_sound, elements_sound, operations_sound, timers_sound, slots_sound, counts_sound, areas_sound, clients_sound, shaped, waits_on, waiters_of, waiter_sound, waiters_sound, sound_of, most_pending, is_no_awaited, awaits_well, is_no_life, is_no_owed, is_no_stack, held_well, copied_sound, copies_sound, copy_sound, has_copy, is_no_copy}
@@ -35,6 +35,8 @@ use Rattle.gaps.specs.Report.{fitted, step_notes, turn_notes, note_count, survey
 use Rattle.gaps.proofs.Same.{turns-once, survey-once}
 use Rattle.posting.specs.declared.Shown.TheVariants.{Final, Wait, Unjudged}
 use Rattle.posting.specs.Posting.{is_unplanned, done_shown, operation_shown}
+use Rattle.config.specs.Table.{part_in}
+use Rattle.state.specs.Places.{no_places, place_in, with_place}
 use Rattle.showing.specs.Showing.{judged_shown}
 
 -- ---- the configuration: a client, a server of which several instances may run, and an asynchronous operation of the one on the other
@@ -168,7 +170,7 @@ pub served-goes-round : seen_from served_last (call 5 ∷ spawn 2 ∷ back 2 6 1
     ∷ seen (Taken (number_v 6)) (done 0 (number_v 6))
     ∷ seen (Taken ok_v) (calling 0 50)
     ∷ []
-unfolding all_of all_below any_below sum_below mask_below first_below each_below shifted place_filled filled is_void is_payload is_kind is_mask is_good same_value runnable_conf_in variable_conf_in area_conf_in required_conf_in provided_conf_in link_in operation_conf_in timer_conf_in data_event_in return_event_in no_requests no_runnable no_values no_element no_stack no_slot no_runnables runnable_in with_runnable no_variables variable_in with_variable no_areas area_in with_area no_elements element_in with_element no_operations operation_in with_operation no_timers timer_in with_timer no_slots slot_in with_slot push_request first_request rest_requests push_value first_value rest_values push_area top_area pop_area max_of count_of places_of entry_of in_range names_there is_server is_queued rises rises_at pairs_well entry_fault is_no_entry place_sound kind_sound config_sound is_no_client client_fits requests_sound values_sound runnable_sound variable_sound is_stored element_sound is_outcome calling_sound done_sound operation_sound timer_sound waits_well life_sound owed_sound area_fits stack_sound is_no_slot slot_sound of_runnable slots_of count_sound times_in holders area_sound is_client queued_as served_as clients_as client_sound queued_sound served_sound called_sound runnables_sound variables_sound elements_sound operations_sound timers_sound slots_sound counts_sound areas_sound clients_sound shaped sound_of rows row_of argues formed part_there queues_as part_own asks_synchronous finished_lets failed_lets life_lets owned_refusal instance_refusal scheduler_refusal refusal_by refusal_of read_variable_of write_variable_of enter_of on_top exit_of read_of updated_of linked accepts fed_element fed_elements feeds is_fed fed_runnables fed write_of invalidate_of is_full full_mask sent_of send_of receive_of requests_full caller_after called call_of poll_of collect_of result_of closing returns is_returned returned_runnables closed answers hand_back_of timeout_of end_of is_due may_spawn starting instance_of is_empty_at lowest_empty found_empty spawned spawn_of tick_of operation_lets timer_lets operations_let timers_let operation_after operations_after timers_after runnables_after all_let waited wait_of fail_of act_of possible_of agrees claimed_of inner_of step_of config done calling bearing running state_with served last served_last step call spawn back ask seen seen_from waits_on waiters_of waiter_sound waiters_sound is_edition parts_sound has_step marks_invalid top_of most_pending one_more is_no_awaited awaits_well is_no_life is_no_owed is_no_stack ends_waiting waiting_lets held_well asks_waiting slot_lets slots_let slots_after hold_of give_up_of values_good tested step_in end_in field_of text_of judge_from judge_of is_unplanned done_shown operation_shown judged_shown each passed_over behind sequences up_to_three choices_in sequences_of fills rank_of answered_all state_after turns_of whole_from whole_of mended_steps note_count turn_notes step_notes survey_of named_there listed_there lists_of has_room lists_well has_field lists_elements listed_below listed_in copied_sound copies_sound copy_sound has_copy is_no_copy copies_in copy_in lists_at first_listed handed_elements handed_runnables cleared copied_elements copied_into no_copied no_copies
+unfolding all_of all_below any_below sum_below mask_below first_below each_below shifted place_filled filled is_void is_payload is_kind is_mask is_good same_value part_in no_requests no_runnable no_values no_element no_stack no_slot no_places place_in with_place pushed oldest without_oldest push_area top_area pop_area max_of count_of places_of entry_of in_range names_there is_server is_queued rises rises_at pairs_well entry_fault is_no_entry place_sound kind_sound config_sound is_no_client client_fits requests_sound values_sound runnable_sound variable_sound is_stored element_sound is_outcome calling_sound done_sound operation_sound timer_sound waits_well life_sound owed_sound area_fits stack_sound is_no_slot slot_sound of_runnable slots_of count_sound times_in holders area_sound is_client queued_as served_as clients_as client_sound queued_sound served_sound called_sound runnables_sound variables_sound elements_sound operations_sound timers_sound slots_sound counts_sound areas_sound clients_sound shaped sound_of rows row_of argues formed part_there queues_as part_own asks_synchronous finished_lets failed_lets life_lets owned_refusal instance_refusal scheduler_refusal refusal_by refusal_of read_variable_of write_variable_of enter_of on_top exit_of read_of updated_of linked accepts fed_element fed_elements feeds is_fed fed_runnables fed write_of invalidate_of is_full full_mask sent_of send_of receive_of requests_full caller_after called call_of poll_of collect_of result_of closing returns is_returned returned_runnables closed answers hand_back_of timeout_of end_of is_due may_spawn starting instance_of is_empty_at lowest_empty found_empty spawned spawn_of tick_of operation_lets timer_lets operations_let timers_let operation_after operations_after timers_after runnables_after all_let waited wait_of fail_of act_of possible_of agrees claimed_of inner_of step_of config done calling bearing running state_with served last served_last step call spawn back ask seen seen_from waits_on waiters_of waiter_sound waiters_sound is_edition parts_sound has_step marks_invalid top_of most_pending one_more is_no_awaited awaits_well is_no_life is_no_owed is_no_stack ends_waiting waiting_lets held_well asks_waiting slot_lets slots_let slots_after hold_of give_up_of values_good tested step_in end_in field_of text_of judge_from judge_of is_unplanned done_shown operation_shown judged_shown each passed_over behind sequences up_to_three choices_in sequences_of fills rank_of answered_all state_after turns_of whole_from whole_of mended_steps note_count turn_notes step_notes survey_of named_there listed_there lists_of has_room lists_well has_field lists_elements listed_below copied_sound copies_sound copy_sound has_copy is_no_copy copy_in lists_at first_listed handed_elements handed_runnables cleared copied_elements copied_into no_copies
 served-goes-round = refl
 
 -- an old client still queued: the call times out, and the number is 0; a call is 28, though the queue is full, and 28 again when a spawn has put the old client on an instance; behind its hand back, which is answered 0, a call is accepted
@@ -183,12 +185,12 @@ pub queued-goes-round : seen_from queued_last (call 5 ∷ wait_fifty ∷ times_o
     ∷ seen (Taken timeout_v) (done 0 timeout_v)
     ∷ seen (Taken ok_v) (calling 0 50)
     ∷ []
-unfolding all_of all_below any_below sum_below mask_below first_below each_below shifted place_filled filled is_void is_payload is_kind is_mask is_good same_value runnable_conf_in variable_conf_in area_conf_in required_conf_in provided_conf_in link_in operation_conf_in timer_conf_in data_event_in return_event_in no_requests no_runnable no_values no_element no_stack no_slot no_runnables runnable_in with_runnable no_variables variable_in with_variable no_areas area_in with_area no_elements element_in with_element no_operations operation_in with_operation no_timers timer_in with_timer no_slots slot_in with_slot push_request first_request rest_requests push_value first_value rest_values push_area top_area pop_area max_of count_of places_of entry_of in_range names_there is_server is_queued rises rises_at pairs_well entry_fault is_no_entry place_sound kind_sound config_sound is_no_client client_fits requests_sound values_sound runnable_sound variable_sound is_stored element_sound is_outcome calling_sound done_sound operation_sound timer_sound waits_well life_sound owed_sound area_fits stack_sound is_no_slot slot_sound of_runnable slots_of count_sound times_in holders area_sound is_client queued_as served_as clients_as client_sound queued_sound served_sound called_sound runnables_sound variables_sound elements_sound operations_sound timers_sound slots_sound counts_sound areas_sound clients_sound shaped sound_of rows row_of argues formed part_there queues_as part_own asks_synchronous finished_lets failed_lets life_lets owned_refusal instance_refusal scheduler_refusal refusal_by refusal_of read_variable_of write_variable_of enter_of on_top exit_of read_of updated_of linked accepts fed_element fed_elements feeds is_fed fed_runnables fed write_of invalidate_of is_full full_mask sent_of send_of receive_of requests_full caller_after called call_of poll_of collect_of result_of closing returns is_returned returned_runnables closed answers hand_back_of timeout_of end_of is_due may_spawn starting instance_of is_empty_at lowest_empty found_empty spawned spawn_of tick_of operation_lets timer_lets operations_let timers_let operation_after operations_after timers_after runnables_after all_let waited wait_of fail_of act_of possible_of agrees claimed_of inner_of step_of config done calling bearing running state_with queued last queued_last step call spawn back ask wait_fifty times_out seen seen_from waits_on waiters_of waiter_sound waiters_sound is_edition parts_sound has_step marks_invalid top_of most_pending one_more is_no_awaited awaits_well is_no_life is_no_owed is_no_stack ends_waiting waiting_lets held_well asks_waiting slot_lets slots_let slots_after hold_of give_up_of values_good tested step_in end_in field_of text_of judge_from judge_of is_unplanned done_shown operation_shown judged_shown each passed_over behind sequences up_to_three choices_in sequences_of fills rank_of answered_all state_after turns_of whole_from whole_of mended_steps note_count turn_notes step_notes survey_of named_there listed_there lists_of has_room lists_well has_field lists_elements listed_below listed_in copied_sound copies_sound copy_sound has_copy is_no_copy copies_in copy_in lists_at first_listed handed_elements handed_runnables cleared copied_elements copied_into no_copied no_copies
+unfolding all_of all_below any_below sum_below mask_below first_below each_below shifted place_filled filled is_void is_payload is_kind is_mask is_good same_value part_in no_requests no_runnable no_values no_element no_stack no_slot no_places place_in with_place pushed oldest without_oldest push_area top_area pop_area max_of count_of places_of entry_of in_range names_there is_server is_queued rises rises_at pairs_well entry_fault is_no_entry place_sound kind_sound config_sound is_no_client client_fits requests_sound values_sound runnable_sound variable_sound is_stored element_sound is_outcome calling_sound done_sound operation_sound timer_sound waits_well life_sound owed_sound area_fits stack_sound is_no_slot slot_sound of_runnable slots_of count_sound times_in holders area_sound is_client queued_as served_as clients_as client_sound queued_sound served_sound called_sound runnables_sound variables_sound elements_sound operations_sound timers_sound slots_sound counts_sound areas_sound clients_sound shaped sound_of rows row_of argues formed part_there queues_as part_own asks_synchronous finished_lets failed_lets life_lets owned_refusal instance_refusal scheduler_refusal refusal_by refusal_of read_variable_of write_variable_of enter_of on_top exit_of read_of updated_of linked accepts fed_element fed_elements feeds is_fed fed_runnables fed write_of invalidate_of is_full full_mask sent_of send_of receive_of requests_full caller_after called call_of poll_of collect_of result_of closing returns is_returned returned_runnables closed answers hand_back_of timeout_of end_of is_due may_spawn starting instance_of is_empty_at lowest_empty found_empty spawned spawn_of tick_of operation_lets timer_lets operations_let timers_let operation_after operations_after timers_after runnables_after all_let waited wait_of fail_of act_of possible_of agrees claimed_of inner_of step_of config done calling bearing running state_with queued last queued_last step call spawn back ask wait_fifty times_out seen seen_from waits_on waiters_of waiter_sound waiters_sound is_edition parts_sound has_step marks_invalid top_of most_pending one_more is_no_awaited awaits_well is_no_life is_no_owed is_no_stack ends_waiting waiting_lets held_well asks_waiting slot_lets slots_let slots_after hold_of give_up_of values_good tested step_in end_in field_of text_of judge_from judge_of is_unplanned done_shown operation_shown judged_shown each passed_over behind sequences up_to_three choices_in sequences_of fills rank_of answered_all state_after turns_of whole_from whole_of mended_steps note_count turn_notes step_notes survey_of named_there listed_there lists_of has_room lists_well has_field lists_elements listed_below copied_sound copies_sound copy_sound has_copy is_no_copy copy_in lists_at first_listed handed_elements handed_runnables cleared copied_elements copied_into no_copies
 queued-goes-round = refl
 
 -- both first states are sound, and so is one in which the last number is open
 pub sound-there : map (sound_of config) (served_last ∷ queued_last ∷ state_with (calling 65535 7) 0 (record { queued = 2; at = set (set (replicate 16 no_client) 0 (bearing 0)) 1 (bearing 65535) }) no_slot ∷ []) ≡ true ∷ true ∷ true ∷ []
-unfolding all_of all_below any_below sum_below mask_below first_below each_below shifted place_filled filled is_void is_payload is_kind is_mask is_good same_value runnable_conf_in variable_conf_in area_conf_in required_conf_in provided_conf_in link_in operation_conf_in timer_conf_in data_event_in return_event_in no_requests no_runnable no_values no_element no_stack no_slot no_runnables runnable_in with_runnable no_variables variable_in with_variable no_areas area_in with_area no_elements element_in with_element no_operations operation_in with_operation no_timers timer_in with_timer no_slots slot_in with_slot push_request first_request rest_requests push_value first_value rest_values push_area top_area pop_area max_of count_of places_of entry_of in_range names_there is_server is_queued rises rises_at pairs_well entry_fault is_no_entry place_sound kind_sound config_sound is_no_client client_fits requests_sound values_sound runnable_sound variable_sound is_stored element_sound is_outcome calling_sound done_sound operation_sound timer_sound waits_well life_sound owed_sound area_fits stack_sound is_no_slot slot_sound of_runnable slots_of count_sound times_in holders area_sound is_client queued_as served_as clients_as client_sound queued_sound served_sound called_sound runnables_sound variables_sound elements_sound operations_sound timers_sound slots_sound counts_sound areas_sound clients_sound shaped sound_of rows row_of argues formed part_there queues_as part_own asks_synchronous finished_lets failed_lets life_lets owned_refusal instance_refusal scheduler_refusal refusal_by refusal_of read_variable_of write_variable_of enter_of on_top exit_of read_of updated_of linked accepts fed_element fed_elements feeds is_fed fed_runnables fed write_of invalidate_of is_full full_mask sent_of send_of receive_of requests_full caller_after called call_of poll_of collect_of result_of closing returns is_returned returned_runnables closed answers hand_back_of timeout_of end_of is_due may_spawn starting instance_of is_empty_at lowest_empty found_empty spawned spawn_of tick_of operation_lets timer_lets operations_let timers_let operation_after operations_after timers_after runnables_after all_let waited wait_of fail_of act_of possible_of agrees claimed_of inner_of step_of config done calling bearing running state_with served queued last served_last queued_last waits_on waiters_of waiter_sound waiters_sound is_edition parts_sound has_step marks_invalid top_of most_pending one_more is_no_awaited awaits_well is_no_life is_no_owed is_no_stack ends_waiting waiting_lets held_well asks_waiting slot_lets slots_let slots_after hold_of give_up_of values_good tested step_in end_in field_of text_of judge_from judge_of is_unplanned done_shown operation_shown judged_shown each passed_over behind sequences up_to_three choices_in sequences_of fills rank_of answered_all state_after turns_of whole_from whole_of mended_steps note_count turn_notes step_notes survey_of named_there listed_there lists_of has_room lists_well has_field lists_elements listed_below listed_in copied_sound copies_sound copy_sound has_copy is_no_copy copies_in copy_in lists_at first_listed handed_elements handed_runnables cleared copied_elements copied_into no_copied no_copies
+unfolding all_of all_below any_below sum_below mask_below first_below each_below shifted place_filled filled is_void is_payload is_kind is_mask is_good same_value part_in no_requests no_runnable no_values no_element no_stack no_slot no_places place_in with_place pushed oldest without_oldest push_area top_area pop_area max_of count_of places_of entry_of in_range names_there is_server is_queued rises rises_at pairs_well entry_fault is_no_entry place_sound kind_sound config_sound is_no_client client_fits requests_sound values_sound runnable_sound variable_sound is_stored element_sound is_outcome calling_sound done_sound operation_sound timer_sound waits_well life_sound owed_sound area_fits stack_sound is_no_slot slot_sound of_runnable slots_of count_sound times_in holders area_sound is_client queued_as served_as clients_as client_sound queued_sound served_sound called_sound runnables_sound variables_sound elements_sound operations_sound timers_sound slots_sound counts_sound areas_sound clients_sound shaped sound_of rows row_of argues formed part_there queues_as part_own asks_synchronous finished_lets failed_lets life_lets owned_refusal instance_refusal scheduler_refusal refusal_by refusal_of read_variable_of write_variable_of enter_of on_top exit_of read_of updated_of linked accepts fed_element fed_elements feeds is_fed fed_runnables fed write_of invalidate_of is_full full_mask sent_of send_of receive_of requests_full caller_after called call_of poll_of collect_of result_of closing returns is_returned returned_runnables closed answers hand_back_of timeout_of end_of is_due may_spawn starting instance_of is_empty_at lowest_empty found_empty spawned spawn_of tick_of operation_lets timer_lets operations_let timers_let operation_after operations_after timers_after runnables_after all_let waited wait_of fail_of act_of possible_of agrees claimed_of inner_of step_of config done calling bearing running state_with served queued last served_last queued_last waits_on waiters_of waiter_sound waiters_sound is_edition parts_sound has_step marks_invalid top_of most_pending one_more is_no_awaited awaits_well is_no_life is_no_owed is_no_stack ends_waiting waiting_lets held_well asks_waiting slot_lets slots_let slots_after hold_of give_up_of values_good tested step_in end_in field_of text_of judge_from judge_of is_unplanned done_shown operation_shown judged_shown each passed_over behind sequences up_to_three choices_in sequences_of fills rank_of answered_all state_after turns_of whole_from whole_of mended_steps note_count turn_notes step_notes survey_of named_there listed_there lists_of has_room lists_well has_field lists_elements listed_below copied_sound copies_sound copy_sound has_copy is_no_copy copy_in lists_at first_listed handed_elements handed_runnables cleared copied_elements copied_into no_copies
 sound-there = refl
 
 -- ---- what the board shows, judged from such a state on
@@ -206,7 +208,7 @@ plans =
 
 -- the plan of the call before; the call is open; its plan is final; a call with 28 is not judged; the old client's number 9 is never shown; the next call is open
 pub board-goes-round : map (λ (rs : List Step). judged_shown 0 (judge_of config served_last (text_of rs) 9)) plans ≡ Final 8 ∷ Wait ∷ Final 6 ∷ Unjudged ∷ Final 6 ∷ Wait ∷ []
-unfolding all_of all_below any_below sum_below mask_below first_below each_below shifted place_filled filled is_void is_payload is_kind is_mask is_good same_value runnable_conf_in variable_conf_in area_conf_in required_conf_in provided_conf_in link_in operation_conf_in timer_conf_in data_event_in return_event_in no_requests no_runnable no_values no_element no_stack no_slot no_runnables runnable_in with_runnable no_variables variable_in with_variable no_areas area_in with_area no_elements element_in with_element no_operations operation_in with_operation no_timers timer_in with_timer no_slots slot_in with_slot push_request first_request rest_requests push_value first_value rest_values push_area top_area pop_area max_of count_of places_of entry_of in_range names_there is_server is_queued rises rises_at pairs_well entry_fault is_no_entry place_sound kind_sound config_sound is_no_client client_fits requests_sound values_sound runnable_sound variable_sound is_stored element_sound is_outcome calling_sound done_sound operation_sound timer_sound waits_well life_sound owed_sound area_fits stack_sound is_no_slot slot_sound of_runnable slots_of count_sound times_in holders area_sound is_client queued_as served_as clients_as client_sound queued_sound served_sound called_sound runnables_sound variables_sound elements_sound operations_sound timers_sound slots_sound counts_sound areas_sound clients_sound shaped sound_of rows row_of argues formed part_there queues_as part_own asks_synchronous finished_lets failed_lets life_lets owned_refusal instance_refusal scheduler_refusal refusal_by refusal_of read_variable_of write_variable_of enter_of on_top exit_of read_of updated_of linked accepts fed_element fed_elements feeds is_fed fed_runnables fed write_of invalidate_of is_full full_mask sent_of send_of receive_of requests_full caller_after called call_of poll_of collect_of result_of closing returns is_returned returned_runnables closed answers hand_back_of timeout_of end_of is_due may_spawn starting instance_of is_empty_at lowest_empty found_empty spawned spawn_of tick_of operation_lets timer_lets operations_let timers_let operation_after operations_after timers_after runnables_after all_let waited wait_of fail_of act_of possible_of agrees claimed_of inner_of step_of values_good tested step_in end_in field_of text_of judge_from judge_of is_unplanned done_shown operation_shown judged_shown config done calling bearing running state_with served last served_last step call spawn back ask plans waits_on waiters_of waiter_sound waiters_sound is_edition parts_sound has_step marks_invalid top_of most_pending one_more is_no_awaited awaits_well is_no_life is_no_owed is_no_stack ends_waiting waiting_lets held_well asks_waiting slot_lets slots_let slots_after hold_of give_up_of each passed_over behind sequences up_to_three choices_in sequences_of fills rank_of answered_all state_after turns_of whole_from whole_of mended_steps note_count turn_notes step_notes survey_of named_there listed_there lists_of has_room lists_well has_field lists_elements listed_below listed_in copied_sound copies_sound copy_sound has_copy is_no_copy copies_in copy_in lists_at first_listed handed_elements handed_runnables cleared copied_elements copied_into no_copied no_copies
+unfolding all_of all_below any_below sum_below mask_below first_below each_below shifted place_filled filled is_void is_payload is_kind is_mask is_good same_value part_in no_requests no_runnable no_values no_element no_stack no_slot no_places place_in with_place pushed oldest without_oldest push_area top_area pop_area max_of count_of places_of entry_of in_range names_there is_server is_queued rises rises_at pairs_well entry_fault is_no_entry place_sound kind_sound config_sound is_no_client client_fits requests_sound values_sound runnable_sound variable_sound is_stored element_sound is_outcome calling_sound done_sound operation_sound timer_sound waits_well life_sound owed_sound area_fits stack_sound is_no_slot slot_sound of_runnable slots_of count_sound times_in holders area_sound is_client queued_as served_as clients_as client_sound queued_sound served_sound called_sound runnables_sound variables_sound elements_sound operations_sound timers_sound slots_sound counts_sound areas_sound clients_sound shaped sound_of rows row_of argues formed part_there queues_as part_own asks_synchronous finished_lets failed_lets life_lets owned_refusal instance_refusal scheduler_refusal refusal_by refusal_of read_variable_of write_variable_of enter_of on_top exit_of read_of updated_of linked accepts fed_element fed_elements feeds is_fed fed_runnables fed write_of invalidate_of is_full full_mask sent_of send_of receive_of requests_full caller_after called call_of poll_of collect_of result_of closing returns is_returned returned_runnables closed answers hand_back_of timeout_of end_of is_due may_spawn starting instance_of is_empty_at lowest_empty found_empty spawned spawn_of tick_of operation_lets timer_lets operations_let timers_let operation_after operations_after timers_after runnables_after all_let waited wait_of fail_of act_of possible_of agrees claimed_of inner_of step_of values_good tested step_in end_in field_of text_of judge_from judge_of is_unplanned done_shown operation_shown judged_shown config done calling bearing running state_with served last served_last step call spawn back ask plans waits_on waiters_of waiter_sound waiters_sound is_edition parts_sound has_step marks_invalid top_of most_pending one_more is_no_awaited awaits_well is_no_life is_no_owed is_no_stack ends_waiting waiting_lets held_well asks_waiting slot_lets slots_let slots_after hold_of give_up_of each passed_over behind sequences up_to_three choices_in sequences_of fills rank_of answered_all state_after turns_of whole_from whole_of mended_steps note_count turn_notes step_notes survey_of named_there listed_there lists_of has_room lists_well has_field lists_elements listed_below copied_sound copies_sound copy_sound has_copy is_no_copy copy_in lists_at first_listed handed_elements handed_runnables cleared copied_elements copied_into no_copies
 board-goes-round = refl
 
 -- ---- what the mender does, from such a state on
@@ -222,7 +224,7 @@ pub found : List Turn
 found = turn 0 [] (call 5) ∷ turn 2 (spawn 2 ∷ []) (back 2 6 1) ∷ turn 0 [] (back 1 9 0) ∷ turn 0 [] (call 4) ∷ []
 
 lost-turns : turns_of (inner_of config) config served_last lost ≡ found
-unfolding all_of all_below any_below sum_below mask_below first_below each_below shifted place_filled filled is_void is_payload is_kind is_mask is_good same_value runnable_conf_in variable_conf_in area_conf_in required_conf_in provided_conf_in link_in operation_conf_in timer_conf_in data_event_in return_event_in no_requests no_runnable no_values no_element no_stack no_slot no_runnables runnable_in with_runnable no_variables variable_in with_variable no_areas area_in with_area no_elements element_in with_element no_operations operation_in with_operation no_timers timer_in with_timer no_slots slot_in with_slot push_request first_request rest_requests push_value first_value rest_values push_area top_area pop_area max_of count_of places_of entry_of in_range names_there is_server is_queued rises rises_at pairs_well entry_fault is_no_entry place_sound kind_sound config_sound is_no_client client_fits requests_sound values_sound runnable_sound variable_sound is_stored element_sound is_outcome calling_sound done_sound operation_sound timer_sound waits_well life_sound owed_sound area_fits stack_sound is_no_slot slot_sound of_runnable slots_of count_sound times_in holders area_sound is_client queued_as served_as clients_as client_sound queued_sound served_sound called_sound runnables_sound variables_sound elements_sound operations_sound timers_sound slots_sound counts_sound areas_sound clients_sound shaped sound_of rows row_of argues formed part_there queues_as part_own asks_synchronous finished_lets failed_lets life_lets owned_refusal instance_refusal scheduler_refusal refusal_by refusal_of read_variable_of write_variable_of enter_of on_top exit_of read_of updated_of linked accepts fed_element fed_elements feeds is_fed fed_runnables fed write_of invalidate_of is_full full_mask sent_of send_of receive_of requests_full caller_after called call_of poll_of collect_of result_of closing returns is_returned returned_runnables closed answers hand_back_of timeout_of end_of is_due may_spawn starting instance_of is_empty_at lowest_empty found_empty spawned spawn_of tick_of operation_lets timer_lets operations_let timers_let operation_after operations_after timers_after runnables_after all_let waited wait_of fail_of act_of possible_of agrees claimed_of inner_of step_of each passed_over behind sequences up_to_three choices_in sequences_of fills rank_of answered_all state_after turns_of config done calling bearing running state_with served last served_last step call spawn back lost turn found waits_on waiters_of waiter_sound waiters_sound is_edition parts_sound has_step marks_invalid top_of most_pending one_more is_no_awaited awaits_well is_no_life is_no_owed is_no_stack ends_waiting waiting_lets held_well asks_waiting slot_lets slots_let slots_after hold_of give_up_of values_good tested step_in end_in field_of text_of judge_from judge_of is_unplanned done_shown operation_shown judged_shown whole_from whole_of mended_steps note_count turn_notes step_notes survey_of named_there listed_there lists_of has_room lists_well has_field lists_elements listed_below listed_in copied_sound copies_sound copy_sound has_copy is_no_copy copies_in copy_in lists_at first_listed handed_elements handed_runnables cleared copied_elements copied_into no_copied no_copies
+unfolding all_of all_below any_below sum_below mask_below first_below each_below shifted place_filled filled is_void is_payload is_kind is_mask is_good same_value part_in no_requests no_runnable no_values no_element no_stack no_slot no_places place_in with_place pushed oldest without_oldest push_area top_area pop_area max_of count_of places_of entry_of in_range names_there is_server is_queued rises rises_at pairs_well entry_fault is_no_entry place_sound kind_sound config_sound is_no_client client_fits requests_sound values_sound runnable_sound variable_sound is_stored element_sound is_outcome calling_sound done_sound operation_sound timer_sound waits_well life_sound owed_sound area_fits stack_sound is_no_slot slot_sound of_runnable slots_of count_sound times_in holders area_sound is_client queued_as served_as clients_as client_sound queued_sound served_sound called_sound runnables_sound variables_sound elements_sound operations_sound timers_sound slots_sound counts_sound areas_sound clients_sound shaped sound_of rows row_of argues formed part_there queues_as part_own asks_synchronous finished_lets failed_lets life_lets owned_refusal instance_refusal scheduler_refusal refusal_by refusal_of read_variable_of write_variable_of enter_of on_top exit_of read_of updated_of linked accepts fed_element fed_elements feeds is_fed fed_runnables fed write_of invalidate_of is_full full_mask sent_of send_of receive_of requests_full caller_after called call_of poll_of collect_of result_of closing returns is_returned returned_runnables closed answers hand_back_of timeout_of end_of is_due may_spawn starting instance_of is_empty_at lowest_empty found_empty spawned spawn_of tick_of operation_lets timer_lets operations_let timers_let operation_after operations_after timers_after runnables_after all_let waited wait_of fail_of act_of possible_of agrees claimed_of inner_of step_of each passed_over behind sequences up_to_three choices_in sequences_of fills rank_of answered_all state_after turns_of config done calling bearing running state_with served last served_last step call spawn back lost turn found waits_on waiters_of waiter_sound waiters_sound is_edition parts_sound has_step marks_invalid top_of most_pending one_more is_no_awaited awaits_well is_no_life is_no_owed is_no_stack ends_waiting waiting_lets held_well asks_waiting slot_lets slots_let slots_after hold_of give_up_of values_good tested step_in end_in field_of text_of judge_from judge_of is_unplanned done_shown operation_shown judged_shown whole_from whole_of mended_steps note_count turn_notes step_notes survey_of named_there listed_there lists_of has_room lists_well has_field lists_elements listed_below copied_sound copies_sound copy_sound has_copy is_no_copy copy_in lists_at first_listed handed_elements handed_runnables cleared copied_elements copied_into no_copies
 lost-turns = refl
 
 -- a call under a number that is still borne can't be mended: no step of the scheduler takes a client away
@@ -230,11 +232,11 @@ pub stuck : List Step
 stuck = call 5 ∷ spawn 2 ∷ back 2 6 1 ∷ call 4 ∷ []
 
 stuck-turns : turns_of (inner_of config) config served_last stuck ≡ turn 0 [] (call 5) ∷ turn 0 [] (spawn 2) ∷ turn 0 [] (back 2 6 1) ∷ []
-unfolding all_of all_below any_below sum_below mask_below first_below each_below shifted place_filled filled is_void is_payload is_kind is_mask is_good same_value runnable_conf_in variable_conf_in area_conf_in required_conf_in provided_conf_in link_in operation_conf_in timer_conf_in data_event_in return_event_in no_requests no_runnable no_values no_element no_stack no_slot no_runnables runnable_in with_runnable no_variables variable_in with_variable no_areas area_in with_area no_elements element_in with_element no_operations operation_in with_operation no_timers timer_in with_timer no_slots slot_in with_slot push_request first_request rest_requests push_value first_value rest_values push_area top_area pop_area max_of count_of places_of entry_of in_range names_there is_server is_queued rises rises_at pairs_well entry_fault is_no_entry place_sound kind_sound config_sound is_no_client client_fits requests_sound values_sound runnable_sound variable_sound is_stored element_sound is_outcome calling_sound done_sound operation_sound timer_sound waits_well life_sound owed_sound area_fits stack_sound is_no_slot slot_sound of_runnable slots_of count_sound times_in holders area_sound is_client queued_as served_as clients_as client_sound queued_sound served_sound called_sound runnables_sound variables_sound elements_sound operations_sound timers_sound slots_sound counts_sound areas_sound clients_sound shaped sound_of rows row_of argues formed part_there queues_as part_own asks_synchronous finished_lets failed_lets life_lets owned_refusal instance_refusal scheduler_refusal refusal_by refusal_of read_variable_of write_variable_of enter_of on_top exit_of read_of updated_of linked accepts fed_element fed_elements feeds is_fed fed_runnables fed write_of invalidate_of is_full full_mask sent_of send_of receive_of requests_full caller_after called call_of poll_of collect_of result_of closing returns is_returned returned_runnables closed answers hand_back_of timeout_of end_of is_due may_spawn starting instance_of is_empty_at lowest_empty found_empty spawned spawn_of tick_of operation_lets timer_lets operations_let timers_let operation_after operations_after timers_after runnables_after all_let waited wait_of fail_of act_of possible_of agrees claimed_of inner_of step_of each passed_over behind sequences up_to_three choices_in sequences_of fills rank_of answered_all state_after turns_of config done calling bearing running state_with served last served_last step call spawn back stuck turn waits_on waiters_of waiter_sound waiters_sound is_edition parts_sound has_step marks_invalid top_of most_pending one_more is_no_awaited awaits_well is_no_life is_no_owed is_no_stack ends_waiting waiting_lets held_well asks_waiting slot_lets slots_let slots_after hold_of give_up_of values_good tested step_in end_in field_of text_of judge_from judge_of is_unplanned done_shown operation_shown judged_shown whole_from whole_of mended_steps note_count turn_notes step_notes survey_of named_there listed_there lists_of has_room lists_well has_field lists_elements listed_below listed_in copied_sound copies_sound copy_sound has_copy is_no_copy copies_in copy_in lists_at first_listed handed_elements handed_runnables cleared copied_elements copied_into no_copied no_copies
+unfolding all_of all_below any_below sum_below mask_below first_below each_below shifted place_filled filled is_void is_payload is_kind is_mask is_good same_value part_in no_requests no_runnable no_values no_element no_stack no_slot no_places place_in with_place pushed oldest without_oldest push_area top_area pop_area max_of count_of places_of entry_of in_range names_there is_server is_queued rises rises_at pairs_well entry_fault is_no_entry place_sound kind_sound config_sound is_no_client client_fits requests_sound values_sound runnable_sound variable_sound is_stored element_sound is_outcome calling_sound done_sound operation_sound timer_sound waits_well life_sound owed_sound area_fits stack_sound is_no_slot slot_sound of_runnable slots_of count_sound times_in holders area_sound is_client queued_as served_as clients_as client_sound queued_sound served_sound called_sound runnables_sound variables_sound elements_sound operations_sound timers_sound slots_sound counts_sound areas_sound clients_sound shaped sound_of rows row_of argues formed part_there queues_as part_own asks_synchronous finished_lets failed_lets life_lets owned_refusal instance_refusal scheduler_refusal refusal_by refusal_of read_variable_of write_variable_of enter_of on_top exit_of read_of updated_of linked accepts fed_element fed_elements feeds is_fed fed_runnables fed write_of invalidate_of is_full full_mask sent_of send_of receive_of requests_full caller_after called call_of poll_of collect_of result_of closing returns is_returned returned_runnables closed answers hand_back_of timeout_of end_of is_due may_spawn starting instance_of is_empty_at lowest_empty found_empty spawned spawn_of tick_of operation_lets timer_lets operations_let timers_let operation_after operations_after timers_after runnables_after all_let waited wait_of fail_of act_of possible_of agrees claimed_of inner_of step_of each passed_over behind sequences up_to_three choices_in sequences_of fills rank_of answered_all state_after turns_of config done calling bearing running state_with served last served_last step call spawn back stuck turn waits_on waiters_of waiter_sound waiters_sound is_edition parts_sound has_step marks_invalid top_of most_pending one_more is_no_awaited awaits_well is_no_life is_no_owed is_no_stack ends_waiting waiting_lets held_well asks_waiting slot_lets slots_let slots_after hold_of give_up_of values_good tested step_in end_in field_of text_of judge_from judge_of is_unplanned done_shown operation_shown judged_shown whole_from whole_of mended_steps note_count turn_notes step_notes survey_of named_there listed_there lists_of has_room lists_well has_field lists_elements listed_below copied_sound copies_sound copy_sound has_copy is_no_copy copy_in lists_at first_listed handed_elements handed_runnables cleared copied_elements copied_into no_copies
 stuck-turns = refl
 
 first-sound : sound_of config served_last ≡ true
-unfolding all_of all_below any_below sum_below mask_below first_below each_below shifted place_filled filled is_void is_payload is_kind is_mask is_good same_value runnable_conf_in variable_conf_in area_conf_in required_conf_in provided_conf_in link_in operation_conf_in timer_conf_in data_event_in return_event_in no_requests no_runnable no_values no_element no_stack no_slot no_runnables runnable_in with_runnable no_variables variable_in with_variable no_areas area_in with_area no_elements element_in with_element no_operations operation_in with_operation no_timers timer_in with_timer no_slots slot_in with_slot push_request first_request rest_requests push_value first_value rest_values push_area top_area pop_area max_of count_of places_of entry_of in_range names_there is_server is_queued rises rises_at pairs_well entry_fault is_no_entry place_sound kind_sound config_sound is_no_client client_fits requests_sound values_sound runnable_sound variable_sound is_stored element_sound is_outcome calling_sound done_sound operation_sound timer_sound waits_well life_sound owed_sound area_fits stack_sound is_no_slot slot_sound of_runnable slots_of count_sound times_in holders area_sound is_client queued_as served_as clients_as client_sound queued_sound served_sound called_sound runnables_sound variables_sound elements_sound operations_sound timers_sound slots_sound counts_sound areas_sound clients_sound shaped sound_of rows row_of argues formed part_there queues_as part_own asks_synchronous finished_lets failed_lets life_lets owned_refusal instance_refusal scheduler_refusal refusal_by refusal_of read_variable_of write_variable_of enter_of on_top exit_of read_of updated_of linked accepts fed_element fed_elements feeds is_fed fed_runnables fed write_of invalidate_of is_full full_mask sent_of send_of receive_of requests_full caller_after called call_of poll_of collect_of result_of closing returns is_returned returned_runnables closed answers hand_back_of timeout_of end_of is_due may_spawn starting instance_of is_empty_at lowest_empty found_empty spawned spawn_of tick_of operation_lets timer_lets operations_let timers_let operation_after operations_after timers_after runnables_after all_let waited wait_of fail_of act_of possible_of agrees claimed_of inner_of step_of config done bearing running state_with served last served_last waits_on waiters_of waiter_sound waiters_sound is_edition parts_sound has_step marks_invalid top_of most_pending one_more is_no_awaited awaits_well is_no_life is_no_owed is_no_stack ends_waiting waiting_lets held_well asks_waiting slot_lets slots_let slots_after hold_of give_up_of values_good tested step_in end_in field_of text_of judge_from judge_of is_unplanned done_shown operation_shown judged_shown each passed_over behind sequences up_to_three choices_in sequences_of fills rank_of answered_all state_after turns_of whole_from whole_of mended_steps note_count turn_notes step_notes survey_of named_there listed_there lists_of has_room lists_well has_field lists_elements listed_below listed_in copied_sound copies_sound copy_sound has_copy is_no_copy copies_in copy_in lists_at first_listed handed_elements handed_runnables cleared copied_elements copied_into no_copied no_copies
+unfolding all_of all_below any_below sum_below mask_below first_below each_below shifted place_filled filled is_void is_payload is_kind is_mask is_good same_value part_in no_requests no_runnable no_values no_element no_stack no_slot no_places place_in with_place pushed oldest without_oldest push_area top_area pop_area max_of count_of places_of entry_of in_range names_there is_server is_queued rises rises_at pairs_well entry_fault is_no_entry place_sound kind_sound config_sound is_no_client client_fits requests_sound values_sound runnable_sound variable_sound is_stored element_sound is_outcome calling_sound done_sound operation_sound timer_sound waits_well life_sound owed_sound area_fits stack_sound is_no_slot slot_sound of_runnable slots_of count_sound times_in holders area_sound is_client queued_as served_as clients_as client_sound queued_sound served_sound called_sound runnables_sound variables_sound elements_sound operations_sound timers_sound slots_sound counts_sound areas_sound clients_sound shaped sound_of rows row_of argues formed part_there queues_as part_own asks_synchronous finished_lets failed_lets life_lets owned_refusal instance_refusal scheduler_refusal refusal_by refusal_of read_variable_of write_variable_of enter_of on_top exit_of read_of updated_of linked accepts fed_element fed_elements feeds is_fed fed_runnables fed write_of invalidate_of is_full full_mask sent_of send_of receive_of requests_full caller_after called call_of poll_of collect_of result_of closing returns is_returned returned_runnables closed answers hand_back_of timeout_of end_of is_due may_spawn starting instance_of is_empty_at lowest_empty found_empty spawned spawn_of tick_of operation_lets timer_lets operations_let timers_let operation_after operations_after timers_after runnables_after all_let waited wait_of fail_of act_of possible_of agrees claimed_of inner_of step_of config done bearing running state_with served last served_last waits_on waiters_of waiter_sound waiters_sound is_edition parts_sound has_step marks_invalid top_of most_pending one_more is_no_awaited awaits_well is_no_life is_no_owed is_no_stack ends_waiting waiting_lets held_well asks_waiting slot_lets slots_let slots_after hold_of give_up_of values_good tested step_in end_in field_of text_of judge_from judge_of is_unplanned done_shown operation_shown judged_shown each passed_over behind sequences up_to_three choices_in sequences_of fills rank_of answered_all state_after turns_of whole_from whole_of mended_steps note_count turn_notes step_notes survey_of named_there listed_there lists_of has_room lists_well has_field lists_elements listed_below copied_sound copies_sound copy_sound has_copy is_no_copy copy_in lists_at first_listed handed_elements handed_runnables cleared copied_elements copied_into no_copies
 first-sound = refl
 
 -- the mended steps, and where there is no mending
@@ -242,11 +244,11 @@ pub mender-goes-round : (turns_of (step_of config) config served_last lost ≡ f
 mender-goes-round = (turns-once config served_last first-sound lost ∙ lost-turns, turns-once config served_last first-sound stuck ∙ stuck-turns)
 
 lost-surveyed : survey_of (inner_of config) config served_last (text_of lost) ≡ Whole 5 2
-unfolding all_of all_below any_below sum_below mask_below first_below each_below shifted place_filled filled is_void is_payload is_kind is_mask is_good same_value runnable_conf_in variable_conf_in area_conf_in required_conf_in provided_conf_in link_in operation_conf_in timer_conf_in data_event_in return_event_in no_requests no_runnable no_values no_element no_stack no_slot no_runnables runnable_in with_runnable no_variables variable_in with_variable no_areas area_in with_area no_elements element_in with_element no_operations operation_in with_operation no_timers timer_in with_timer no_slots slot_in with_slot push_request first_request rest_requests push_value first_value rest_values push_area top_area pop_area max_of count_of places_of entry_of in_range names_there is_server is_queued rises rises_at pairs_well entry_fault is_no_entry place_sound kind_sound config_sound is_no_client client_fits requests_sound values_sound runnable_sound variable_sound is_stored element_sound is_outcome calling_sound done_sound operation_sound timer_sound waits_well life_sound owed_sound area_fits stack_sound is_no_slot slot_sound of_runnable slots_of count_sound times_in holders area_sound is_client queued_as served_as clients_as client_sound queued_sound served_sound called_sound runnables_sound variables_sound elements_sound operations_sound timers_sound slots_sound counts_sound areas_sound clients_sound shaped sound_of rows row_of argues formed part_there queues_as part_own asks_synchronous finished_lets failed_lets life_lets owned_refusal instance_refusal scheduler_refusal refusal_by refusal_of read_variable_of write_variable_of enter_of on_top exit_of read_of updated_of linked accepts fed_element fed_elements feeds is_fed fed_runnables fed write_of invalidate_of is_full full_mask sent_of send_of receive_of requests_full caller_after called call_of poll_of collect_of result_of closing returns is_returned returned_runnables closed answers hand_back_of timeout_of end_of is_due may_spawn starting instance_of is_empty_at lowest_empty found_empty spawned spawn_of tick_of operation_lets timer_lets operations_let timers_let operation_after operations_after timers_after runnables_after all_let waited wait_of fail_of act_of possible_of agrees claimed_of inner_of step_of each passed_over behind sequences up_to_three choices_in sequences_of fills rank_of answered_all state_after turns_of values_good tested step_in end_in field_of text_of whole_from whole_of mended_steps note_count turn_notes step_notes survey_of config done calling bearing running state_with served last served_last step call spawn back lost waits_on waiters_of waiter_sound waiters_sound is_edition parts_sound has_step marks_invalid top_of most_pending one_more is_no_awaited awaits_well is_no_life is_no_owed is_no_stack ends_waiting waiting_lets held_well asks_waiting slot_lets slots_let slots_after hold_of give_up_of judge_from judge_of is_unplanned done_shown operation_shown judged_shown named_there listed_there lists_of has_room lists_well has_field lists_elements listed_below listed_in copied_sound copies_sound copy_sound has_copy is_no_copy copies_in copy_in lists_at first_listed handed_elements handed_runnables cleared copied_elements copied_into no_copied no_copies
+unfolding all_of all_below any_below sum_below mask_below first_below each_below shifted place_filled filled is_void is_payload is_kind is_mask is_good same_value part_in no_requests no_runnable no_values no_element no_stack no_slot no_places place_in with_place pushed oldest without_oldest push_area top_area pop_area max_of count_of places_of entry_of in_range names_there is_server is_queued rises rises_at pairs_well entry_fault is_no_entry place_sound kind_sound config_sound is_no_client client_fits requests_sound values_sound runnable_sound variable_sound is_stored element_sound is_outcome calling_sound done_sound operation_sound timer_sound waits_well life_sound owed_sound area_fits stack_sound is_no_slot slot_sound of_runnable slots_of count_sound times_in holders area_sound is_client queued_as served_as clients_as client_sound queued_sound served_sound called_sound runnables_sound variables_sound elements_sound operations_sound timers_sound slots_sound counts_sound areas_sound clients_sound shaped sound_of rows row_of argues formed part_there queues_as part_own asks_synchronous finished_lets failed_lets life_lets owned_refusal instance_refusal scheduler_refusal refusal_by refusal_of read_variable_of write_variable_of enter_of on_top exit_of read_of updated_of linked accepts fed_element fed_elements feeds is_fed fed_runnables fed write_of invalidate_of is_full full_mask sent_of send_of receive_of requests_full caller_after called call_of poll_of collect_of result_of closing returns is_returned returned_runnables closed answers hand_back_of timeout_of end_of is_due may_spawn starting instance_of is_empty_at lowest_empty found_empty spawned spawn_of tick_of operation_lets timer_lets operations_let timers_let operation_after operations_after timers_after runnables_after all_let waited wait_of fail_of act_of possible_of agrees claimed_of inner_of step_of each passed_over behind sequences up_to_three choices_in sequences_of fills rank_of answered_all state_after turns_of values_good tested step_in end_in field_of text_of whole_from whole_of mended_steps note_count turn_notes step_notes survey_of config done calling bearing running state_with served last served_last step call spawn back lost waits_on waiters_of waiter_sound waiters_sound is_edition parts_sound has_step marks_invalid top_of most_pending one_more is_no_awaited awaits_well is_no_life is_no_owed is_no_stack ends_waiting waiting_lets held_well asks_waiting slot_lets slots_let slots_after hold_of give_up_of judge_from judge_of is_unplanned done_shown operation_shown judged_shown named_there listed_there lists_of has_room lists_well has_field lists_elements listed_below copied_sound copies_sound copy_sound has_copy is_no_copy copy_in lists_at first_listed handed_elements handed_runnables cleared copied_elements copied_into no_copies
 lost-surveyed = refl
 
 stuck-surveyed : survey_of (inner_of config) config served_last (text_of stuck) ≡ NotMended 4 31
-unfolding all_of all_below any_below sum_below mask_below first_below each_below shifted place_filled filled is_void is_payload is_kind is_mask is_good same_value runnable_conf_in variable_conf_in area_conf_in required_conf_in provided_conf_in link_in operation_conf_in timer_conf_in data_event_in return_event_in no_requests no_runnable no_values no_element no_stack no_slot no_runnables runnable_in with_runnable no_variables variable_in with_variable no_areas area_in with_area no_elements element_in with_element no_operations operation_in with_operation no_timers timer_in with_timer no_slots slot_in with_slot push_request first_request rest_requests push_value first_value rest_values push_area top_area pop_area max_of count_of places_of entry_of in_range names_there is_server is_queued rises rises_at pairs_well entry_fault is_no_entry place_sound kind_sound config_sound is_no_client client_fits requests_sound values_sound runnable_sound variable_sound is_stored element_sound is_outcome calling_sound done_sound operation_sound timer_sound waits_well life_sound owed_sound area_fits stack_sound is_no_slot slot_sound of_runnable slots_of count_sound times_in holders area_sound is_client queued_as served_as clients_as client_sound queued_sound served_sound called_sound runnables_sound variables_sound elements_sound operations_sound timers_sound slots_sound counts_sound areas_sound clients_sound shaped sound_of rows row_of argues formed part_there queues_as part_own asks_synchronous finished_lets failed_lets life_lets owned_refusal instance_refusal scheduler_refusal refusal_by refusal_of read_variable_of write_variable_of enter_of on_top exit_of read_of updated_of linked accepts fed_element fed_elements feeds is_fed fed_runnables fed write_of invalidate_of is_full full_mask sent_of send_of receive_of requests_full caller_after called call_of poll_of collect_of result_of closing returns is_returned returned_runnables closed answers hand_back_of timeout_of end_of is_due may_spawn starting instance_of is_empty_at lowest_empty found_empty spawned spawn_of tick_of operation_lets timer_lets operations_let timers_let operation_after operations_after timers_after runnables_after all_let waited wait_of fail_of act_of possible_of agrees claimed_of inner_of step_of each passed_over behind sequences up_to_three choices_in sequences_of fills rank_of answered_all state_after turns_of values_good tested step_in end_in field_of text_of whole_from whole_of mended_steps note_count turn_notes step_notes survey_of config done calling bearing running state_with served last served_last step call spawn back stuck waits_on waiters_of waiter_sound waiters_sound is_edition parts_sound has_step marks_invalid top_of most_pending one_more is_no_awaited awaits_well is_no_life is_no_owed is_no_stack ends_waiting waiting_lets held_well asks_waiting slot_lets slots_let slots_after hold_of give_up_of judge_from judge_of is_unplanned done_shown operation_shown judged_shown named_there listed_there lists_of has_room lists_well has_field lists_elements listed_below listed_in copied_sound copies_sound copy_sound has_copy is_no_copy copies_in copy_in lists_at first_listed handed_elements handed_runnables cleared copied_elements copied_into no_copied no_copies
+unfolding all_of all_below any_below sum_below mask_below first_below each_below shifted place_filled filled is_void is_payload is_kind is_mask is_good same_value part_in no_requests no_runnable no_values no_element no_stack no_slot no_places place_in with_place pushed oldest without_oldest push_area top_area pop_area max_of count_of places_of entry_of in_range names_there is_server is_queued rises rises_at pairs_well entry_fault is_no_entry place_sound kind_sound config_sound is_no_client client_fits requests_sound values_sound runnable_sound variable_sound is_stored element_sound is_outcome calling_sound done_sound operation_sound timer_sound waits_well life_sound owed_sound area_fits stack_sound is_no_slot slot_sound of_runnable slots_of count_sound times_in holders area_sound is_client queued_as served_as clients_as client_sound queued_sound served_sound called_sound runnables_sound variables_sound elements_sound operations_sound timers_sound slots_sound counts_sound areas_sound clients_sound shaped sound_of rows row_of argues formed part_there queues_as part_own asks_synchronous finished_lets failed_lets life_lets owned_refusal instance_refusal scheduler_refusal refusal_by refusal_of read_variable_of write_variable_of enter_of on_top exit_of read_of updated_of linked accepts fed_element fed_elements feeds is_fed fed_runnables fed write_of invalidate_of is_full full_mask sent_of send_of receive_of requests_full caller_after called call_of poll_of collect_of result_of closing returns is_returned returned_runnables closed answers hand_back_of timeout_of end_of is_due may_spawn starting instance_of is_empty_at lowest_empty found_empty spawned spawn_of tick_of operation_lets timer_lets operations_let timers_let operation_after operations_after timers_after runnables_after all_let waited wait_of fail_of act_of possible_of agrees claimed_of inner_of step_of each passed_over behind sequences up_to_three choices_in sequences_of fills rank_of answered_all state_after turns_of values_good tested step_in end_in field_of text_of whole_from whole_of mended_steps note_count turn_notes step_notes survey_of config done calling bearing running state_with served last served_last step call spawn back stuck waits_on waiters_of waiter_sound waiters_sound is_edition parts_sound has_step marks_invalid top_of most_pending one_more is_no_awaited awaits_well is_no_life is_no_owed is_no_stack ends_waiting waiting_lets held_well asks_waiting slot_lets slots_let slots_after hold_of give_up_of judge_from judge_of is_unplanned done_shown operation_shown judged_shown named_there listed_there lists_of has_room lists_well has_field lists_elements listed_below copied_sound copies_sound copy_sound has_copy is_no_copy copy_in lists_at first_listed handed_elements handed_runnables cleared copied_elements copied_into no_copies
 stuck-surveyed = refl
 
 -- what the mender answers to both as texts: five steps and two notes; and 31 at the fourth step

@@ -29,6 +29,7 @@ use Rattle.history.specs.History.{Request, no_request, History, nothing, observe
 use Rattle.history.proofs.Tied.{Tied}
 use Rattle.history.proofs.Beside.{all_alike, set-each}
 use Rattle.history.proofs.Traced.{traced-one}
+use Rattle.state.specs.Places.{no_places, place_in, with_place}
 use Rattle.history.proofs.Deeds.{Deed, pass, call, answer, late, end, server, plain, timeout, fail, other-code, pass-adds, call-adds, answer-adds, late-adds, end-adds, server-adds, plain-adds, timeout-adds, fail-adds, server-capacity}
 
 -- ---- who has handed back, step by step
@@ -65,7 +66,7 @@ pub record Backs (ss : Slots) (rs : List Step) : Type 0 where
   pub finished : (i : ℕ) → (slot_in ss i).life.finished ≡ back_in i rs
 
 pub backs-start : (cfg : Config) → Backs (start_of cfg).slots []
-unfolding start_of no_slots slot_in no_slot back_in traced_from
+unfolding start_of no_places place_in no_slot back_in traced_from
 backs-start cfg = record { finished = λ i. all_alike (λ (y : Slot). y.life.finished ≡ false) 32 no_slot i refl }
 
 module _ (ss : Slots) (rs : List Step) (s : Step) (l : Backs ss rs) where
@@ -75,7 +76,7 @@ module _ (ss : Slots) (rs : List Step) (s : Step) (l : Backs ss rs) where
   -- one slot is put, of which the step tells
   backs-put : (j : ℕ) (x : Slot) → j < length ss.at → x.life.finished ≡ back_after j (back_in j rs) s
       → ((i : ℕ) → (i ≡ j → ⊥) → back_after i (back_in i rs) s ≡ back_in i rs) → Backs (with_slot ss j x) (rs ++ (s ∷ []))
-  unfolding slot_in with_slot
+  unfolding place_in with_place
   backs-put j x b e f = record {
     finished =
         set-each (λ i y. y.life.finished ≡ back_in i (rs ++ (s ∷ []))) ss.at j x no_slot b (rw (back_one j rs s) e)
@@ -136,7 +137,7 @@ pub record Runs (ss : Slots) : Type 0 where
   pub running : (i : ℕ) → (slot_in ss i).life.failed ≡ true → (slot_in ss i).life.awaited.part ≡ no_part
 
 pub runs-start : (cfg : Config) → Runs (start_of cfg).slots
-unfolding start_of no_slots slot_in no_slot
+unfolding start_of no_places place_in no_slot
 runs-start cfg = record { running = λ i f. all_alike (λ (y : Slot). y.life.awaited.part ≡ no_part) 32 no_slot i refl }
 
 -- one slot is put
@@ -184,7 +185,7 @@ paid-hand ss i x ts p = record { each = slot_has (λ k y. 0 < (get_or ts k no_re
 
 -- one slot is put, with what it took
 paid-put : (ss : Slots) (i : ℕ) (x : Slot) (ts : List Request) (q : Request) → i < length ss.at → i < length ts → (0 < q.at → x.owed.serving ≡ true) → Paid ss ts → Paid (with_slot ss i x) (set ts i q)
-unfolding slot_in with_slot
+unfolding place_in with_place
 paid-put ss i x ts q a b f p = record { each = λ k. go k (ℕ_discrete k i) }
   where
     go : (k : ℕ) → Dec (k ≡ i) → 0 < (get_or (set ts i q) k no_request).at → either (slot_in (with_slot ss i x) k).owed.serving (slot_in (with_slot ss i x) k).life.finished ≡ true

@@ -21,6 +21,7 @@ use Rattle.state.specs.Tables.{operation_in, with_operation}
 use Rattle.stays_sound.proofs.Clients.{calling-inside}
 use Rattle.history.specs.History.{How, Ending, ends_of, ended_on, last_on, given, delivered, ended_call}
 use Rattle.history.proofs.Beside.{set-each, set_both}
+use Rattle.state.specs.Places.{place_in, with_place}
 use Rattle.history.proofs.Tied.{AllProper, Calls, Proper}
 
 -- ---- one ending more
@@ -49,13 +50,13 @@ proper-more e es b p h = ((b, p), h)
 
 pub operation-each : (P : ℕ → Operation → Type 0) (os : Operations) (o : ℕ) (x : Operation) → o < length os.at → P o x → ((j : ℕ) → (j ≡ o → ⊥) → P j (operation_in os j)) → (j : ℕ)
     → P j (operation_in (with_operation os o x) j)
-unfolding operation_in with_operation
+unfolding place_in with_place
 operation-each P os o x b p h = set-each P os.at o x no_operation b p h
 
 -- with the row of latest calls replaced at the same place
 pub operation-both : (P : ℕ → Operation → ℕ → Type 0) (os : Operations) (ks : List ℕ) (o : ℕ) (x : Operation) (k : ℕ) → o < length os.at → o < length ks → P o x k
     → ((j : ℕ) → (j ≡ o → ⊥) → P j (operation_in os j) (get_or ks j 0)) → (j : ℕ) → P j (operation_in (with_operation os o x) j) (get_or (set ks o k) j 0)
-unfolding operation_in with_operation
+unfolding place_in with_place
 operation-both P os ks o x k b c p h = set_both P os.at ks o x no_operation k 0 b c p h
 
 -- ---- the open call of o ends

@@ -38,6 +38,7 @@ use Rattle.history.proofs.Beside.{all_alike}
 use Rattle.history.proofs.Traced.{traced-always}
 use Rattle.history.proofs.Deeds.{other-code}
 use Rattle.history.proofs.Lives.{lives-one, spawn-puts, lives-on}
+use Rattle.state.specs.Places.{no_places, place_in, with_place}
 use Rattle.history.proofs.Runs.{along}
 
 -- ---- what a step does
@@ -83,7 +84,7 @@ module _ (cfg : Config) (st : State) (s : Step) where
       (fine t c f (λ i. rw e (slot_kept (λ (y : Slot). y.life.failed) st.slots k x l i))) g h
 
   fail-turns : s.code ≡ fail_code → (slot_in st.slots s.who).used ≡ true → s.who < length st.slots.at → Turns cfg st s (record { runnables = st.runnables; variables = st.variables; areas = st.areas; elements = st.elements; operations = st.operations; timers = st.timers; slots = with_slot st.slots s.who (failing (slot_in st.slots s.who)); incoming = st.incoming; outgoing = st.outgoing })
-  unfolding slot_in with_slot
+  unfolding place_in with_place
   fail-turns c u l =
       stays (other-code spawn_code c refl) (other-code end_code c refl) (other-code write_copy_code c refl)
       (slot_kept (λ (y : Slot). y.used) st.slots s.who (failing (slot_in st.slots s.who)) refl) (slot_kept (λ (y : Slot). y.life.runnable) st.slots s.who (failing (slot_in st.slots s.who)) refl)
@@ -135,11 +136,11 @@ module _ (cfg : Config) (st : State) (s : Step) where
 -- ---- the tables of copies
 
 pub copies-here : (cs : Copied) (k : ℕ) (c : Copies) → k < length cs.at → copies_in (with_copies cs k c) k ≡ c
-unfolding copies_in with_copies
+unfolding place_in with_place
 copies-here cs k c l = get_or-set_same cs.at k c no_copies l
 
 pub copies-other : (cs : Copied) (k i : ℕ) (c : Copies) → (i ≡ k → ⊥) → copies_in (with_copies cs k c) i ≡ copies_in cs i
-unfolding copies_in with_copies
+unfolding place_in with_place
 copies-other cs k i c n = get_or-set_other cs.at k i c no_copies n
 
 pub cleared-other : (t : Lists) (r : ℕ) (cs : Copied) (k i : ℕ) → (i ≡ k → ⊥) → copies_in (cleared t r cs k) i ≡ copies_in cs i
@@ -222,7 +223,7 @@ module _ (cfg : Config) (before : List Step) (s : Step) (st t : State) (g : Soun
 
   module _ (i : ℕ) (n : i ≡ lowest_empty st.slots → ⊥) (z : CanSpawn cfg st s.what) (e : t ≡ begun_in cfg st s.what (lowest_empty st.slots)) where
     begin-slot : slot_in t.slots i ≡ slot_in st.slots i
-    unfolding spawned slot_in with_slot
+    unfolding spawned place_in with_place
     begin-slot = rw e (get_or-set_other st.slots.at (lowest_empty st.slots) i _ no_slot n)
 
     begin-used : (slot_in t.slots i).used ≡ true → (slot_in st.slots i).used ≡ true
@@ -237,12 +238,12 @@ module _ (cfg : Config) (before : List Step) (s : Step) (st t : State) (g : Soun
 
   module _ (z : CanEnd st s.who) (e : t ≡ ended cfg st s.who) where
     end-gone : (slot_in t.slots s.who).used ≡ false
-    unfolding slot_in with_slot no_slot
+    unfolding place_in with_place no_slot
     end-gone = rw (e, get_or-set_same st.slots.at s.who no_slot no_slot (omega (arith, here cfg st s.who g z.there, slots_length cfg st g)))
 
     module _ (i : ℕ) (n : i ≡ s.who → ⊥) where
       end-slot : slot_in t.slots i ≡ slot_in st.slots i
-      unfolding slot_in with_slot
+      unfolding place_in with_place
       end-slot = rw e (get_or-set_other st.slots.at s.who i no_slot no_slot n)
 
       end-used : (slot_in t.slots i).used ≡ true → (slot_in st.slots i).used ≡ true
@@ -269,7 +270,7 @@ module _ (cfg : Config) (before : List Step) (s : Step) (st t : State) (g : Soun
       by i v (no n) = still i (λ q _. omega (arith, c, q)) (λ _ q. n (sym q)) (end-used z e i n v) (end-runnable z e i n) (end-other z e i n)
 
 pub copies-along : (cfg : Config) → config_sound cfg ≡ true → (rs : List Step) (st : State) → Run cfg rs st → Copies' cfg rs st
-unfolding start_of no_slots slot_in no_slot
+unfolding start_of no_places place_in no_slot
 copies-along cfg c rs st e =
     along cfg (λ before m. Copies' cfg before m)
     (λ before s m r h a. copies-turn cfg before s m (step_of cfg m s).state (told cfg m (accepted cfg m s a).0) r h (turns cfg m s a))

@@ -21,7 +21,7 @@ use Rattle.values.specs.Values.{never_received_v, void_v, is_void, is_payload}
 use Rattle.config.specs.Editions.{marks_invalid}
 use Rattle.config.specs.Tables.{required_conf_in, runnable_conf_in, operation_conf_in}
 use Rattle.state.specs.Parts.{last_number, no_variable, no_element, no_operation, max_values, no_client, no_copies, max_requests}
-use Rattle.state.specs.Queues.{first_value}
+use Rattle.state.specs.Queues.{first_value, oldest}
 use Rattle.state.specs.Start.{start_of}
 use Rattle.state.specs.Tables.{variable_in, element_in, operation_in, runnable_in, slot_in, copy_in, copies_in}
 use Rattle.config.specs.Lists.{place_of}
@@ -38,6 +38,7 @@ use Rattle.history.specs.Promises.{OfRuns, OfSteps}
 use Rattle.history.specs.Editions.{Valid, NoneInvalidates, HoldsValid, NoneInvalid, AnswersValid}
 use Rattle.history.proofs.Runs.{halves, first}
 use Rattle.history.proofs.Finals.{values-told}
+use Rattle.state.specs.Places.{place_in}
 use Rattle.history.proofs.Proofs.{stays-sound}
 
 -- ---- values of the kinds that are kept
@@ -70,7 +71,7 @@ either-valid v b x y f g = pick-has (λ (z : Bool). z ≡ true → Valid v) b x 
 
 module _ (cfg : Config) (st : State) (g : Sound cfg st) (m : marks_invalid cfg.edition ≡ false) where
   variable-valid : (k : ℕ) → Valid (variable_in st.variables k).value
-  unfolding variables_sound variable_sound variable_in
+  unfolding variables_sound variable_sound place_in
   variable-valid k = on (dec_lt k 16)
     where
       x : Variable
@@ -87,7 +88,7 @@ module _ (cfg : Config) (st : State) (g : Sound cfg st) (m : marks_invalid cfg.e
   element-here q b = all-at (λ (q : ℕ). element_sound cfg q (element_in st.elements q)) 16 g.elements q b
 
   element-valid : (q : ℕ) → Valid (element_in st.elements q).value
-  unfolding element_sound element_in no_element
+  unfolding element_sound place_in no_element
   element-valid q = on (dec_lt q 16)
     where
       x : Element
@@ -114,7 +115,7 @@ module _ (cfg : Config) (st : State) (g : Sound cfg st) (m : marks_invalid cfg.e
       on (no l) f = void-valid (get_or (element_in st.elements q).queue.at j void_v) (filled-blank is_payload is_void void_v max_values (element_in st.elements q).queue.queued (element_in st.elements q).queue.at f j c (omega (arith, l)))
 
   done-valid : (o : ℕ) → Valid (operation_in st.operations o).done
-  unfolding operations_sound operation_sound calling_sound done_sound operation_in
+  unfolding operations_sound operation_sound calling_sound done_sound place_in
   done-valid o = on (dec_lt o 8)
     where
       x : Operation
@@ -150,7 +151,7 @@ module _ (cfg : Config) (st : State) (g : Sound cfg st) (m : marks_invalid cfg.e
 
   -- a place for a copy, whether in use or not
   copy-valid : (t : Lists) (cs : Copied) → length cs.at ≡ 32 → copied_sound cfg.edition t st.slots cs ≡ true → (i j : ℕ) → Valid (copy_in (copies_in cs i) j)
-  unfolding copy_sound copies_in copy_in no_copies is_no_copy
+  unfolding copy_sound place_in copy_in no_copies is_no_copy
   copy-valid t cs e h i j = on (dec_lt i 32)
     where
       -- past the last place nothing has come
@@ -184,7 +185,7 @@ module _ (cfg : Config) (st : State) (g : Sound cfg st) (m : marks_invalid cfg.e
   sent-valid k = pick-has Valid (eqb k 0) _ _ (λ _ q. omega (arith, q)) (λ _ q. omega (arith, q))
 
   way-valid : (s : Step) {n : ℕ} {v : Value} {t : State} → go.Way cfg st s n v t → Valid v
-  unfolding first_value
+  unfolding oldest
   way-valid s go.read_variable = variable-valid s.what
   way-valid s (go.write_variable z) = λ q. omega (arith, q)
   way-valid s (go.enter z) = λ q. omega (arith, q)

@@ -32,6 +32,7 @@ use Rattle.history.proofs.Beside.{all_alike}
 use Rattle.history.proofs.Traced.{traced-one}
 use Rattle.history.proofs.Passes.{Unmoved}
 use Rattle.history.proofs.Deeds.{Moves, enters, exits, stays, Deed, pass, call, answer, late, end, server, plain, timeout, fail, other-code}
+use Rattle.state.specs.Places.{no_places, place_in, with_place}
 use Rattle.history.proofs.Finals.{holder, no-holder}
 
 -- ---- the holder, step by step
@@ -91,20 +92,20 @@ Holds st a none = (area_in st.areas a).taken ≡ false
 Holds st a (some i) = (i < 32) × (1 ≤ times_in a (slot_in st.slots i).stack)
 
 pub holds-start : (cfg : Config) (a : ℕ) → Holds (start_of cfg) a (holder_of a [])
-unfolding start_of no_areas area_in holder_of traced_from
+unfolding start_of no_places place_in holder_of traced_from
 holds-start cfg a = all_alike (λ (y : Area). y.taken ≡ false) 16 no_area a refl
 
 -- one area replaced, and one slot
 flag-other : (t : Areas) (a b : ℕ) (v : Bool) → (b ≡ a → ⊥) → (area_in (with_area t a (record { taken = v })) b).taken ≡ (area_in t b).taken
-unfolding area_in with_area
+unfolding place_in with_place
 flag-other t a b v n = rw (get_or-set_other t.at a b (record { taken = v }) no_area n)
 
 flag_same : (t : Areas) (a : ℕ) (v : Bool) → a < length t.at → (area_in (with_area t a (record { taken = v })) a).taken ≡ v
-unfolding area_in with_area
+unfolding place_in with_place
 flag_same t a v b = rw (get_or-set_same t.at a (record { taken = v }) no_area b)
 
 slot_same : (ss : Slots) (i : ℕ) (x : Slot) → i < length ss.at → slot_in (with_slot ss i x) i ≡ x
-unfolding slot_in with_slot
+unfolding place_in with_place
 slot_same ss i x b = get_or-set_same ss.at i x no_slot b
 
 module _ (cfg : Config) (st : State) (s : Step) (g : Sound cfg st) where

@@ -38,6 +38,7 @@ use Rattle.history.specs.History.{time_of, time_since, traced_from, held_after, 
 use Rattle.history.proofs.Beside.{all_alike}
 use Rattle.history.proofs.Traced.{traced-one}
 use Rattle.history.proofs.Timed.{since-more, since-now, still}
+use Rattle.state.specs.Places.{no_places, place_in, with_place}
 use Rattle.history.proofs.Deeds.{other-code}
 
 -- ---- who is not held
@@ -105,7 +106,7 @@ caller-held cfg o x e = by (operation_conf_in cfg.operations o).asynchronous
 -- time passes: each who is held has so much less
 module _ (cfg : Config) (st : State) (t : ℕ) (g : Sound cfg st) (z : CanWait cfg st t) (k : ℕ) (h : is_held (slot_in st.slots k).life ≡ true) where
   inside : k < length st.slots.at
-  unfolding slot_in no_slot
+  unfolding place_in no_slot
   inside = inside_of (λ (y : Slot). is_held y.life ≡ true) st.slots.at k no_slot (λ q. clash false q refl) h
 
   enough : t ≤ (slot_in st.slots k).life.awaited.left
@@ -113,7 +114,7 @@ module _ (cfg : Config) (st : State) (t : ℕ) (g : Sound cfg st) (z : CanWait c
   enough = leb-true _ _ (rw h at (all-at (λ (i : ℕ). slot_lets t (slot_in st.slots i)) max_slots z.slots k (omega (arith, inside, slots_length cfg st g))))
 
   passed : slot_in (slots_after st.slots t) k ≡ slot_after t (slot_in st.slots k)
-  unfolding slots_after slot_in
+  unfolding slots_after place_in
   passed = each_at (λ (i : ℕ) (x : Slot). slot_after t x) no_slot max_slots st.slots.at k (omega (arith, inside, slots_length cfg st g)) inside
 
   pub less : ((slot_in (slots_after st.slots t) k).life.awaited.on ≡ (slot_in st.slots k).life.awaited.on) × ((slot_in (slots_after st.slots t) k).life.awaited.left + t ≡ (slot_in st.slots k).life.awaited.left)
@@ -193,7 +194,7 @@ pub record Held (ss : Slots) (rs : List Step) : Type 0 where
   pub idle : (i : ℕ) → is_held (slot_in ss i).life ≡ false → held_in i rs ≡ 0
 
 pub held_start : (cfg : Config) → Held (start_of cfg).slots []
-unfolding start_of no_slots slot_in no_slot held_in traced_from
+unfolding start_of no_places place_in no_slot held_in traced_from
 held_start cfg = record {
   each = λ i e. absurd (clash _ e (all_alike (λ (y : Slot). is_held y.life ≡ false) 32 no_slot i refl));
   idle = λ i e. refl;
@@ -229,7 +230,7 @@ module _ (rs : List Step) (s : Step) where
 
 module _ (cfg : Config) (st : State) (s : Step) (rs : List Step) (l : Held st.slots rs) where
   held-went : (st' : State) → Holds cfg st s st' → Held st'.slots (rs ++ (s ∷ []))
-  unfolding slot_in with_slot
+  unfolding place_in with_place
   held-went st' (holds c z q) = record { each = λ i. rw q (each i (ℕ_discrete i s.who)); idle = λ i. rw q (idle i (ℕ_discrete i s.who)) }
     where
       new : get_or (held st s.who s.what s.argument.number).slots.at s.who no_slot ≡ awaiting (slot_in st.slots s.who) (on_element s.what s.argument.number)

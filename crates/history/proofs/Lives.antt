@@ -25,6 +25,7 @@ use Rattle.stays_sound.proofs.Kept.{slot_kept, slot-inside, caller-kept}
 use Rattle.history.specs.History.{traced_from, lives_after, lives_in}
 use Rattle.history.proofs.Beside.{all_alike, set-each}
 use Rattle.history.proofs.Traced.{traced-one}
+use Rattle.state.specs.Places.{no_places, place_in, with_place}
 use Rattle.history.proofs.Deeds.{Deed, pass, call, answer, late, end, server, plain, timeout, fail, other-code}
 
 -- ---- who lives there, step by step
@@ -57,7 +58,7 @@ pub record Lives (ss : Slots) (rs : List Step) : Type 0 where
   pub used : (i : ℕ) → (slot_in ss i).used ≡ ltb 0 (lives_in i rs)
 
 pub lives-start : (cfg : Config) → Lives (start_of cfg).slots []
-unfolding start_of no_slots slot_in no_slot lives_in traced_from
+unfolding start_of no_places place_in no_slot lives_in traced_from
 lives-start cfg = record { used = λ i. all_alike (λ (y : Slot). y.used ≡ false) 32 no_slot i refl }
 
 module _ (ss : Slots) (rs : List Step) (s : Step) (l : Lives ss rs) where
@@ -65,7 +66,7 @@ module _ (ss : Slots) (rs : List Step) (s : Step) (l : Lives ss rs) where
   lives-still ss' n m k = record { used = λ i. rw (lives-one i rs s, lives-on i (length rs + 1) (lives_in i rs) s (λ c e. n c) (λ c e. m c)) (k i ∙ l.used i) }
 
   lives-spawn : (j : ℕ) (x : Slot) → s.code ≡ spawn_code → s.claim.number ≡ j → j < length ss.at → x.used ≡ true → Lives (with_slot ss j x) (rs ++ (s ∷ []))
-  unfolding slot_in with_slot
+  unfolding place_in with_place
   lives-spawn j x c e b u = record {
     used =
         set-each (λ i y. y.used ≡ ltb 0 (lives_in i (rs ++ (s ∷ [])))) ss.at j x no_slot b
@@ -74,7 +75,7 @@ module _ (ss : Slots) (rs : List Step) (s : Step) (l : Lives ss rs) where
   }
 
   lives-end : s.code ≡ end_code → s.who < length ss.at → Lives (with_slot ss s.who no_slot) (rs ++ (s ∷ []))
-  unfolding slot_in with_slot no_slot
+  unfolding place_in with_place no_slot
   lives-end c b = record {
     used =
         set-each (λ i y. y.used ≡ ltb 0 (lives_in i (rs ++ (s ∷ [])))) ss.at s.who no_slot no_slot b

@@ -24,6 +24,7 @@ use Rattle.stays_sound.proofs.Told.{operations-length}
 use Rattle.stays_sound.proofs.Kept.{runnable-kept, slot_kept, slot_has, fed-kept, handed-kept, after_kept, waited-kept, slots-after-kept}
 use Rattle.stays_sound.proofs.Operations.{calls-told}
 use Rattle.stays_sound.proofs.Clients.{calling-inside}
+use Rattle.state.specs.Places.{place_in}
 use Rattle.history.proofs.Tied.{As, SameCalls, Alike}
 
 pub same-calls : (os : Operations) → SameCalls 0 os os
@@ -165,7 +166,7 @@ module _ (cfg : Config) (st : State) (t : ℕ) (g : Sound cfg st) (z : CanWait c
   lets o e = lets_open t (operation_in st.operations o) e (all-at (λ (o : ℕ). operation_lets t (operation_in st.operations o)) cfg.operations.n z.operations o (open-there o e))
 
   taken : (o : ℕ) → is_open st o ≡ true → (operation_in (operations_after cfg st.operations t) o).count ≡ (operation_in st.operations o).count - t
-  unfolding operations_after operation_in operation_after
+  unfolding operations_after place_in operation_after
   taken o e = rw (each_at (λ (o : ℕ) (x : Operation). operation_after t x) no_operation cfg.operations.n st.operations.at o (open-there o e) (calling-inside st.operations o e), e)
 
   wait-calls : SameCalls t st.operations (operations_after cfg st.operations t)

@@ -9,7 +9,7 @@ use mathlib.Core.Path.{◌≡◌, refl, ap, sym, ◌∙◌}
 use native.Mathlib.Omega.{arith}
 use lib.Dec.{eqb}
 use Rattle.history.proofs.Beside.{all_alike}
-use Rattle.state.specs.Start.{start_element, start_elements, start_of}
+use Rattle.state.specs.Start.{start_element, start_elements, start_of, started}
 use Rattle.state.specs.Parts.{no_element, no_values}
 use Rattle.laws.proofs.Places.{each-has}
 use Rattle.laws.specs.Choice.{pick}
@@ -23,6 +23,7 @@ use Rattle.state.specs.Tables.{operation_in, element_in, no_elements}
 use Rattle.rules.specs.Rows.{rows, row_of}
 use Rattle.rules.specs.Refusals.{asks_synchronous}
 use Rattle.history.specs.History.{nothing, observe, history_from, history_of, ends_of, last_on, is_unended, ended_call, Started, time_of, time_in, traced_from, lives_after, lives_in, binds, bound_after, bound_in, awaits_after, awaits_in, holder_after, holder_of}
+use Rattle.state.specs.Places.{no_places, place_in}
 use Rattle.history.specs.Promises.{SpawnsEmpty, FailedStops, HolderStays, CallsOneByOne, WaiterWaits, EndsOnce, OpenInTime, ResultIsDelivered, ResultIsOwn, DoneIsDelivered, UnendedIsLatest, Accepted, ReadsAlike, ReadsItsSpawn}
 
 -- a step on the part 0, by the instance in the slot 0 or by the scheduler
@@ -177,7 +178,7 @@ starts-without k = by (eqb k.capacity 0)
     by false h = omega (arith, h)
 
 no_number : (cfg : Config) (q : ℕ) → (element_in (start_of cfg).elements q).value.kind ≡ 1 → ⊥
-unfolding start_of start_elements element_in no_elements no_element
+unfolding start_of started place_in no_places no_element
 no_number cfg q =
     each-has (λ (k : ℕ) (x : Element). start_element (required_conf_in cfg.required k)) no_element (λ (k : ℕ) (x : Element). x.value.kind ≡ 1 → ⊥) cfg.required.n no_elements.at q
     (λ l. starts-without (required_conf_in cfg.required q)) (all_alike (λ (x : Element). x.value.kind ≡ 1 → ⊥) 16 no_element q (λ h. omega (arith, h)))

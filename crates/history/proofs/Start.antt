@@ -14,27 +14,28 @@ use Rattle.faces.specs.Types.{Config, Runnable}
 use Rattle.config.specs.Tables.{runnable_conf_in}
 use Rattle.state.specs.Parts.{last_number, no_client, no_requests, no_runnable, no_operation, no_slot}
 use Rattle.state.specs.Tables.{no_runnables, no_operations, no_slots, runnable_in, operation_in, slot_in}
-use Rattle.state.specs.Start.{start_runnable, start_runnables, start_of}
+use Rattle.state.specs.Start.{start_runnable, start_runnables, start_of, started}
 use Rattle.history.specs.History.{no_request, nothing, ends_of, ended_on, last_on}
 use Rattle.history.proofs.Beside.{all_alike, Beside, beside_none}
+use Rattle.state.specs.Places.{no_places, place_in}
 use Rattle.history.proofs.Tied.{Tag, AllProper, Calls, Tied}
 
 no-requests : (cfg : Config) (r : ℕ) → (runnable_in (start_runnables cfg.runnables) r).requests ≡ no_requests
-unfolding runnable_in start_runnables no_runnables no_runnable
+unfolding place_in started no_places no_runnable
 no-requests cfg r =
     each-has (λ (k : ℕ) (x : Runnable). start_runnable (runnable_conf_in cfg.runnables k)) no_runnable (λ j y. y.requests ≡ no_requests) cfg.runnables.n (replicate 16 no_runnable) r
     (λ b. refl) (all_alike (λ y. y.requests ≡ no_requests) 16 no_runnable r refl)
 
 none-serves : (k : ℕ) → (slot_in no_slots k).owed.serving ≡ false
-unfolding slot_in no_slots no_slot
+unfolding place_in no_places no_slot
 none-serves k = all_alike (λ y. y.owed.serving ≡ false) 32 no_slot k refl
 
 none-failed : (k : ℕ) → (slot_in no_slots k).life.failed ≡ false
-unfolding slot_in no_slots no_slot
+unfolding place_in no_places no_slot
 none-failed k = all_alike (λ y. y.life.failed ≡ false) 32 no_slot k refl
 
 calls-start : Calls no_operations nothing.latest nothing.endings nothing.place
-unfolding no_operations operation_in nothing ends_of ended_on last_on AllProper
+unfolding no_places place_in nothing ends_of ended_on last_on AllProper
 calls-start = record {
   size = refl;
   state = λ o. all_alike (λ k. 0 < k → 0 + bit (get_or (replicate 8 no_operation) o no_operation).calling ≡ 1) 8 0 o (λ q. absurd (omega arith));

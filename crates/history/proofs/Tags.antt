@@ -17,23 +17,24 @@ use Rattle.laws.proofs.Choosing.{clash}
 use Rattle.laws.proofs.Places.{inside_of}
 use Rattle.faces.specs.Types.{Client, Operation, Operations, Runnable, Runnables, Slot, Slots}
 use Rattle.state.specs.Parts.{no_client, no_requests, no_runnable, no_slot}
-use Rattle.state.specs.Queues.{up_one, push_request, first_request, rest_requests}
+use Rattle.state.specs.Queues.{up_one, push_request, first_request, rest_requests, oldest, pushed, without_oldest}
 use Rattle.state.specs.Tables.{runnable_in, operation_in, slot_in, with_runnable, with_operation, with_slot}
 use Rattle.rules.specs.Sound.{clients_as}
 use Rattle.stays_sound.proofs.Told.{queued-counts, served-counts, unborne}
 use Rattle.history.specs.History.{Request, no_request, Ending, ends_of}
 use Rattle.history.proofs.Beside.{set-each, set_both, Beside, beside-push, beside-pop}
 use Rattle.history.proofs.Tied.{Tag, Queues, Served, Failed, queues-map, served-map}
+use Rattle.state.specs.Places.{place_in, with_place}
 use Rattle.history.proofs.Calls.{ends_more, operation-each, operation-both}
 
 -- ---- a place with a request or a client is inside its table
 
 pub queued-inside : (rs : Runnables) (r j : ℕ) → j < (runnable_in rs r).requests.queued → r < length rs.at
-unfolding runnable_in no_runnable no_requests
+unfolding place_in no_runnable no_requests
 queued-inside rs r j b = inside_of (λ y. j < y.requests.queued) rs.at r no_runnable (λ z. omega (arith, z)) b
 
 pub serving-inside : (ss : Slots) (k : ℕ) → (slot_in ss k).owed.serving ≡ true → k < length ss.at
-unfolding slot_in no_slot
+unfolding place_in no_slot
 serving-inside ss k e = inside_of (λ y. y.owed.serving ≡ true) ss.at k no_slot (λ z. clash false z refl) e
 
 -- ---- an operation replaced
@@ -108,7 +109,7 @@ module _ (os : Operations) (rs : Runnables) (ss : Slots) (latest : List ℕ) (es
 
 runnable-both : (P : Runnable → List Request → Type 0) (rs : Runnables) (ws : List (List Request)) (r : ℕ) (y : Runnable) (w : List Request) → r < length rs.at → r < length ws → P y w
     → ((j : ℕ) → P (runnable_in rs j) (get_or ws j [])) → (j : ℕ) → P (runnable_in (with_runnable rs r y) j) (get_or (set ws r w) j [])
-unfolding runnable_in with_runnable
+unfolding place_in with_place
 runnable-both P rs ws r y w b c p h = set_both (λ j. P) rs.at ws r y no_runnable w [] b c p (λ j n. h j)
 
 module _ (os : Operations) (latest : List ℕ) (es : List Ending) (rs : Runnables) (ws : List (List Request)) (r : ℕ) (y : Runnable) (h : Queues os latest es rs ws) (b : r < length rs.at) (b16 : r < 16) where
@@ -118,7 +119,7 @@ module _ (os : Operations) (latest : List ℕ) (es : List Ending) (rs : Runnable
   pub queues-push : (c : Client) (q : Request) → (runnable_in rs r).requests.queued < 16 → length (runnable_in rs r).requests.at ≡ 16
       → y.requests ≡ push_request (runnable_in rs r).requests c → Tag os latest es c q
       → Queues os latest es (with_runnable rs r y) (set ws r (get_or ws r [] ++ (q ∷ [])))
-  unfolding push_request
+  unfolding pushed
   queues-push c q n l e t = record {
     size = length-set ws r (get_or ws r [] ++ (q ∷ [])) ∙ h.size;
     each = runnable-both Follows rs ws r y (get_or ws r [] ++ (q ∷ [])) b (omega (arith, h.size))
@@ -131,7 +132,7 @@ module _ (os : Operations) (latest : List ℕ) (es : List Ending) (rs : Runnable
 
   pub queues-pop : length (runnable_in rs r).requests.at ≡ 16 → (runnable_in rs r).requests.queued ≤ 16 → y.requests ≡ rest_requests (runnable_in rs r).requests
       → Queues os latest es (with_runnable rs r y) (set ws r (drop 1 (get_or ws r [])))
-  unfolding rest_requests
+  unfolding without_oldest
   queues-pop l n e = record {
     size = length-set ws r (drop 1 (get_or ws r [])) ∙ h.size;
     each = runnable-both Follows rs ws r y (drop 1 (get_or ws r [])) b (omega (arith, h.size))
@@ -141,21 +142,21 @@ module _ (os : Operations) (latest : List ℕ) (es : List Ending) (rs : Runnable
 
 pub oldest-tag : (os : Operations) (latest : List ℕ) (es : List Ending) (rs : Runnables) (ws : List (List Request)) (r : ℕ) → Queues os latest es rs ws → 0 < (runnable_in rs r).requests.queued
     → Tag os latest es (first_request (runnable_in rs r).requests) (get_or (get_or ws r []) 0 no_request)
-unfolding first_request
+unfolding oldest
 oldest-tag os latest es rs ws r h b = (h.each r).each 0 b
 
 -- ---- a slot replaced, with the request beside it or with nothing owed
 
 module _ (os : Operations) (latest : List ℕ) (es : List Ending) (ss : Slots) (ts : List Request) (k : ℕ) (x : Slot) (h : Served os latest es ss ts) (b : k < length ss.at) where
   pub served-put : (q : Request) → k < 32 → (x.owed.serving ≡ true → Tag os latest es x.owed.client q) → Served os latest es (with_slot ss k x) (set ts k q)
-  unfolding slot_in with_slot
+  unfolding place_in with_place
   served-put q c t = record {
     size = length-set ts k q ∙ h.size;
     each = set_both (λ j y z. y.owed.serving ≡ true → Tag os latest es y.owed.client z) ss.at ts k x no_slot q no_request b (omega (arith, h.size)) t (λ j n. h.each j);
   }
 
   pub served-idle : x.owed.serving ≡ false → Served os latest es (with_slot ss k x) ts
-  unfolding slot_in with_slot
+  unfolding place_in with_place
   served-idle e = record {
     size = h.size;
     each = set-each (λ j y. y.owed.serving ≡ true → Tag os latest es y.owed.client (get_or ts j no_request)) ss.at k x no_slot b (λ z. absurd (clash x.owed.serving z e)) (λ j n. h.each j);
@@ -163,7 +164,7 @@ module _ (os : Operations) (latest : List ℕ) (es : List Ending) (ss : Slots) (
 
 -- and with whether it has failed
 pub failed-put : (ss : Slots) (fs : List Bool) (k : ℕ) (x : Slot) (b : Bool) → Failed ss fs → k < length ss.at → k < 32 → x.life.failed ≡ b → Failed (with_slot ss k x) (set fs k b)
-unfolding slot_in with_slot
+unfolding place_in with_place
 failed-put ss fs k x b h l c e = record {
   size = length-set fs k b ∙ h.size;
   each = set_both (λ j y z. y.life.failed ≡ z) ss.at fs k x no_slot b false l (omega (arith, h.size)) e (λ j n. h.each j);

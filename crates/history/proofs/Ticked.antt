@@ -30,6 +30,7 @@ use Rattle.history.specs.History.{time_of, time_in, time_since, traced_from, tic
 use Rattle.history.proofs.Beside.{all_alike}
 use Rattle.history.proofs.Traced.{traced-one, traced-always}
 use Rattle.history.proofs.Timed.{since-more, since-now, still}
+use Rattle.state.specs.Places.{no_places, place_in, with_place}
 use Rattle.history.proofs.Deeds.{Clocks, ticks, waits, keeps, Deed, pass, call, answer, late, end, server, plain, timeout, fail, other-code}
 
 -- ---- the last tick, step by step
@@ -68,7 +69,7 @@ pub record Ticked (cfg : Config) (ts : Timers) (rs : List Step) : Type 0 where
   pub rest : (k : ℕ) → k < cfg.timers.n → time_since (last_tick k rs) rs + (timer_in ts k).count ≡ round cfg k (last_tick k rs)
 
 pub ticked-start : (cfg : Config) → Ticked cfg (start_of cfg).timers []
-unfolding start_of no_timers timer_in last_tick traced_from time_in
+unfolding start_of no_places place_in last_tick traced_from time_in
 ticked-start cfg = record { rest = λ k b. all_alike (λ (y : Timer). 0 + y.count ≡ 0) 8 no_timer k refl }
 
 module _ (cfg : Config) (ts : Timers) (rs : List Step) (s : Step) (t : Ticked cfg ts rs) where
@@ -81,7 +82,7 @@ module _ (cfg : Config) (ts : Timers) (rs : List Step) (s : Step) (t : Ticked cf
   ticked-still n w = record { rest = λ k b. onward k 0 (timer_in ts k) b (last-still k rs s n) (still s w) (omega arith) }
 
   ticked-tick : s.code ≡ tick_code → s.what < length ts.at → Ticked cfg (with_timer ts s.what (record { count = (timer_conf_in cfg.timers s.what).period })) (rs ++ (s ∷ []))
-  unfolding timer_in with_timer
+  unfolding place_in with_place
   ticked-tick c l = record { rest = λ k b. go k b (ℕ_discrete k s.what) }
     where
       x : Timer
@@ -97,7 +98,7 @@ module _ (cfg : Config) (ts : Timers) (rs : List Step) (s : Step) (t : Ticked cf
           (onward k 0 (timer_in ts k) b (last-other k rs s (λ e. n (sym e))) (still s (λ w. omega (arith, c, w))) (omega arith))
 
   ticked-wait : s.code ≡ wait_code → timers_let cfg ts s.argument.number ≡ true → length ts.at ≡ 8 → cfg.timers.n ≤ 8 → Ticked cfg (timers_after cfg ts s.argument.number) (rs ++ (s ∷ []))
-  unfolding timers_let timer_lets timers_after timer_in time_of
+  unfolding timers_let timer_lets timers_after place_in time_of
   ticked-wait c z l m = record {
     rest = λ k b.
         let lets : s.argument.number ≤ (timer_in ts k).count = leb-true _ _ (all-at (λ (k : ℕ). timer_lets s.argument.number (timer_in ts k)) cfg.timers.n z k b) in

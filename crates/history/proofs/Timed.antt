@@ -31,6 +31,7 @@ use Rattle.history.proofs.Tied.{SameCalls, Tied}
 use Rattle.history.proofs.Calls.{operation-each, operation-both}
 use Rattle.history.proofs.Passes.{same-calls}
 use Rattle.history.proofs.Named.{Named}
+use Rattle.state.specs.Places.{no_places, place_in}
 use Rattle.history.proofs.Deeds.{Deed, pass, call, answer, late, end, server, plain, timeout, fail, pass-adds, call-adds, answer-adds, late-adds, end-adds, server-adds, plain-adds, timeout-adds, fail-adds, other-code}
 
 -- ---- time adds up
@@ -62,7 +63,7 @@ pub record Timed (cfg : Config) (os : Operations) (latest : List ℕ) (rs : List
   pub rest : (o : ℕ) → (operation_in os o).calling ≡ true → time_since (get_or latest o 0) rs + (operation_in os o).count ≡ (operation_conf_in cfg.operations o).timeout
 
 pub timed-start : (cfg : Config) → Timed cfg (start_of cfg).operations nothing.latest []
-unfolding start_of no_operations operation_in
+unfolding start_of no_places place_in
 timed-start cfg = record {
   rest = λ o.
       all_alike (λ y. y.calling ≡ true → time_since (get_or nothing.latest o 0) [] + y.count ≡ (operation_conf_in cfg.operations o).timeout) 8 no_operation o

@@ -36,6 +36,7 @@ use Rattle.stays_sound.proofs.Accepted.{answer_in, accepted, gone, end-told}
 use Rattle.history.specs.History.{hands_on_in}
 use Rattle.history.specs.Promises.{Answers, Accepted}
 use Rattle.history.proofs.Runs.{taken_of}
+use Rattle.state.specs.Places.{place_in, with_place}
 use Rattle.history.proofs.Copying.{Turns, stays, begins, ends, sets, turns, copies-here, copies-other, either-none}
 
 -- ---- a step with another table of outgoing copies
@@ -160,7 +161,7 @@ pub record Off (i : ℕ) (b : Bool) (T U : Copied) : Type 0 where
 
 -- the copies of one slot replaced in both
 off-put : (i : ℕ) (b : Bool) (T U : Copied) (j : ℕ) (c d : Copies) → ((j ≡ i → b ≡ false) → c ≡ d) → Off i b T U → Off i b (with_copies T j c) (with_copies U j d)
-unfolding copies_in with_copies
+unfolding place_in with_place
 off-put i b T U j c d e o = record { size = length-set T.at j c ∙ o.size ∙ sym (length-set U.at j d); each = λ k n. by k n (ℕ_discrete k j) (dec_lt j (length T.at)) }
   where
     by : (k : ℕ) → (k ≡ i → b ≡ false) → Dec (k ≡ j) → Dec (j < length T.at) → get_or (set T.at j c) k no_copies ≡ get_or (set U.at j d) k no_copies
@@ -169,11 +170,11 @@ off-put i b T U j c d e o = record { size = length-set T.at j c ∙ o.size ∙ s
     by k n (no m) l = rw (get_or-set_other T.at j k c no_copies m, get_or-set_other U.at j k d no_copies m) (o.each k n)
 
 copies_length : (C : Copied) (i : ℕ) (c : Copies) → length (with_copies C i c).at ≡ length C.at
-unfolding with_copies
+unfolding with_place
 copies_length C i c = length-set C.at i c
 
 copies-past : (C : Copied) (i : ℕ) → length C.at ≤ i → copies_in C i ≡ no_copies
-unfolding copies_in
+unfolding place_in
 copies-past C i l = past C.at i (length C.at) no_copies refl l
 
 -- the copies of the slot i set differently
@@ -301,11 +302,11 @@ module _ (cfg : Config) (st : State) (s : Step) (i : ℕ) (f : Bool) (l : Live c
 
   -- a spawn goes into another slot, and an end of another instance empties another
   begin-slot : {t : State} → CanSpawn cfg st s.what → t ≡ begun_in cfg st s.what (lowest_empty st.slots) → slot_in t.slots i ≡ slot_in st.slots i
-  unfolding spawned slot_in with_slot
+  unfolding spawned place_in with_place
   begin-slot z q = rw q (get_or-set_other st.slots.at (lowest_empty st.slots) i _ no_slot (λ n. clash (slot_in st.slots i).used l.used (rw n (lowest-empty st.slots z.slot))))
 
   end-slot : {t : State} → (s.who ≡ i → ⊥) → t ≡ ended cfg st s.who → slot_in t.slots i ≡ slot_in st.slots i
-  unfolding slot_in with_slot
+  unfolding place_in with_place
   end-slot n q = rw q (get_or-set_other st.slots.at s.who i no_slot no_slot (λ z. n (sym z)))
 
   lives-on : {t : State} → (s.code ≡ end_code → s.who ≡ i → ⊥) → Turns cfg st s t → Live cfg t i f'

@@ -45,6 +45,7 @@ use Rattle.history.proofs.Tied.{Tied}
 use Rattle.history.proofs.Named.{started-more, started-here, Named}
 use Rattle.history.proofs.Deeds.{other-code, call-adds}
 use Rattle.history.proofs.Unended.{started-older, latest-still}
+use Rattle.state.specs.Places.{no_places, place_in, with_place}
 use Rattle.history.proofs.Lives.{Lives, lives-one, lives-on}
 
 -- ---- what a step does to those who wait
@@ -166,7 +167,7 @@ pub record Bounds (cfg : Config) (ss : Slots) (rs : List Step) : Type 0 where
 
 -- at the start nobody waits
 none-waits : (o : ℕ) → waiters_of no_slots o ≡ 0
-unfolding no_slots slot_in no_slot waiters_of waits_on
+unfolding no_places place_in no_slot waiters_of waits_on
 none-waits o = sum-zero _ 32 (λ k b. ap bit (all_alike (λ (y : Slot). waits_on o y ≡ false) 32 no_slot k refl))
 
 pub bounds-start : (cfg : Config) → Bounds cfg (start_of cfg).slots []
@@ -219,7 +220,7 @@ pub record Awaits (cfg : Config) (ss : Slots) (rs : List Step) (h : History) : T
   pub idle : (i : ℕ) → is_caller (slot_in ss i).life ≡ false → awaits_in cfg i rs ≡ 0
 
 pub awaits-start : (cfg : Config) → Awaits cfg (start_of cfg).slots [] nothing
-unfolding start_of no_slots slot_in no_slot awaits_in traced_from
+unfolding start_of no_places place_in no_slot awaits_in traced_from
 awaits-start cfg = record {
   each = λ i e. absurd (clash _ e (all_alike (λ (y : Slot). is_caller y.life ≡ false) 32 no_slot i refl));
   idle = λ i e. refl;
@@ -308,7 +309,7 @@ module _ (cfg : Config) (st : State) (s : Step) {u : Value} (a : (step_of cfg st
 
   -- no call starts where one waits
   kept_out : (i : ℕ) → is_caller (slot_in st.slots i).life ≡ true → s.code ≡ call_code → s.claim ≡ ok_v → s.what ≡ (slot_in st.slots i).life.awaited.on → ⊥
-  unfolding waiters_of waits_on slot_in no_slot
+  unfolding waiters_of waits_on place_in no_slot
   kept_out i w c k e =
       let z = call-told cfg st s k (way cfg st s c refl a) in
       let b = inside_of (λ (y : Slot). is_caller y.life ≡ true) st.slots.at i no_slot (λ q. clash false q refl) w in
@@ -340,7 +341,7 @@ module _ (cfg : Config) (st : State) (s : Step) {u : Value} (a : (step_of cfg st
     }
 
     awaits-went : (st' : State) → Waits cfg st s st' → Awaits cfg st'.slots (rs ++ (s ∷ [])) (observe cfg h s)
-    unfolding slot_in with_slot called caller_after awaits_after
+    unfolding place_in with_place called caller_after awaits_after
     awaits-went st' (calls c k e z q) = record { each = λ i. rw q (each i (ℕ_discrete i s.who)); idle = λ i. rw q (idle i (ℕ_discrete i s.who)) }
       where
         inside : s.who < length st.slots.at

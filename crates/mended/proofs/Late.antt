@@ -16,8 +16,8 @@ use Rattle.config.specs.Editions.{is_edition, marks_invalid, has_step, has_field
 use Rattle.config.specs.Tables.{runnable_conf_in, add_runnable_conf, variable_conf_in, add_variable_conf, area_conf_in, add_area_conf, required_conf_in, add_required_conf, provided_conf_in, add_provided_conf, link_in, add_link, operation_conf_in, add_operation_conf, timer_conf_in, add_timer_conf, data_event_in, add_data_event, return_event_in, add_return_event, no_config, top_of, add_listed, listed_in}
 use Rattle.state.specs.Parts.{no_requests, no_runnable, no_values, no_element, no_stack, no_slot, no_copies}
 use Rattle.state.specs.Tables.{no_runnables, runnable_in, with_runnable, no_variables, variable_in, with_variable, no_areas, area_in, with_area, no_elements, element_in, with_element, no_operations, operation_in, with_operation, no_timers, timer_in, with_timer, no_slots, slot_in, with_slot, copies_in, copy_in, no_copied}
-use Rattle.state.specs.Queues.{push_request, first_request, rest_requests, push_value, first_value, rest_values, push_area, top_area, pop_area}
-use Rattle.state.specs.Start.{start_variable, start_element, start_runnables, start_variables, start_elements, start_of}
+use Rattle.state.specs.Queues.{push_request, first_request, rest_requests, push_value, first_value, rest_values, push_area, top_area, pop_area, oldest, pushed, without_oldest}
+use Rattle.state.specs.Start.{start_variable, start_element, start_runnables, start_variables, start_elements, start_of, started}
 use Rattle.entries.specs.Entries.{max_of, count_of, places_of, entry_of, placed}
 use Rattle.entries.specs.Faults.{in_range, names_there, is_server, is_queued, rises, rises_at, pairs_well, entry_fault, is_no_entry, place_sound, kind_sound, config_sound, parts_sound, has_room, lists_well}
 use Rattle.rules.specs.Sound.{is_no_client, client_fits, requests_sound, values_sound, runnable_sound, variable_sound, is_stored, element_sound, is_outcome, calling_sound, done_sound, operation_sound, timer_sound, waits_well, life_sound, owed_sound, area_fits, stack_sound, is_no_slot, slot_sound, of_runnable, slots_of, count_sound, times_in, holders, area_sound, is_client, queued_as, served_as, clients_as, client_sound, queued_sound, served_sound, called_sound, waits_on, waiters_of, waiter_sound, runnables_sound, variables_sound, elements_sound, operations_sound, timers_sound, slots_sound, counts_sound, areas_sound, clients_sound, waiters_sound, shaped, sound_of, most_pending, is_no_awaited, awaits_well, is_no_life, is_no_owed, is_no_stack, held_well, copied_sound, copies_sound, copy_sound, has_copy, is_no_copy}
@@ -36,6 +36,8 @@ use Rattle.gaps.specs.declared.Mended.TheVariants.{Whole, Refused}
 use Rattle.gaps.specs.Orders.{each, passed_over, behind, sequences, up_to_three}
 use Rattle.gaps.specs.Gaps.{Turn, choices_in, sequences_of, fills, rank_of, answered_all, state_after, turns_of, mended_steps}
 use Rattle.gaps.proofs.Same.{turns-once}
+use Rattle.config.specs.Table.{add_part, part_in}
+use Rattle.state.specs.Places.{no_places, place_in, with_place}
 use Rattle.gaps.specs.Report.{on_mended, on_last, fitted, step_notes, turn_notes, report_from, note_count, survey_of, mend_to, mend_written, mend_reported}
 
 -- ---- the fields, byte by byte
@@ -175,16 +177,16 @@ turns_for cfg t = turns_of (inner_of cfg) cfg (start_of cfg) (steps_in t)
 
 -- the turns of each
 late-turns : map (λ (x : Row). turns_for (config_of config_bytes).config x.recording) table ≡ map (λ (x : Row). x.turns) table
-unfolding all_of all_below any_below sum_below mask_below first_below each_below shifted place_filled filled is_void is_payload is_kind is_mask is_good same_value runnable_conf_in add_runnable_conf variable_conf_in add_variable_conf area_conf_in add_area_conf required_conf_in add_required_conf provided_conf_in add_provided_conf link_in add_link operation_conf_in add_operation_conf timer_conf_in add_timer_conf data_event_in add_data_event return_event_in add_return_event no_config no_requests no_runnable no_values no_element no_stack no_slot no_runnables runnable_in with_runnable no_variables variable_in with_variable no_areas area_in with_area no_elements element_in with_element no_operations operation_in with_operation no_timers timer_in with_timer no_slots slot_in with_slot push_request first_request rest_requests push_value first_value rest_values push_area top_area pop_area start_variable start_element start_runnables start_variables start_elements start_of max_of count_of places_of entry_of placed in_range names_there is_server is_queued rises rises_at pairs_well entry_fault is_no_entry place_sound kind_sound config_sound is_no_client client_fits requests_sound values_sound runnable_sound variable_sound is_stored element_sound is_outcome calling_sound done_sound operation_sound timer_sound waits_well life_sound owed_sound area_fits stack_sound is_no_slot slot_sound of_runnable slots_of count_sound times_in holders area_sound is_client queued_as served_as clients_as client_sound queued_sound served_sound called_sound waits_on waiters_of waiter_sound runnables_sound variables_sound elements_sound operations_sound timers_sound slots_sound counts_sound areas_sound clients_sound waiters_sound shaped sound_of rows row_of argues formed part_there queues_as part_own asks_synchronous finished_lets failed_lets life_lets owned_refusal instance_refusal scheduler_refusal refusal_by refusal_of read_variable_of write_variable_of enter_of on_top exit_of read_of updated_of linked accepts fed_element fed_elements feeds is_fed fed_runnables fed write_of invalidate_of is_full full_mask sent_of send_of receive_of requests_full caller_after called call_of poll_of collect_of result_of closing returns is_returned returned_runnables closed answers hand_back_of timeout_of end_of is_due may_spawn starting instance_of is_empty_at lowest_empty found_empty spawned spawn_of tick_of operation_lets timer_lets operations_let timers_let operation_after operations_after timers_after runnables_after all_let waited wait_of fail_of act_of possible_of agrees claimed_of inner_of step_of values_good tested step_in end_in field_of size_of entry_read in_order head_of body_fault refused_at read_from config_of whole_from whole_of each passed_over behind sequences up_to_three choices_in sequences_of fills rank_of answered_all state_after turns_of config_bytes spawn_client call_seven spawn_server wait_fifty times_out back_late ask_timeout ask_nine last_field joined zeros note_of_step note_of_gap turn late_plan whole no_timeout no_spawn no_both false_claim table turns_for is_edition parts_sound has_step marks_invalid top_of most_pending one_more is_no_awaited awaits_well is_no_life is_no_owed is_no_stack ends_waiting waiting_lets held_well asks_waiting slot_lets slots_let slots_after hold_of give_up_of named_there listed_there lists_of has_room lists_well has_field lists_elements listed_below size_in listed_in add_listed copied_sound copies_sound copy_sound has_copy is_no_copy copies_in copy_in lists_at first_listed handed_elements handed_runnables cleared copied_elements copied_into no_copied no_copies
+unfolding all_of all_below any_below sum_below mask_below first_below each_below shifted place_filled filled is_void is_payload is_kind is_mask is_good same_value part_in add_part no_config no_requests no_runnable no_values no_element no_stack no_slot no_places place_in with_place pushed oldest without_oldest push_area top_area pop_area start_variable start_element started start_of max_of count_of places_of entry_of placed in_range names_there is_server is_queued rises rises_at pairs_well entry_fault is_no_entry place_sound kind_sound config_sound is_no_client client_fits requests_sound values_sound runnable_sound variable_sound is_stored element_sound is_outcome calling_sound done_sound operation_sound timer_sound waits_well life_sound owed_sound area_fits stack_sound is_no_slot slot_sound of_runnable slots_of count_sound times_in holders area_sound is_client queued_as served_as clients_as client_sound queued_sound served_sound called_sound waits_on waiters_of waiter_sound runnables_sound variables_sound elements_sound operations_sound timers_sound slots_sound counts_sound areas_sound clients_sound waiters_sound shaped sound_of rows row_of argues formed part_there queues_as part_own asks_synchronous finished_lets failed_lets life_lets owned_refusal instance_refusal scheduler_refusal refusal_by refusal_of read_variable_of write_variable_of enter_of on_top exit_of read_of updated_of linked accepts fed_element fed_elements feeds is_fed fed_runnables fed write_of invalidate_of is_full full_mask sent_of send_of receive_of requests_full caller_after called call_of poll_of collect_of result_of closing returns is_returned returned_runnables closed answers hand_back_of timeout_of end_of is_due may_spawn starting instance_of is_empty_at lowest_empty found_empty spawned spawn_of tick_of operation_lets timer_lets operations_let timers_let operation_after operations_after timers_after runnables_after all_let waited wait_of fail_of act_of possible_of agrees claimed_of inner_of step_of values_good tested step_in end_in field_of size_of entry_read in_order head_of body_fault refused_at read_from config_of whole_from whole_of each passed_over behind sequences up_to_three choices_in sequences_of fills rank_of answered_all state_after turns_of config_bytes spawn_client call_seven spawn_server wait_fifty times_out back_late ask_timeout ask_nine last_field joined zeros note_of_step note_of_gap turn late_plan whole no_timeout no_spawn no_both false_claim table turns_for is_edition parts_sound has_step marks_invalid top_of most_pending one_more is_no_awaited awaits_well is_no_life is_no_owed is_no_stack ends_waiting waiting_lets held_well asks_waiting slot_lets slots_let slots_after hold_of give_up_of named_there listed_there lists_of has_room lists_well has_field lists_elements listed_below size_in copied_sound copies_sound copy_sound has_copy is_no_copy copy_in lists_at first_listed handed_elements handed_runnables cleared copied_elements copied_into no_copies
 late-turns = refl
 
 -- the configuration is read, and its start state is sound
 late-read : (config_of config_bytes).outcome ≡ Read
-unfolding all_of all_below any_below sum_below mask_below first_below each_below shifted place_filled filled is_void is_payload is_kind is_mask is_good same_value runnable_conf_in add_runnable_conf variable_conf_in add_variable_conf area_conf_in add_area_conf required_conf_in add_required_conf provided_conf_in add_provided_conf link_in add_link operation_conf_in add_operation_conf timer_conf_in add_timer_conf data_event_in add_data_event return_event_in add_return_event no_config no_requests no_runnable no_values no_element no_stack no_slot no_runnables runnable_in with_runnable no_variables variable_in with_variable no_areas area_in with_area no_elements element_in with_element no_operations operation_in with_operation no_timers timer_in with_timer no_slots slot_in with_slot push_request first_request rest_requests push_value first_value rest_values push_area top_area pop_area start_variable start_element start_runnables start_variables start_elements start_of max_of count_of places_of entry_of placed in_range names_there is_server is_queued rises rises_at pairs_well entry_fault is_no_entry place_sound kind_sound config_sound is_no_client client_fits requests_sound values_sound runnable_sound variable_sound is_stored element_sound is_outcome calling_sound done_sound operation_sound timer_sound waits_well life_sound owed_sound area_fits stack_sound is_no_slot slot_sound of_runnable slots_of count_sound times_in holders area_sound is_client queued_as served_as clients_as client_sound queued_sound served_sound called_sound waits_on waiters_of waiter_sound runnables_sound variables_sound elements_sound operations_sound timers_sound slots_sound counts_sound areas_sound clients_sound waiters_sound shaped sound_of rows row_of argues formed part_there queues_as part_own asks_synchronous finished_lets failed_lets life_lets owned_refusal instance_refusal scheduler_refusal refusal_by refusal_of read_variable_of write_variable_of enter_of on_top exit_of read_of updated_of linked accepts fed_element fed_elements feeds is_fed fed_runnables fed write_of invalidate_of is_full full_mask sent_of send_of receive_of requests_full caller_after called call_of poll_of collect_of result_of closing returns is_returned returned_runnables closed answers hand_back_of timeout_of end_of is_due may_spawn starting instance_of is_empty_at lowest_empty found_empty spawned spawn_of tick_of operation_lets timer_lets operations_let timers_let operation_after operations_after timers_after runnables_after all_let waited wait_of fail_of act_of possible_of agrees claimed_of inner_of step_of values_good tested step_in end_in field_of size_of entry_read in_order head_of body_fault refused_at read_from config_of config_bytes is_edition parts_sound has_step marks_invalid top_of most_pending one_more is_no_awaited awaits_well is_no_life is_no_owed is_no_stack ends_waiting waiting_lets held_well asks_waiting slot_lets slots_let slots_after hold_of give_up_of whole_from whole_of each passed_over behind sequences up_to_three choices_in sequences_of fills rank_of answered_all state_after turns_of named_there listed_there lists_of has_room lists_well has_field lists_elements listed_below size_in listed_in add_listed copied_sound copies_sound copy_sound has_copy is_no_copy copies_in copy_in lists_at first_listed handed_elements handed_runnables cleared copied_elements copied_into no_copied no_copies
+unfolding all_of all_below any_below sum_below mask_below first_below each_below shifted place_filled filled is_void is_payload is_kind is_mask is_good same_value part_in add_part no_config no_requests no_runnable no_values no_element no_stack no_slot no_places place_in with_place pushed oldest without_oldest push_area top_area pop_area start_variable start_element started start_of max_of count_of places_of entry_of placed in_range names_there is_server is_queued rises rises_at pairs_well entry_fault is_no_entry place_sound kind_sound config_sound is_no_client client_fits requests_sound values_sound runnable_sound variable_sound is_stored element_sound is_outcome calling_sound done_sound operation_sound timer_sound waits_well life_sound owed_sound area_fits stack_sound is_no_slot slot_sound of_runnable slots_of count_sound times_in holders area_sound is_client queued_as served_as clients_as client_sound queued_sound served_sound called_sound waits_on waiters_of waiter_sound runnables_sound variables_sound elements_sound operations_sound timers_sound slots_sound counts_sound areas_sound clients_sound waiters_sound shaped sound_of rows row_of argues formed part_there queues_as part_own asks_synchronous finished_lets failed_lets life_lets owned_refusal instance_refusal scheduler_refusal refusal_by refusal_of read_variable_of write_variable_of enter_of on_top exit_of read_of updated_of linked accepts fed_element fed_elements feeds is_fed fed_runnables fed write_of invalidate_of is_full full_mask sent_of send_of receive_of requests_full caller_after called call_of poll_of collect_of result_of closing returns is_returned returned_runnables closed answers hand_back_of timeout_of end_of is_due may_spawn starting instance_of is_empty_at lowest_empty found_empty spawned spawn_of tick_of operation_lets timer_lets operations_let timers_let operation_after operations_after timers_after runnables_after all_let waited wait_of fail_of act_of possible_of agrees claimed_of inner_of step_of values_good tested step_in end_in field_of size_of entry_read in_order head_of body_fault refused_at read_from config_of config_bytes is_edition parts_sound has_step marks_invalid top_of most_pending one_more is_no_awaited awaits_well is_no_life is_no_owed is_no_stack ends_waiting waiting_lets held_well asks_waiting slot_lets slots_let slots_after hold_of give_up_of whole_from whole_of each passed_over behind sequences up_to_three choices_in sequences_of fills rank_of answered_all state_after turns_of named_there listed_there lists_of has_room lists_well has_field lists_elements listed_below size_in copied_sound copies_sound copy_sound has_copy is_no_copy copy_in lists_at first_listed handed_elements handed_runnables cleared copied_elements copied_into no_copies
 late-read = refl
 
 late-sound : sound_of (config_of config_bytes).config (start_of (config_of config_bytes).config) ≡ true
-unfolding all_of all_below any_below sum_below mask_below first_below each_below shifted place_filled filled is_void is_payload is_kind is_mask is_good same_value runnable_conf_in add_runnable_conf variable_conf_in add_variable_conf area_conf_in add_area_conf required_conf_in add_required_conf provided_conf_in add_provided_conf link_in add_link operation_conf_in add_operation_conf timer_conf_in add_timer_conf data_event_in add_data_event return_event_in add_return_event no_config no_requests no_runnable no_values no_element no_stack no_slot no_runnables runnable_in with_runnable no_variables variable_in with_variable no_areas area_in with_area no_elements element_in with_element no_operations operation_in with_operation no_timers timer_in with_timer no_slots slot_in with_slot push_request first_request rest_requests push_value first_value rest_values push_area top_area pop_area start_variable start_element start_runnables start_variables start_elements start_of max_of count_of places_of entry_of placed in_range names_there is_server is_queued rises rises_at pairs_well entry_fault is_no_entry place_sound kind_sound config_sound is_no_client client_fits requests_sound values_sound runnable_sound variable_sound is_stored element_sound is_outcome calling_sound done_sound operation_sound timer_sound waits_well life_sound owed_sound area_fits stack_sound is_no_slot slot_sound of_runnable slots_of count_sound times_in holders area_sound is_client queued_as served_as clients_as client_sound queued_sound served_sound called_sound waits_on waiters_of waiter_sound runnables_sound variables_sound elements_sound operations_sound timers_sound slots_sound counts_sound areas_sound clients_sound waiters_sound shaped sound_of rows row_of argues formed part_there queues_as part_own asks_synchronous finished_lets failed_lets life_lets owned_refusal instance_refusal scheduler_refusal refusal_by refusal_of read_variable_of write_variable_of enter_of on_top exit_of read_of updated_of linked accepts fed_element fed_elements feeds is_fed fed_runnables fed write_of invalidate_of is_full full_mask sent_of send_of receive_of requests_full caller_after called call_of poll_of collect_of result_of closing returns is_returned returned_runnables closed answers hand_back_of timeout_of end_of is_due may_spawn starting instance_of is_empty_at lowest_empty found_empty spawned spawn_of tick_of operation_lets timer_lets operations_let timers_let operation_after operations_after timers_after runnables_after all_let waited wait_of fail_of act_of possible_of agrees claimed_of inner_of step_of values_good tested step_in end_in field_of size_of entry_read in_order head_of body_fault refused_at read_from config_of config_bytes is_edition parts_sound has_step marks_invalid top_of most_pending one_more is_no_awaited awaits_well is_no_life is_no_owed is_no_stack ends_waiting waiting_lets held_well asks_waiting slot_lets slots_let slots_after hold_of give_up_of whole_from whole_of each passed_over behind sequences up_to_three choices_in sequences_of fills rank_of answered_all state_after turns_of named_there listed_there lists_of has_room lists_well has_field lists_elements listed_below size_in listed_in add_listed copied_sound copies_sound copy_sound has_copy is_no_copy copies_in copy_in lists_at first_listed handed_elements handed_runnables cleared copied_elements copied_into no_copied no_copies
+unfolding all_of all_below any_below sum_below mask_below first_below each_below shifted place_filled filled is_void is_payload is_kind is_mask is_good same_value part_in add_part no_config no_requests no_runnable no_values no_element no_stack no_slot no_places place_in with_place pushed oldest without_oldest push_area top_area pop_area start_variable start_element started start_of max_of count_of places_of entry_of placed in_range names_there is_server is_queued rises rises_at pairs_well entry_fault is_no_entry place_sound kind_sound config_sound is_no_client client_fits requests_sound values_sound runnable_sound variable_sound is_stored element_sound is_outcome calling_sound done_sound operation_sound timer_sound waits_well life_sound owed_sound area_fits stack_sound is_no_slot slot_sound of_runnable slots_of count_sound times_in holders area_sound is_client queued_as served_as clients_as client_sound queued_sound served_sound called_sound waits_on waiters_of waiter_sound runnables_sound variables_sound elements_sound operations_sound timers_sound slots_sound counts_sound areas_sound clients_sound waiters_sound shaped sound_of rows row_of argues formed part_there queues_as part_own asks_synchronous finished_lets failed_lets life_lets owned_refusal instance_refusal scheduler_refusal refusal_by refusal_of read_variable_of write_variable_of enter_of on_top exit_of read_of updated_of linked accepts fed_element fed_elements feeds is_fed fed_runnables fed write_of invalidate_of is_full full_mask sent_of send_of receive_of requests_full caller_after called call_of poll_of collect_of result_of closing returns is_returned returned_runnables closed answers hand_back_of timeout_of end_of is_due may_spawn starting instance_of is_empty_at lowest_empty found_empty spawned spawn_of tick_of operation_lets timer_lets operations_let timers_let operation_after operations_after timers_after runnables_after all_let waited wait_of fail_of act_of possible_of agrees claimed_of inner_of step_of values_good tested step_in end_in field_of size_of entry_read in_order head_of body_fault refused_at read_from config_of config_bytes is_edition parts_sound has_step marks_invalid top_of most_pending one_more is_no_awaited awaits_well is_no_life is_no_owed is_no_stack ends_waiting waiting_lets held_well asks_waiting slot_lets slots_let slots_after hold_of give_up_of whole_from whole_of each passed_over behind sequences up_to_three choices_in sequences_of fills rank_of answered_all state_after turns_of named_there listed_there lists_of has_room lists_well has_field lists_elements listed_below size_in copied_sound copies_sound copy_sound has_copy is_no_copy copy_in lists_at first_listed handed_elements handed_runnables cleared copied_elements copied_into no_copies
 late-sound = refl
 
 -- what turns come to

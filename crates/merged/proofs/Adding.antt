@@ -17,6 +17,7 @@ use Rattle.state.specs.Parts.{no_runnable, no_operation, no_timer, no_awaited, n
 use Rattle.state.specs.Fields.{with_left}
 use Rattle.state.specs.Tables.{max_slots, operation_in, timer_in, slot_in}
 use Rattle.rules.specs.Sound.{is_held}
+use Rattle.state.specs.Places.{place_in}
 use Rattle.effects.specs.Steps.{awaiting, operation_lets, timer_lets, slot_lets, operations_let, timers_let, slots_let, operation_after, timer_after, runnable_after, slot_after, operations_after, timers_after, runnables_after, slots_after, all_let, waited}
 
 -- ---- one count
@@ -66,18 +67,18 @@ module _ (a b : ℕ) where
 
   -- what lets a + b pass lets a pass and then b
   operations-let : (cfg : Config) (os : Operations) → operations_let cfg os (a + b) ≡ both (operations_let cfg os a) (operations_let cfg (operations_after cfg os a) b)
-  unfolding operations_let operations_after operation_in operation_after
+  unfolding operations_let operations_after place_in operation_after
   operations-let cfg os =
       all-twice (λ (k : ℕ). operation_after a) no_operation cfg.operations.n os.at (λ (k : ℕ). operation_lets a) (λ (k : ℕ). operation_lets b) (λ (k : ℕ). operation_lets (a + b)) operation-lets (λ k. refl)
 
   timers-let : (cfg : Config) (ts : Timers) → timers_let cfg ts (a + b) ≡ both (timers_let cfg ts a) (timers_let cfg (timers_after cfg ts a) b)
-  unfolding timers_let timers_after timer_in
+  unfolding timers_let timers_after place_in
   timers-let cfg ts =
       all-twice (λ (k : ℕ). timer_after a) no_timer cfg.timers.n ts.at (λ (k : ℕ). timer_lets a) (λ (k : ℕ). timer_lets b) (λ (k : ℕ). timer_lets (a + b)) timer-lets
       (λ k. ap (λ (n : ℕ). record { count = n }) (omega arith))
 
   slots-let : (ss : Slots) → slots_let ss (a + b) ≡ both (slots_let ss a) (slots_let (slots_after ss a) b)
-  unfolding slots_let slots_after slot_in no_slot
+  unfolding slots_let slots_after place_in no_slot
   slots-let ss =
       all-twice (λ (k : ℕ). slot_after a) no_slot max_slots ss.at (λ (k : ℕ). slot_lets a) (λ (k : ℕ). slot_lets b) (λ (k : ℕ). slot_lets (a + b)) slot-lets
       (λ k. ap (λ (n : ℕ). awaiting no_slot (with_left no_awaited n)) (omega arith))

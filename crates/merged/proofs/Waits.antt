@@ -32,6 +32,7 @@ use Rattle.history.proofs.Runs.{halves, joined}
 use Rattle.history.proofs.Together.{demand3}
 use Rattle.merging.specs.Waits.{wait_for}
 use Rattle.merged.specs.Claims.{WaitsAddUp, WaitsStopAlike, WaitsStopFar, WaitIsBounded, IntervalsStop, WaitsMerge, MergedKeeps}
+use Rattle.state.specs.Places.{place_in}
 use Rattle.merged.proofs.Adding.{lets-add, waited-add}
 
 -- ---- one wait
@@ -112,7 +113,7 @@ wait-is-bounded cfg st t s = (to, from)
         (waited cfg st t, rw (wait-step cfg st t, s, e) ((refl, refl), refl))
 
 pub intervals-stop : IntervalsStop
-unfolding Accepted waited runnables_after runnable_in no_runnable
+unfolding Accepted waited runnables_after place_in no_runnable
 intervals-stop cfg st st' t r h b =
     let e : st' ≡ waited cfg st t = sym h.1 ∙ (told-wait cfg st t h.0).1 in
     rw e (go (dec_lt r (length st.runnables.at)))

@@ -19,6 +19,7 @@ use mathlib.Core.Bool.{true}
 use mathlib.Core.List.{List}
 use Rattle.laws.proofs.Choosing.{both_left, both_right}
 use Rattle.entries.specs.Faults.{in_range}
+use Rattle.config.specs.Table.{add_part, part_in}
 use Rattle.reading.specs.Reading.{entry_read}
 
 -- what holds of each kind holds of any tag between the first and the last
@@ -80,7 +81,7 @@ row-adds {A} {cfg} {cfg'} {tag} entry d x l n b own more was now places rest sam
 
 -- a kind with room: one part more
 pub adds : (cfg : Config) (e : Entry) (tag : ℕ) → 0x10 ≤ tag → tag ≤ last_tag → count_of cfg tag < max_of tag → places_of cfg tag ≡ max_of tag → Adds cfg (placed cfg tag e) tag (back_of tag e)
-unfolding count_of max_of places_of placed entry_of back_of runnable_conf_in add_runnable_conf variable_conf_in add_variable_conf area_conf_in add_area_conf required_conf_in add_required_conf provided_conf_in add_provided_conf link_in add_link operation_conf_in add_operation_conf timer_conf_in add_timer_conf data_event_in add_data_event return_event_in add_return_event listed_in add_listed
+unfolding count_of max_of places_of placed entry_of back_of part_in add_part
 adds cfg e =
     each-kind (λ tag. count_of cfg tag < max_of tag → places_of cfg tag ≡ max_of tag → Adds cfg (placed cfg tag e) tag (back_of tag e))
     (λ h l. rw (lt-ltb cfg.runnables.n 16 h) (row-adds runnable_entry no_runnable_conf (runnable_part e) cfg.runnables.at cfg.runnables.n (omega arith) refl refl (λ i. refl) (λ i. refl) (λ q k. rw q) (λ k n. rw (ne_eqb k 0x10 n) (refl, λ i. refl)) refl))

@@ -23,6 +23,7 @@ use Rattle.reading.specs.Reading.{size_of, size_in, runnable_read, variable_read
 use Rattle.reading.specs.declared.Head.TheVariants.{Field}
 use Rattle.reading.proofs.Ahead.{size-there, Framed}
 use Rattle.reading.proofs.Adding.{each-kind}
+use Rattle.config.specs.Table.{part_in}
 use Rattle.writing.specs.Writing.{runnable_bytes, variable_bytes, area_bytes, operation_bytes, timer_bytes, pair_bytes, entry_bytes}
 
 -- ---- written, then read
@@ -86,7 +87,7 @@ period-fits e h = time-fits e.number h
 
 pub part-fits : (cfg : Config) → ((i : ℕ) → (get_or cfg.variables.at i no_variable_conf).initial < 2 ^ 32)
     → (tag : ℕ) → 0x10 ≤ tag → tag ≤ last_tag → (i : ℕ) → in_range tag (entry_of cfg tag i) ≡ true → (entry_of cfg tag i).number < 2 ^ 32
-unfolding entry_of variable_conf_in
+unfolding entry_of part_in
 part-fits cfg v =
     each-kind (λ tag. (i : ℕ) → in_range tag (entry_of cfg tag i) ≡ true → (entry_of cfg tag i).number < 2 ^ 32)
     (λ i h. interval-fits (entry_of cfg 0x10 i) h)

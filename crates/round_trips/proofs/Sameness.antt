@@ -14,33 +14,34 @@ use Rattle.laws.specs.Choice.{bit}
 use Rattle.laws.proofs.Choosing.{bit-back}
 use Rattle.laws.proofs.Places.{past}
 use Rattle.config.specs.declared.RunnableConf.{RunnableConf}
-use Rattle.config.specs.declared.RunnableConfs.{RunnableConfs}
+use Rattle.config.specs.Tables.{RunnableConfs}
 use Rattle.config.specs.declared.VariableConf.{VariableConf}
-use Rattle.config.specs.declared.VariableConfs.{VariableConfs}
+use Rattle.config.specs.Tables.{VariableConfs}
 use Rattle.config.specs.declared.AreaConf.{AreaConf}
-use Rattle.config.specs.declared.AreaConfs.{AreaConfs}
+use Rattle.config.specs.Tables.{AreaConfs}
 use Rattle.config.specs.declared.RequiredConf.{RequiredConf}
-use Rattle.config.specs.declared.RequiredConfs.{RequiredConfs}
+use Rattle.config.specs.Tables.{RequiredConfs}
 use Rattle.config.specs.declared.ProvidedConf.{ProvidedConf}
-use Rattle.config.specs.declared.ProvidedConfs.{ProvidedConfs}
+use Rattle.config.specs.Tables.{ProvidedConfs}
 use Rattle.config.specs.declared.Link.{Link}
-use Rattle.config.specs.declared.Links.{Links}
+use Rattle.config.specs.Tables.{Links}
 use Rattle.config.specs.declared.OperationConf.{OperationConf}
-use Rattle.config.specs.declared.OperationConfs.{OperationConfs}
+use Rattle.config.specs.Tables.{OperationConfs}
 use Rattle.config.specs.declared.TimerConf.{TimerConf}
-use Rattle.config.specs.declared.TimerConfs.{TimerConfs}
+use Rattle.config.specs.Tables.{TimerConfs}
 use Rattle.config.specs.declared.DataEvent.{DataEvent}
-use Rattle.config.specs.declared.DataEvents.{DataEvents}
+use Rattle.config.specs.Tables.{DataEvents}
 use Rattle.config.specs.declared.ReturnEvent.{ReturnEvent}
-use Rattle.config.specs.declared.ReturnEvents.{ReturnEvents}
+use Rattle.config.specs.Tables.{ReturnEvents}
 use Rattle.config.specs.declared.Listed.{Listed}
-use Rattle.config.specs.declared.Lists.{Lists}
+use Rattle.config.specs.Tables.{Lists}
 use Rattle.config.specs.declared.Config.{Config}
 use Rattle.config.specs.Tables.{runnable_conf_in, no_runnable_conf, variable_conf_in, no_variable_conf, area_conf_in, no_area_conf, required_conf_in, no_required_conf, provided_conf_in, no_provided_conf, link_in, no_link, operation_conf_in, no_operation_conf, timer_conf_in, no_timer_conf, data_event_in, no_data_event, return_event_in, no_return_event, listed_in, no_listed}
 use Rattle.entries.specs.declared.Entry.{Entry}
 use Rattle.entries.specs.Entries.{no_entry, max_of, count_of, places_of, entry_of, runnable_entry, runnable_part, variable_entry, variable_part, area_entry, area_part, required_entry, required_part, provided_entry, provided_part, link_entry, link_part, operation_entry, operation_part, timer_entry, timer_part, data_event_entry, data_event_part, return_event_entry, return_event_part, listed_entry, listed_part}
 use Rattle.entries.specs.Faults.{is_no_entry, config_sound}
 use Rattle.entries.proofs.Kind.{blank-told, config-told}
+use Rattle.config.specs.Table.{part_in}
 use Rattle.reading.proofs.Adding.{each-kind}
 
 -- ---- an entry holds all of its part
@@ -84,62 +85,62 @@ pub record Agree (p q : Config) (k : ℕ) : Type 0 where
 
 module _ (p q : Config) where
   same-runnables : Agree p q 0x10 → p.runnables ≡ q.runnables
-  unfolding count_of places_of entry_of runnable_conf_in
+  unfolding count_of places_of entry_of part_in
   same-runnables a =
       ap₂ (λ (n : ℕ) (l : List RunnableConf). record { n = n; at = l }) a.counts (same_rows runnable_entry runnable_part runnable-back no_runnable_conf p.runnables.at q.runnables.at a.places a.entries)
 
   same-variables : Agree p q 0x11 → p.variables ≡ q.variables
-  unfolding count_of places_of entry_of variable_conf_in
+  unfolding count_of places_of entry_of part_in
   same-variables a =
       ap₂ (λ (n : ℕ) (l : List VariableConf). record { n = n; at = l }) a.counts (same_rows variable_entry variable_part variable-back no_variable_conf p.variables.at q.variables.at a.places a.entries)
 
   same-areas : Agree p q 0x12 → p.areas ≡ q.areas
-  unfolding count_of places_of entry_of area_conf_in
+  unfolding count_of places_of entry_of part_in
   same-areas a =
       ap₂ (λ (n : ℕ) (l : List AreaConf). record { n = n; at = l }) a.counts (same_rows area_entry area_part (λ x. refl) no_area_conf p.areas.at q.areas.at a.places a.entries)
 
   same-requireds : Agree p q 0x13 → p.required ≡ q.required
-  unfolding count_of places_of entry_of required_conf_in
+  unfolding count_of places_of entry_of part_in
   same-requireds a =
       ap₂ (λ (n : ℕ) (l : List RequiredConf). record { n = n; at = l }) a.counts (same_rows required_entry required_part (λ x. refl) no_required_conf p.required.at q.required.at a.places a.entries)
 
   same-provideds : Agree p q 0x14 → p.provided ≡ q.provided
-  unfolding count_of places_of entry_of provided_conf_in
+  unfolding count_of places_of entry_of part_in
   same-provideds a =
       ap₂ (λ (n : ℕ) (l : List ProvidedConf). record { n = n; at = l }) a.counts (same_rows provided_entry provided_part provided-back no_provided_conf p.provided.at q.provided.at a.places a.entries)
 
   same-links : Agree p q 0x15 → p.links ≡ q.links
-  unfolding count_of places_of entry_of link_in
+  unfolding count_of places_of entry_of part_in
   same-links a =
       ap₂ (λ (n : ℕ) (l : List Link). record { n = n; at = l }) a.counts (same_rows link_entry link_part (λ x. refl) no_link p.links.at q.links.at a.places a.entries)
 
   same-operations : Agree p q 0x16 → p.operations ≡ q.operations
-  unfolding count_of places_of entry_of operation_conf_in
+  unfolding count_of places_of entry_of part_in
   same-operations a =
       ap₂ (λ (n : ℕ) (l : List OperationConf). record { n = n; at = l }) a.counts (same_rows operation_entry operation_part operation-back no_operation_conf p.operations.at q.operations.at a.places a.entries)
 
   same-timers : Agree p q 0x17 → p.timers ≡ q.timers
-  unfolding count_of places_of entry_of timer_conf_in
+  unfolding count_of places_of entry_of part_in
   same-timers a =
       ap₂ (λ (n : ℕ) (l : List TimerConf). record { n = n; at = l }) a.counts (same_rows timer_entry timer_part (λ x. refl) no_timer_conf p.timers.at q.timers.at a.places a.entries)
 
   same-data-events : Agree p q 0x18 → p.devents ≡ q.devents
-  unfolding count_of places_of entry_of data_event_in
+  unfolding count_of places_of entry_of part_in
   same-data-events a =
       ap₂ (λ (n : ℕ) (l : List DataEvent). record { n = n; at = l }) a.counts (same_rows data_event_entry data_event_part (λ x. refl) no_data_event p.devents.at q.devents.at a.places a.entries)
 
   same-return-events : Agree p q 0x19 → p.revents ≡ q.revents
-  unfolding count_of places_of entry_of return_event_in
+  unfolding count_of places_of entry_of part_in
   same-return-events a =
       ap₂ (λ (n : ℕ) (l : List ReturnEvent). record { n = n; at = l }) a.counts (same_rows return_event_entry return_event_part (λ x. refl) no_return_event p.revents.at q.revents.at a.places a.entries)
 
   same-incoming : Agree p q 0x1a → p.incoming ≡ q.incoming
-  unfolding count_of places_of entry_of listed_in
+  unfolding count_of places_of entry_of part_in
   same-incoming a =
       ap₂ (λ (n : ℕ) (l : List Listed). record { n = n; at = l }) a.counts (same_rows listed_entry listed_part (λ x. refl) no_listed p.incoming.at q.incoming.at a.places a.entries)
 
   same_outgoing : Agree p q 0x1b → p.outgoing ≡ q.outgoing
-  unfolding count_of places_of entry_of listed_in
+  unfolding count_of places_of entry_of part_in
   same_outgoing a =
       ap₂ (λ (n : ℕ) (l : List Listed). record { n = n; at = l }) a.counts (same_rows listed_entry listed_part (λ x. refl) no_listed p.outgoing.at q.outgoing.at a.places a.entries)
 
@@ -175,7 +176,7 @@ is-blank : (e : Entry) → is_no_entry e ≡ true → e ≡ no_entry
 is-blank e h = let z = blank-told e h in λ i. record { first = z.first i; second = z.second i; third = z.third i; number = z.number i }
 
 past-places : (cfg : Config) (k : ℕ) → 0x10 ≤ k → k ≤ last_tag → (n : ℕ) → places_of cfg k ≤ n → entry_of cfg k n ≡ no_entry
-unfolding places_of entry_of runnable_conf_in variable_conf_in area_conf_in required_conf_in provided_conf_in link_in operation_conf_in timer_conf_in data_event_in return_event_in listed_in
+unfolding places_of entry_of part_in
 past-places cfg =
     each-kind (λ k. (n : ℕ) → places_of cfg k ≤ n → entry_of cfg k n ≡ no_entry)
     (λ n h. ap runnable_entry (past cfg.runnables.at n (length cfg.runnables.at) no_runnable_conf refl h))

@@ -15,6 +15,7 @@ use Rattle.faces.specs.Types.{Config, RunnableConf, RequiredConf}
 use Rattle.config.specs.Tables.{no_runnable_conf, no_required_conf, runnable_conf_in, required_conf_in, provided_conf_in, link_in, operation_conf_in, timer_conf_in, data_event_in, return_event_in, listed_in}
 use Rattle.entries.specs.Entries.{max_of, count_of, places_of, entry_of, flags_of}
 use Rattle.entries.specs.Faults.{lists_well, in_range, names_there, is_server, is_queued, pairs_well, config_sound}
+use Rattle.config.specs.Table.{part_in}
 use Rattle.entries.proofs.Kind.{Well, fault-told, Blank, blank-told, Kind, config-told}
 
 -- ---- any kind, by its tag
@@ -61,7 +62,7 @@ module _ (cfg : Config) (h : config_sound cfg ≡ true) where
 
   -- not in use: every field is blank
   pub runnable-blank : (r : ℕ) → cfg.runnables.n ≤ r → runnable_conf_in cfg.runnables r ≡ no_runnable_conf
-  unfolding count_of max_of entry_of places_of runnable_conf_in
+  unfolding count_of max_of entry_of places_of part_in
   runnable-blank r l = go (dec_lt r 16)
     where
       flags : (x : RunnableConf) → x.component ≡ 0 → flags_of x ≡ 0 → x.capacity ≡ 0 → x.interval ≡ 0 → x ≡ no_runnable_conf
@@ -116,7 +117,7 @@ module _ (cfg : Config) (h : config_sound cfg ≡ true) where
   -- ---- required elements
 
   pub required-blank : (q : ℕ) → cfg.required.n ≤ q → required_conf_in cfg.required q ≡ no_required_conf
-  unfolding count_of max_of entry_of places_of required_conf_in
+  unfolding count_of max_of entry_of places_of part_in
   required-blank q l = go (dec_lt q 16)
     where
       go : Dec (q < 16) → required_conf_in cfg.required q ≡ no_required_conf

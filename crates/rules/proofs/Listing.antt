@@ -11,7 +11,7 @@ use Rattle.laws.specs.Choice.{both}
 use Rattle.laws.specs.Loop.{first_below}
 use Rattle.laws.proofs.Choosing.{clash, both_left, both_right}
 use Rattle.laws.proofs.Looping.{first-is}
-use Rattle.config.specs.declared.Lists.{Lists}
+use Rattle.config.specs.Tables.{Lists}
 use Rattle.config.specs.Tables.{listed_in}
 use Rattle.config.specs.Lists.{first_listed, lists_at, element_at, place_of, is_listed}
 

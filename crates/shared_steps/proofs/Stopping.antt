@@ -14,6 +14,7 @@ use Rattle.laws.specs.Row.{each_below}
 use Rattle.laws.proofs.Places.{inside, each-length, each_more}
 use Rattle.faces.specs.Types.{Runnable, Runnables, Element, Elements}
 use Rattle.state.specs.Parts.{no_element}
+use Rattle.state.specs.Places.{place_in}
 use Rattle.state.specs.Tables.{element_in}
 
 -- ---- a row that ends at m
@@ -50,5 +51,5 @@ pub elements-made : {u : Elements} {l : List Element} → u.at ≡ l → ◌≡�
 elements-made h = rw (← h)
 
 pub element-here : (t : Elements) (i : ℕ) (d : Element) → length t.at ≡ 16 → i < 16 → get_or t.at i d ≡ element_in t i
-unfolding element_in
+unfolding place_in
 element-here t i d e l = inside t.at i 16 d no_element e l

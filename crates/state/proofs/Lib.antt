@@ -1,2 +1,2 @@
--- Laws that the proofs of this crate cite.
-pub mod Ends
+-- Laws of the state's arrays.
+mod Turning

@@ -2,9 +2,7 @@
 -- Assumes nothing.
 use Rattle.std.specs.Prelude.{ℕ, Bool, true, false}
 use Rattle.values.specs.declared.Value.{Value}
-use Rattle.state.specs.declared.Requests.{Requests}
 use Rattle.state.specs.declared.Runnable.{Runnable}
-use Rattle.state.specs.declared.Values.{Values}
 use Rattle.state.specs.declared.Element.{Element}
 use Rattle.state.specs.declared.Operation.{Operation}
 use Rattle.state.specs.declared.Awaited.{Awaited}
@@ -12,7 +10,7 @@ use Rattle.state.specs.declared.Life.{Life}
 use Rattle.state.specs.declared.Owed.{Owed}
 use Rattle.state.specs.declared.Stack.{Stack}
 use Rattle.state.specs.declared.Slot.{Slot}
-use Rattle.state.specs.Parts.{no_awaited}
+use Rattle.state.specs.Parts.{Requests, Values, no_awaited}
 
 -- ---- of a runnable
 

@@ -4,11 +4,11 @@ use Rattle.std.specs.Prelude.{ℕ, false, replicate}
 use Rattle.config.specs.Tables.{max_area_confs, max_capacity, max_listed}
 use Rattle.values.specs.Values.{void_v, never_received_v}
 use Rattle.state.specs.declared.Client.{Client}
-use Rattle.state.specs.declared.Requests.{Requests}
+use Rattle.state.specs.declared.Queue.{Queue}
 use Rattle.state.specs.declared.Runnable.{Runnable}
 use Rattle.state.specs.declared.Variable.{Variable}
 use Rattle.state.specs.declared.Area.{Area}
-use Rattle.state.specs.declared.Values.{Values}
+use Rattle.values.specs.declared.Value.{Value}
 use Rattle.state.specs.declared.Element.{Element}
 use Rattle.state.specs.declared.Operation.{Operation}
 use Rattle.state.specs.declared.Timer.{Timer}
@@ -26,6 +26,10 @@ no_client = record { operation = 0; number = 0; argument = void_v }
 -- a queue of requests has as many places as a capacity may be ("The files", below the table)
 abbrev pub max_requests : ℕ
 max_requests = max_capacity
+
+-- the requests that wait at a server, oldest first ("The parts, and how many")
+abbrev pub Requests : Type 0
+Requests = Queue Client
 
 -- an empty queue of requests ("A sound state", unused places)
 unfoldable pub no_requests : Requests
@@ -46,6 +50,10 @@ no_area = record { taken = false }
 -- a queue of values has as many places as a capacity may be ("The files", below the table)
 abbrev pub max_values : ℕ
 max_values = max_capacity
+
+-- the values that wait in a queued element, oldest first ("The parts, and how many")
+abbrev pub Values : Type 0
+Values = Queue Value
 
 -- an empty queue of values ("A sound state", unused places)
 unfoldable pub no_values : Values

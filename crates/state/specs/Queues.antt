@@ -5,43 +5,56 @@ use Rattle.std.specs.Prelude.{ℕ, ◌+◌, ◌-◌, ◌%◌, slice_index, slice
 use Rattle.laws.specs.Row.{shifted}
 use Rattle.values.specs.Values.{void_v}
 use Rattle.values.specs.declared.Value.{Value}
-use Rattle.state.specs.Parts.{no_client}
+use Rattle.state.specs.Parts.{Requests, Values, no_client}
 use Rattle.state.specs.declared.Client.{Client}
-use Rattle.state.specs.declared.Requests.{Requests}
-use Rattle.state.specs.declared.Values.{Values}
+use Rattle.state.specs.declared.Queue.{Queue}
 use Rattle.state.specs.declared.Stack.{Stack}
 
 -- a count of one more
 abbrev pub up_one : ℕ → ℕ
 up_one n = (n + 1) % 256
 
+-- ---- a queue of anything
+
+-- one more, at the end ("The eighteen steps", 10 and 11)
+unfoldable pub pushed : {A : Type 0} → Queue A → A → Queue A
+pushed q x = record { queued = up_one q.queued; at = slice_set q.at q.queued x }
+
+-- the oldest ("The eighteen steps", 9 and 15)
+unfoldable pub oldest : {A : Type 0} → A → Queue A → A
+oldest b q = slice_index_or q.at 0 b
+
+-- the oldest taken, each other one place down ("The eighteen steps", 9 and 15)
+unfoldable pub without_oldest : {A : Type 0} → A → Queue A → Queue A
+without_oldest b q = record { queued = q.queued - 1; at = shifted b q.at }
+
 -- ---- requests
 
 -- one request more, at the end ("The eighteen steps", Call)
-unfoldable pub push_request : Requests → Client → Requests
-push_request q c = record { queued = up_one q.queued; at = slice_set q.at q.queued c }
+abbrev pub push_request : Requests → Client → Requests
+push_request q c = pushed q c
 
 -- the oldest request ("The eighteen steps", Spawn)
-unfoldable pub first_request : Requests → Client
-first_request q = slice_index_or q.at 0 no_client
+abbrev pub first_request : Requests → Client
+first_request q = oldest no_client q
 
 -- the oldest request taken, each other one place down ("The eighteen steps", Spawn)
-unfoldable pub rest_requests : Requests → Requests
-rest_requests q = record { queued = q.queued - 1; at = shifted no_client q.at }
+abbrev pub rest_requests : Requests → Requests
+rest_requests q = without_oldest no_client q
 
 -- ---- values
 
 -- one value more, at the end ("The eighteen steps", 10)
-unfoldable pub push_value : Values → Value → Values
-push_value q v = record { queued = up_one q.queued; at = slice_set q.at q.queued v }
+abbrev pub push_value : Values → Value → Values
+push_value q v = pushed q v
 
 -- the oldest value ("The eighteen steps", 9)
-unfoldable pub first_value : Values → Value
-first_value q = slice_index_or q.at 0 void_v
+abbrev pub first_value : Values → Value
+first_value q = oldest void_v q
 
 -- the oldest value taken, each other one place down ("The eighteen steps", 9)
-unfoldable pub rest_values : Values → Values
-rest_values q = record { queued = q.queued - 1; at = shifted void_v q.at }
+abbrev pub rest_values : Values → Values
+rest_values q = without_oldest void_v q
 
 -- ---- areas
 

@@ -2,19 +2,100 @@
 // A table is read by `get`, which gives the blank part past its end, and changed by `with`, which changes nothing there.
 #![tactic(auto)]
 
-ghost use Rattle.std.specs.Prelude.{◌≡◌, ◌-◌, slice_index_or};
-ghost use Rattle.state.specs.Tables.{runnable_in, variable_in, area_in, element_in, operation_in, timer_in, slot_in, copy_in, copies_in, with_copy, with_copies, with_runnable, with_variable, with_area, with_element, with_operation, with_timer, with_slot};
-ghost use Rattle.state.specs.Queues.{up_one, push_request, first_request, rest_requests, push_value, first_value, rest_values, push_area, top_area, pop_area};
-ghost use Rattle.state.specs.Start.{start_runnable, start_variable, start_element, start_runnables, start_variables, start_elements, start_of};
+ghost use Rattle.std.specs.Prelude.{◌≡◌, ◌-◌, slice_index_or, slice_set};
 ghost use Rattle.laws.specs.Row.{shifted};
-ghost use Rattle.state.specs.Parts.{no_client};
-ghost use Rattle.values.specs.Values.{void_v};
+ghost use Rattle.state.specs.Places.{no_places, place_in, with_place};
+ghost use Rattle.state.specs.Parts.{no_client, no_runnable, no_variable, no_area, no_element, no_operation, no_timer, no_slot, no_copies};
+ghost use Rattle.state.specs.Tables.{copy_in, with_copy};
+ghost use Rattle.state.specs.Queues.{up_one, pushed, oldest, without_oldest, push_area, top_area, pop_area};
+ghost use Rattle.state.specs.Start.{start_runnable, start_variable, start_element, started, start_of};
 
 use config::{
-    AreaConfs, Config, Lists, OperationConfs, RequiredConf, RequiredConfs, RunnableConf,
-    RunnableConfs, TimerConfs, VariableConf, VariableConfs,
+    AreaConf, AreaConfs, Config, Lists, OperationConf, RequiredConf, RunnableConf, Table,
+    TimerConf, VariableConf,
 };
-use values::{Answer, Value};
+use values::{Answer, Part, Value};
+
+// The parts of a kind, each at its number.
+#[derive(Clone, Copy)]
+pub struct Places<T, const N: usize> {
+    pub at: [T; N],
+}
+
+impl<T: Part, const N: usize> Places<T, N> {
+    // The table of blank parts.
+    #[tactic(auto, unfolding(crate::specs::Places::no_places))]
+    pub fn none() -> Places<T, N>
+        ensures { result ≡ no_places T.blank }
+    {
+        Places {
+            at: [T::blank(); N],
+        }
+    }
+
+    // What stands at place i, or the blank part past the last place.
+    #[tactic(auto, unfolding(crate::specs::Places::place_in))]
+    pub fn get(self, i: u8) -> T
+        ensures { result ≡ place_in T.blank self i }
+    {
+        entry(self.at, i, T::blank())
+    }
+
+    // The table with x at place i; nothing changes past the last place.
+    #[tactic(auto, unfolding(crate::specs::Places::with_place))]
+    pub fn with(self, i: u8, x: T) -> Places<T, N>
+        ensures { result ≡ with_place self i x }
+    {
+        Places {
+            at: put(self.at, i, x),
+        }
+    }
+}
+
+// What waits, oldest first; the first `queued` places are in use.
+#[derive(Clone, Copy)]
+pub struct Queue<T> {
+    pub queued: u8,
+    pub at: [T; PLACES],
+}
+
+impl<T: Part> Queue<T> {
+    // What stands at place j, or the blank part past the last place.
+    pub fn get(self, j: u8) -> T
+        ensures { result ≡ slice_index_or self.at j T.blank }
+    {
+        entry(self.at, j, T::blank())
+    }
+
+    // One more, at the end.
+    #[tactic(auto, unfolding(crate::specs::Queues::pushed))]
+    pub fn push(self, x: T) -> Queue<T>
+        ensures { result ≡ pushed self x }
+    {
+        Queue {
+            queued: up_one(self.queued),
+            at: put(self.at, self.queued, x),
+        }
+    }
+
+    #[tactic(auto, unfolding(crate::specs::Queues::oldest))]
+    pub fn first(self) -> T
+        ensures { result ≡ oldest T.blank self }
+    {
+        self.get(0)
+    }
+
+    // The oldest taken.
+    #[tactic(auto, unfolding(crate::specs::Queues::without_oldest))]
+    pub fn rest(self) -> Queue<T>
+        ensures { result ≡ without_oldest T.blank self }
+    {
+        Queue {
+            queued: down_one(self.queued),
+            at: shifted(self.at, T::blank()),
+        }
+    }
+}
 
 // A client: the operation called, the number of the call, and what the caller handed over.
 #[derive(Clone, Copy)]
@@ -32,66 +113,24 @@ impl Client {
     };
 }
 
-// The requests that wait at a server, oldest first; the first `queued` places are in use.
-#[derive(Clone, Copy)]
-pub struct Requests {
-    pub queued: u8,
-    pub at: [Client; Requests::MAX],
-}
+impl Part for Client {
+    ghost blank = { no_client };
 
-impl Requests {
-    pub const MAX: usize = config::MAX_CAPACITY as usize;
-
-    const LAST: usize = Requests::MAX - 1;
-
-    pub const BLANK: Requests = Requests {
-        queued: 0,
-        at: [Client::BLANK; Requests::MAX],
-    };
-
-    // What stands at place j, or the blank client past the last place.
-    pub fn get(self, j: u8) -> Client
-        ensures { result ≡ slice_index_or self.at j no_client }
-    {
-        let k = j as usize;
-        if k < Requests::MAX {
-            return self.at[k];
-        }
+    fn blank() -> Client {
         Client::BLANK
     }
+}
 
-    // One more, at the end.
-    pub fn push(self, c: Client) -> Requests
-        ensures { result ≡ push_request self c }
-    {
-        let n = self.queued;
-        let k = n as usize;
-        let mut t = self;
-        t.queued = up_one(n);
-        if k < Requests::MAX {
-            t.at[k] = c;
-            return t;
-        }
-        t
-    }
+// The requests that wait at a server, oldest first; the first `queued` places are in use.
+pub type Requests = Queue<Client>;
 
-    pub fn first(self) -> Client
-        ensures { result ≡ first_request self }
-    {
-        self.at[0]
-    }
+impl Requests {
+    pub const MAX: usize = PLACES;
 
-    // The oldest taken.
-    pub fn rest(self) -> Requests
-        ensures { result ≡ rest_requests self }
-    {
-        let l = self.at;
-        let t = shift_clients(l);
-        Requests {
-            queued: down_one(self.queued),
-            at: t,
-        }
-    }
+    pub const BLANK: Requests = Queue {
+        queued: 0,
+        at: [Client::BLANK; PLACES],
+    };
 }
 
 // The state of a runnable: what is left of its start interval, how many activations are pending, how many instances it has, and its requests.
@@ -112,6 +151,15 @@ impl Runnable {
     };
 }
 
+impl Part for Runnable {
+    ghost blank = { no_runnable };
+
+    #[tactic(auto, unfolding(crate::specs::Parts::no_runnable, crate::specs::Parts::no_requests))]
+    fn blank() -> Runnable {
+        Runnable::BLANK
+    }
+}
+
 #[derive(Clone, Copy)]
 pub struct Variable {
     pub value: Value,
@@ -119,6 +167,14 @@ pub struct Variable {
 
 impl Variable {
     pub const BLANK: Variable = Variable { value: Value::VOID };
+}
+
+impl Part for Variable {
+    ghost blank = { no_variable };
+
+    fn blank() -> Variable {
+        Variable::BLANK
+    }
 }
 
 #[derive(Clone, Copy)]
@@ -130,55 +186,24 @@ impl Area {
     pub const BLANK: Area = Area { taken: false };
 }
 
-// The values that wait in a queued element, oldest first; the first `queued` places are in use.
-#[derive(Clone, Copy)]
-pub struct Values {
-    pub queued: u8,
-    pub at: [Value; Values::MAX],
+impl Part for Area {
+    ghost blank = { no_area };
+
+    fn blank() -> Area {
+        Area::BLANK
+    }
 }
 
+// The values that wait in a queued element, oldest first; the first `queued` places are in use.
+pub type Values = Queue<Value>;
+
 impl Values {
-    pub const MAX: usize = config::MAX_CAPACITY as usize;
+    pub const MAX: usize = PLACES;
 
-    const LAST: usize = Values::MAX - 1;
-
-    pub const BLANK: Values = Values {
+    pub const BLANK: Values = Queue {
         queued: 0,
-        at: [Value::VOID; Values::MAX],
+        at: [Value::VOID; PLACES],
     };
-
-    // One more, at the end.
-    pub fn push(self, v: Value) -> Values
-        ensures { result ≡ push_value self v }
-    {
-        let n = self.queued;
-        let k = n as usize;
-        let mut t = self;
-        t.queued = up_one(n);
-        if k < Values::MAX {
-            t.at[k] = v;
-            return t;
-        }
-        t
-    }
-
-    pub fn first(self) -> Value
-        ensures { result ≡ first_value self }
-    {
-        self.at[0]
-    }
-
-    // The oldest taken.
-    pub fn rest(self) -> Values
-        ensures { result ≡ rest_values self }
-    {
-        let l = self.at;
-        let t = shift_values(l);
-        Values {
-            queued: down_one(self.queued),
-            at: t,
-        }
-    }
 }
 
 // The state of a required element: the value and the flag of an unqueued one, the queue of a queued one.
@@ -195,6 +220,15 @@ impl Element {
         updated: false,
         queue: Values::BLANK,
     };
+}
+
+impl Part for Element {
+    ghost blank = { no_element };
+
+    #[tactic(auto, unfolding(crate::specs::Parts::no_element, crate::specs::Parts::no_values))]
+    fn blank() -> Element {
+        Element::BLANK
+    }
 }
 
 // The state of an operation: the number of its next or open call; Calling with a count, or Done with a value.
@@ -215,6 +249,14 @@ impl Operation {
     };
 }
 
+impl Part for Operation {
+    ghost blank = { no_operation };
+
+    fn blank() -> Operation {
+        Operation::BLANK
+    }
+}
+
 #[derive(Clone, Copy)]
 pub struct Timer {
     pub count: u32,
@@ -222,6 +264,14 @@ pub struct Timer {
 
 impl Timer {
     pub const BLANK: Timer = Timer { count: 0 };
+}
+
+impl Part for Timer {
+    ghost blank = { no_timer };
+
+    fn blank() -> Timer {
+        Timer::BLANK
+    }
 }
 
 // What an instance waits for: the tag of its kind of part, 0 while it waits for nothing, its number, and how long at most, for data alone.
@@ -282,46 +332,36 @@ pub struct Stack {
 impl Stack {
     pub const BLANK: Stack = Stack {
         held: 0,
-        at: [0; AreaConfs::MAX],
+        at: [0; AreaConf::MAX],
     };
 
+    #[tactic(auto, unfolding(crate::specs::Queues::push_area))]
     pub fn push(self, a: u8) -> Stack
         ensures { result ≡ push_area self a }
     {
-        let n = self.held;
-        let k = n as usize;
-        let mut t = self;
-        t.held = up_one(n);
-        if k < AreaConfs::MAX {
-            t.at[k] = a;
-            return t;
+        Stack {
+            held: up_one(self.held),
+            at: put(self.at, self.held, a),
         }
-        t
     }
 
     // The last entered.
+    #[tactic(auto, unfolding(crate::specs::Queues::top_area))]
     pub fn top(self) -> u8
         ensures { result ≡ top_area self }
     {
-        let k = down_one(self.held) as usize;
-        if k < AreaConfs::MAX {
-            return self.at[k];
-        }
-        0
+        entry(self.at, down_one(self.held), 0)
     }
 
+    #[tactic(auto, unfolding(crate::specs::Queues::pop_area))]
     pub fn pop(self) -> Stack
         ensures { result ≡ pop_area self }
     {
         let n = down_one(self.held);
-        let k = n as usize;
-        let mut t = self;
-        t.held = n;
-        if k < AreaConfs::MAX {
-            t.at[k] = 0;
-            return t;
+        Stack {
+            held: n,
+            at: put(self.at, n, 0),
         }
-        t
     }
 }
 
@@ -334,6 +374,33 @@ pub struct Slot {
     pub stack: Stack,
 }
 
+impl Part for Slot {
+    ghost blank = { no_slot };
+
+    #[tactic(auto, unfolding(crate::specs::Parts::no_slot, crate::specs::Parts::no_stack))]
+    fn blank() -> Slot {
+        Slot::BLANK
+    }
+}
+
+// The runnables, by their numbers.
+pub type Runnables = Places<Runnable, { RunnableConf::MAX }>;
+
+// The variables, by their numbers.
+pub type Variables = Places<Variable, { VariableConf::MAX }>;
+
+// The exclusive areas, by their numbers.
+pub type Areas = Places<Area, { AreaConf::MAX }>;
+
+// The required elements, by their numbers.
+pub type Elements = Places<Element, { RequiredConf::MAX }>;
+
+// The operations, by their numbers.
+pub type Operations = Places<Operation, { OperationConf::MAX }>;
+
+// The timers, by their numbers.
+pub type Timers = Places<Timer, { TimerConf::MAX }>;
+
 impl Slot {
     pub const BLANK: Slot = Slot {
         used: false,
@@ -341,232 +408,16 @@ impl Slot {
         owed: Owed::BLANK,
         stack: Stack::BLANK,
     };
-}
 
-// The runnables, by their numbers.
-#[derive(Clone, Copy)]
-pub struct Runnables {
-    pub at: [Runnable; RunnableConfs::MAX],
-}
-
-impl Runnables {
-    // What stands at place i, or the blank part past the last place.
-    pub fn get(self, i: u8) -> Runnable
-        ensures { result ≡ runnable_in self i }
-    {
-        let k = i as usize;
-        if k < RunnableConfs::MAX {
-            return self.at[k];
-        }
-        Runnable::BLANK
-    }
-
-    // The table with x at place i; nothing changes past the last place.
-    pub fn with(self, i: u8, x: Runnable) -> Runnables
-        ensures { result ≡ with_runnable self i x }
-    {
-        let k = i as usize;
-        if k < RunnableConfs::MAX {
-            let mut t = self;
-            t.at[k] = x;
-            return t;
-        }
-        self
-    }
-}
-
-// The variables, by their numbers.
-#[derive(Clone, Copy)]
-pub struct Variables {
-    pub at: [Variable; VariableConfs::MAX],
-}
-
-impl Variables {
-    // What stands at place i, or the blank part past the last place.
-    pub fn get(self, i: u8) -> Variable
-        ensures { result ≡ variable_in self i }
-    {
-        let k = i as usize;
-        if k < VariableConfs::MAX {
-            return self.at[k];
-        }
-        Variable::BLANK
-    }
-
-    // The table with x at place i; nothing changes past the last place.
-    pub fn with(self, i: u8, x: Variable) -> Variables
-        ensures { result ≡ with_variable self i x }
-    {
-        let k = i as usize;
-        if k < VariableConfs::MAX {
-            let mut t = self;
-            t.at[k] = x;
-            return t;
-        }
-        self
-    }
-}
-
-// The exclusive areas, by their numbers.
-#[derive(Clone, Copy)]
-pub struct Areas {
-    pub at: [Area; AreaConfs::MAX],
-}
-
-impl Areas {
-    // What stands at place i, or the blank part past the last place.
-    pub fn get(self, i: u8) -> Area
-        ensures { result ≡ area_in self i }
-    {
-        let k = i as usize;
-        if k < AreaConfs::MAX {
-            return self.at[k];
-        }
-        Area::BLANK
-    }
-
-    // The table with x at place i; nothing changes past the last place.
-    pub fn with(self, i: u8, x: Area) -> Areas
-        ensures { result ≡ with_area self i x }
-    {
-        let k = i as usize;
-        if k < AreaConfs::MAX {
-            let mut t = self;
-            t.at[k] = x;
-            return t;
-        }
-        self
-    }
-}
-
-// The required elements, by their numbers.
-#[derive(Clone, Copy)]
-pub struct Elements {
-    pub at: [Element; RequiredConfs::MAX],
-}
-
-impl Elements {
-    // What stands at place i, or the blank part past the last place.
-    pub fn get(self, i: u8) -> Element
-        ensures { result ≡ element_in self i }
-    {
-        let k = i as usize;
-        if k < RequiredConfs::MAX {
-            return self.at[k];
-        }
-        Element::BLANK
-    }
-
-    // The table with x at place i; nothing changes past the last place.
-    pub fn with(self, i: u8, x: Element) -> Elements
-        ensures { result ≡ with_element self i x }
-    {
-        let k = i as usize;
-        if k < RequiredConfs::MAX {
-            let mut t = self;
-            t.at[k] = x;
-            return t;
-        }
-        self
-    }
-}
-
-// The operations, by their numbers.
-#[derive(Clone, Copy)]
-pub struct Operations {
-    pub at: [Operation; OperationConfs::MAX],
-}
-
-impl Operations {
-    // What stands at place i, or the blank part past the last place.
-    pub fn get(self, i: u8) -> Operation
-        ensures { result ≡ operation_in self i }
-    {
-        let k = i as usize;
-        if k < OperationConfs::MAX {
-            return self.at[k];
-        }
-        Operation::BLANK
-    }
-
-    // The table with x at place i; nothing changes past the last place.
-    pub fn with(self, i: u8, x: Operation) -> Operations
-        ensures { result ≡ with_operation self i x }
-    {
-        let k = i as usize;
-        if k < OperationConfs::MAX {
-            let mut t = self;
-            t.at[k] = x;
-            return t;
-        }
-        self
-    }
-}
-
-// The timers, by their numbers.
-#[derive(Clone, Copy)]
-pub struct Timers {
-    pub at: [Timer; TimerConfs::MAX],
-}
-
-impl Timers {
-    // What stands at place i, or the blank part past the last place.
-    pub fn get(self, i: u8) -> Timer
-        ensures { result ≡ timer_in self i }
-    {
-        let k = i as usize;
-        if k < TimerConfs::MAX {
-            return self.at[k];
-        }
-        Timer::BLANK
-    }
-
-    // The table with x at place i; nothing changes past the last place.
-    pub fn with(self, i: u8, x: Timer) -> Timers
-        ensures { result ≡ with_timer self i x }
-    {
-        let k = i as usize;
-        if k < TimerConfs::MAX {
-            let mut t = self;
-            t.at[k] = x;
-            return t;
-        }
-        self
-    }
+    // How many there are.
+    pub const MAX: usize = 32;
 }
 
 // The instance slots, by their numbers.
-#[derive(Clone, Copy)]
-pub struct Slots {
-    pub at: [Slot; Slots::MAX],
-}
+pub type Slots = Places<Slot, { Slot::MAX }>;
 
 impl Slots {
-    pub const MAX: usize = 32;
-
-    // What stands at place i, or the blank part past the last place.
-    pub fn get(self, i: u8) -> Slot
-        ensures { result ≡ slot_in self i }
-    {
-        let k = i as usize;
-        if k < Slots::MAX {
-            return self.at[k];
-        }
-        Slot::BLANK
-    }
-
-    // The table with x at place i; nothing changes past the last place.
-    pub fn with(self, i: u8, x: Slot) -> Slots
-        ensures { result ≡ with_slot self i x }
-    {
-        let k = i as usize;
-        if k < Slots::MAX {
-            let mut t = self;
-            t.at[k] = x;
-            return t;
-        }
-        self
-    }
+    pub const MAX: usize = Slot::MAX;
 }
 
 // What one instance has copied of the elements that its runnable lists, or has set: in the places of the list, and NeverReceived where there is none, or where none was set.
@@ -576,68 +427,42 @@ pub struct Copies {
 }
 
 impl Copies {
-    pub const MAX: usize = Lists::MAX_LISTED as usize;
-
     pub const BLANK: Copies = Copies {
         at: [Value::NEVER_RECEIVED; Copies::MAX],
     };
 
+    pub const MAX: usize = Lists::MAX_LISTED as usize;
+
     // What stands at place j, or the blank copy past the last place.
+    #[tactic(auto, unfolding(crate::specs::Tables::copy_in))]
     pub fn get(self, j: u8) -> Value
         ensures { result ≡ copy_in self j }
     {
-        let k = j as usize;
-        if k < Copies::MAX {
-            return self.at[k];
-        }
-        Value::NEVER_RECEIVED
+        entry(self.at, j, Value::NEVER_RECEIVED)
     }
 
     // The copies with v at place j; nothing changes past the last place.
+    #[tactic(auto, unfolding(crate::specs::Tables::with_copy))]
     pub fn with(self, j: u8, v: Value) -> Copies
         ensures { result ≡ with_copy self j v }
     {
-        let k = j as usize;
-        if k < Copies::MAX {
-            let mut t = self;
-            t.at[k] = v;
-            return t;
+        Copies {
+            at: put(self.at, j, v),
         }
-        self
+    }
+}
+
+impl Part for Copies {
+    ghost blank = { no_copies };
+
+    #[tactic(auto, unfolding(crate::specs::Parts::no_copies))]
+    fn blank() -> Copies {
+        Copies::BLANK
     }
 }
 
 // The copies of all instances, by their slots.
-#[derive(Clone, Copy)]
-pub struct Copied {
-    pub at: [Copies; Slots::MAX],
-}
-
-impl Copied {
-    // What stands at place i, or blank copies past the last place.
-    pub fn get(self, i: u8) -> Copies
-        ensures { result ≡ copies_in self i }
-    {
-        let k = i as usize;
-        if k < Slots::MAX {
-            return self.at[k];
-        }
-        Copies::BLANK
-    }
-
-    // The table with c at place i; nothing changes past the last place.
-    pub fn with(self, i: u8, c: Copies) -> Copied
-        ensures { result ≡ with_copies self i c }
-    {
-        let k = i as usize;
-        if k < Slots::MAX {
-            let mut t = self;
-            t.at[k] = c;
-            return t;
-        }
-        self
-    }
-}
+pub type Copied = Places<Copies, { Slot::MAX }>;
 
 #[derive(Clone, Copy)]
 pub struct State {
@@ -661,121 +486,88 @@ pub struct Stepped {
 
 impl State {
     // The start state of a configuration, sound or not: place by place, blank beyond each count.
+    #[tactic(auto, unfolding(crate::specs::Start::start_of))]
     pub fn start(cfg: Config) -> State
         ensures { result ≡ start_of cfg }
     {
         State {
-            runnables: start_runnables(cfg.runnables),
-            variables: start_variables(cfg.variables),
-            areas: Areas {
-                at: [Area::BLANK; AreaConfs::MAX],
-            },
-            elements: start_elements(cfg.required),
-            operations: Operations {
-                at: [Operation::BLANK; OperationConfs::MAX],
-            },
-            timers: Timers {
-                at: [Timer::BLANK; TimerConfs::MAX],
-            },
-            slots: Slots {
-                at: [Slot::BLANK; Slots::MAX],
-            },
-            incoming: Copied {
-                at: [Copies::BLANK; Slots::MAX],
-            },
-            outgoing: Copied {
-                at: [Copies::BLANK; Slots::MAX],
-            },
+            runnables: started(cfg.runnables),
+            variables: started(cfg.variables),
+            areas: Places::none(),
+            elements: started(cfg.required),
+            operations: Places::none(),
+            timers: Places::none(),
+            slots: Places::none(),
+            incoming: Places::none(),
+            outgoing: Places::none(),
         }
     }
 }
 
-fn start_runnable(c: RunnableConf) -> Runnable
-    ensures { result ≡ start_runnable c }
-{
-    Runnable {
-        interval: 0,
-        pending: config::bit(c.init),
-        instances: 0,
-        requests: Requests::BLANK,
-    }
+// A part of a configuration whose state starts by what the configuration says of it.
+trait Starts: Part {
+    type Begun: Part;
+
+    ghost begun: { Self → Self.Begun };
+
+    fn start(self) -> Self::Begun
+        ensures { result ≡ begun self };
 }
 
-fn start_runnables(t: RunnableConfs) -> Runnables
-    ensures { result ≡ start_runnables t }
-{
-    let n = t.n;
-    let mut s = Runnables {
-        at: [Runnable::BLANK; RunnableConfs::MAX],
-    };
-    let mut k: u8 = 0;
-    while k < n {
-        let i = k as usize;
-        if RunnableConfs::MAX <= i {
-            return s;
+impl Starts for RunnableConf {
+    type Begun = Runnable;
+
+    ghost begun = { start_runnable };
+
+    #[tactic(auto, unfolding(crate::specs::Parts::no_runnable, crate::specs::Parts::no_requests))]
+    fn start(self) -> Runnable {
+        Runnable {
+            pending: config::bit(self.init),
+            ..Runnable::BLANK
         }
-        let x = start_runnable(t.get(k));
-        s.at[i] = x;
-        k = k + 1;
     }
-    s
 }
 
-fn start_variable(c: VariableConf) -> Variable
-    ensures { result ≡ start_variable c }
-{
-    if c.initialed {
-        return Variable {
-            value: Value::of(c.initial),
-        };
-    }
-    Variable::BLANK
-}
+impl Starts for VariableConf {
+    type Begun = Variable;
 
-fn start_variables(t: VariableConfs) -> Variables
-    ensures { result ≡ start_variables t }
-{
-    let n = t.n;
-    let mut s = Variables {
-        at: [Variable::BLANK; VariableConfs::MAX],
-    };
-    let mut k: u8 = 0;
-    while k < n {
-        s = s.with(k, start_variable(t.get(k)));
-        k = k + 1;
-    }
-    s
-}
+    ghost begun = { start_variable };
 
-fn start_element(c: RequiredConf) -> Element
-    ensures { result ≡ start_element c }
-{
-    if c.capacity == 0 {
-        return Element {
-            value: Value::NEVER_RECEIVED,
-            updated: false,
-            queue: Values::BLANK,
-        };
-    }
-    Element::BLANK
-}
-
-fn start_elements(t: RequiredConfs) -> Elements
-    ensures { result ≡ start_elements t }
-{
-    let n = t.n;
-    let mut s = Elements {
-        at: [Element::BLANK; RequiredConfs::MAX],
-    };
-    let mut k: u8 = 0;
-    while k < n {
-        let i = k as usize;
-        if RequiredConfs::MAX <= i {
-            return s;
+    #[tactic(auto, unfolding(crate::specs::Start::start_variable))]
+    fn start(self) -> Variable {
+        if self.initialed {
+            return Variable {
+                value: Value::of(self.initial),
+            };
         }
-        let x = start_element(t.get(k));
-        s.at[i] = x;
-        k = k + 1;
+        Variable::BLANK
+    }
+}
+
+impl Starts for RequiredConf {
+    type Begun = Element;
+
+    ghost begun = { start_element };
+
+    #[tactic(auto, unfolding(crate::specs::Start::start_element, crate::specs::Parts::no_element, crate::specs::Parts::no_values))]
+    fn start(self) -> Element {
+        if self.capacity == 0 {
+            return Element {
+                value: Value::NEVER_RECEIVED,
+                ..Element::BLANK
+            };
+        }
+        Element::BLANK
+    }
+}
+
+// The parts of a table, each as it starts, and blank ones beyond them.
+fn started<C: Starts, const N: usize>(t: Table<C, N>) -> Places<C::Begun, N>
+    ensures { result ≡ started C.begun C.blank C.Begun.blank t }
+{
+    let mut s = Places::none();
+    for k in 0..t.n {
+        s = s.with(k, t.get(k).start());
     }
     s
 }
@@ -784,41 +576,50 @@ fn start_elements(t: RequiredConfs) -> Elements
 pub fn up_one(n: u8) -> u8
     ensures { result ≡ up_one n }
 {
-    std::num::wrapping_add_u8(n, 1)
+    n.wrapping_add(1)
 }
 
 // One less, and 0 stays 0.
 pub fn down_one(n: u8) -> u8
     ensures { result ≡ n - 1 }
 {
-    if n == 0 {
-        return 0;
-    }
-    n - 1
+    n.saturating_sub(1)
 }
 
-fn shift_clients(q: [Client; Requests::MAX]) -> [Client; Requests::MAX]
-    ensures { result ≡ shifted no_client q }
+// ---- arrays of any kind of entry
+
+// What stands at place i, or the blank entry past the last place.
+fn entry<T: Copy, const N: usize>(at: [T; N], i: u8, blank: T) -> T
+    ensures { result ≡ slice_index_or at i blank }
 {
-    let mut t = q;
-    let mut k: usize = 0;
-    while k < Requests::LAST {
-        t[k] = q[k + 1];
-        k = k + 1;
+    let k = i as usize;
+    if k < N {
+        return at[k];
     }
-    t[Requests::LAST] = Client::BLANK;
+    blank
+}
+
+// The array with x at place i; nothing changes past the last place.
+fn put<T: Copy, const N: usize>(at: [T; N], i: u8, x: T) -> [T; N]
+    ensures { result ≡ slice_set at i x }
+{
+    let mut t = at;
+    let k = i as usize;
+    if k < N {
+        t[k] = x;
+    }
     t
 }
 
-fn shift_values(q: [Value; Values::MAX]) -> [Value; Values::MAX]
-    ensures { result ≡ shifted void_v q }
+// The places of a queue.
+const PLACES: usize = config::MAX_CAPACITY as usize;
+
+// The array without its first entry: the others move up, and the last place is blank.
+fn shifted<T: Copy>(at: [T; PLACES], blank: T) -> [T; PLACES]
+    ensures { result ≡ shifted blank at }
 {
-    let mut t = q;
-    let mut k: usize = 0;
-    while k < Values::LAST {
-        t[k] = q[k + 1];
-        k = k + 1;
-    }
-    t[Values::LAST] = Value::VOID;
+    let mut t = at;
+    t.rotate_left(1);
+    t[PLACES - 1] = blank;
     t
 }

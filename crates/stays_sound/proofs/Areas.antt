@@ -26,6 +26,7 @@ use Rattle.effects.specs.Steps.{entering, exiting, entered, exited, caller_after
 use Rattle.stays_sound.specs.Facts.{Held, Sound, CanEnter, CanExit, CanCall, CanHandBack, CanEnd, CanSpawn, CanWait, CanFail, HeldIn}
 use Rattle.rules.proofs.Configured.{areas-most}
 use Rattle.stays_sound.proofs.Told.{areas-length, slots_length}
+use Rattle.state.specs.Places.{place_in, with_place}
 use Rattle.stays_sound.proofs.Kept.{here, lowest-empty, slot_kept, slots-after-kept, caller-kept}
 
 -- ---- what a sound slot tells of its stack
@@ -88,7 +89,7 @@ times_none b s e = rw e
 
 -- one slot replaced: what the stands of a lose and gain
 holders-put : (ss : Slots) (i : ℕ) (x : Slot) (a : ℕ) → i < max_slots → i < length ss.at → holders (with_slot ss i x) a + times_in a (slot_in ss i).stack ≡ holders ss a + times_in a x.stack
-unfolding holders slot_in with_slot
+unfolding holders place_in with_place
 holders-put ss i x a b c = sum-put (λ k y. times_in a y.stack) ss.at i max_slots x no_slot b c
 
 -- a slot on whose stack each area stands as often as before
@@ -124,7 +125,7 @@ pub held_both : (cfg : Config) (t : Areas) (ss : Slots) (a : ℕ) (v : Bool) (i 
     → times_in a x.stack + bit (area_in t a).taken ≡ times_in a (slot_in ss i).stack + bit v
     → ((b : ℕ) → (b ≡ a → ⊥) → times_in b x.stack ≡ times_in b (slot_in ss i).stack)
     → Held cfg t ss → Held cfg (with_area t a (record { taken = v })) (with_slot ss i x)
-unfolding area_in with_area
+unfolding place_in with_place
 held_both cfg t ss a v i x p q l m f g h = record {
   there = λ b n. put-each (λ k y. y.taken ≡ true → k < cfg.areas.n) t.at a (record { taken = v }) no_area (λ e. m) b (h.there b n);
   once = λ b n. go b n (ℕ_discrete b a);

@@ -26,6 +26,7 @@ use Rattle.stays_sound.specs.Facts.{Clients, Sound, CanEnter, CanExit, CanFeed, 
 use Rattle.rules.proofs.Configured.{runnables-most, operations-most, capacity-most, operation-there}
 use Rattle.stays_sound.proofs.Told.{runnables-length, operations-length, slots_length}
 use Rattle.stays_sound.proofs.Kept.{here, lowest-empty, runnable-kept, slot_kept, fed-kept, handed-kept, returned-kept, after_kept, waited-kept, slots-after-kept, caller-kept}
+use Rattle.state.specs.Places.{place_in}
 use Rattle.stays_sound.proofs.Tallies.{other-operation, other-number, tally-same, tally-less, tally-close, tally-open, served-put, queued-put, asked, taken, idle, busy, clients-kept, clients-slot, clients-runnables}
 
 -- ---- what a sound state tells of a queue, an open call and an empty slot
@@ -41,7 +42,7 @@ requests-told cfg st r s b =
 
 -- an operation that is Calling is one of the table
 pub calling-inside : (os : Operations) (o : ℕ) → (operation_in os o).calling ≡ true → o < length os.at
-unfolding operation_in
+unfolding place_in
 calling-inside os o h = inside_of (λ y. y.calling ≡ true) os.at o no_operation (λ e. clash false e refl) h
 
 -- an empty slot owes nothing

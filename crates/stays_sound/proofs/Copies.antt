@@ -25,6 +25,7 @@ use Rattle.effects.specs.Steps.{entering, exiting, entered, exited, caller_after
 use Rattle.stays_sound.specs.Facts.{Copying, CopiesIn, Sound, CanSpawn, CanWriteCopy}
 use Rattle.stays_sound.proofs.Told.{shape-told, slots_length}
 use Rattle.stays_sound.proofs.Elements.{element-stored}
+use Rattle.state.specs.Places.{place_in, with_place}
 use Rattle.stays_sound.proofs.Kept.{here, lowest-empty, slot_kept, slots-after-kept, caller-kept}
 
 -- ---- the copies of one slot
@@ -104,12 +105,12 @@ module _ (e : ℕ) (t : Lists) (ss : Slots) (cs : Copied) (h : copied_sound e t 
 
   -- one slot replaced, with the copies that it has
   slot-copied : (i : ℕ) (x : Slot) → copies_sound e t x (copies_in cs i) ≡ true → copied_sound e t (with_slot ss i x) cs ≡ true
-  unfolding copied_sound slot_in with_slot
+  unfolding copied_sound place_in with_place
   slot-copied i x g = all-put (λ k y. copies_sound e t y (copies_in cs k)) ss.at i max_slots x no_slot h g
 
   -- the copies of one slot replaced
   put-copied : (i : ℕ) (c : Copies) → copies_sound e t (slot_in ss i) c ≡ true → copied_sound e t ss (with_copies cs i c) ≡ true
-  unfolding copied_sound copies_in with_copies
+  unfolding copied_sound place_in with_place
   put-copied i c g = all-put (λ k y. copies_sound e t (slot_in ss k) y) cs.at i max_slots c no_copies h g
 
   -- none left in the slot i, whose runnable is r: they were blank if r lists nothing
@@ -118,7 +119,7 @@ module _ (e : ℕ) (t : Lists) (ss : Slots) (cs : Copied) (h : copied_sound e t 
   clear-copied r i = pick-has (λ y. copied_sound e t ss y ≡ true) (lists_at t r 0) (with_copies cs i no_copies) cs (λ _. put-copied i no_copies (blank-sound e t (slot_in ss i) no_copies no-copies-blank)) (λ _. h)
 
   clear-blank : (i : ℕ) → i < max_slots → length cs.at ≡ 32 → Blank (copies_in (cleared t (slot_in ss i).life.runnable cs i) i)
-  unfolding cleared copies_in with_copies
+  unfolding cleared place_in with_place
   clear-blank i l m =
       pick-has (λ (y : Copied). Blank (get_or y.at i no_copies)) (lists_at t (slot_in ss i).life.runnable 0) _ cs
       (λ _. rw (same_place i l m) no-copies-blank)
@@ -239,13 +240,13 @@ module _ (cfg : Config) (st : State) (s : Sound cfg st) where
 
   -- a new instance is there, and of its runnable
   pub new-used : (r : ℕ) → CanSpawn cfg st r → (slot_in (spawned cfg st r (lowest_empty st.slots)).slots (lowest_empty st.slots)).used ≡ true
-  unfolding spawned slot_in with_slot instance_of
+  unfolding spawned place_in with_place instance_of
   new-used r z =
       rw (get_or-set_same st.slots.at (lowest_empty st.slots) (instance_of (runnable_conf_in cfg.runnables r) r (runnable_in st.runnables r)) no_slot (omega (arith, z.slot, slots_length cfg st s)))
       (pick-has (λ (y : Slot). y.used ≡ true) (eqb (runnable_conf_in cfg.runnables r).capacity 0) _ _ (λ _. refl) (λ _. refl))
 
   pub new-runnable : (r : ℕ) → CanSpawn cfg st r → (slot_in (spawned cfg st r (lowest_empty st.slots)).slots (lowest_empty st.slots)).life.runnable ≡ r
-  unfolding spawned slot_in with_slot instance_of
+  unfolding spawned place_in with_place instance_of
   new-runnable r z =
       rw (get_or-set_same st.slots.at (lowest_empty st.slots) (instance_of (runnable_conf_in cfg.runnables r) r (runnable_in st.runnables r)) no_slot (omega (arith, z.slot, slots_length cfg st s)))
       (pick-has (λ (y : Slot). y.life.runnable ≡ r) (eqb (runnable_conf_in cfg.runnables r).capacity 0) _ _ (λ _. refl) (λ _. refl))

@@ -23,13 +23,14 @@ use Rattle.rules.specs.Sound.{of_runnable, slots_of}
 use Rattle.effects.specs.Steps.{entering, exiting, entered, exited, fed, handed_on, caller_after, called, awaiting, awaited, closed, finishing, failing, failed, finished, handed_back, answered, emptied, starting, instance_of, lowest_empty, spawned, ticked, waited}
 use Rattle.stays_sound.specs.Facts.{Counted, Sound, CanEnter, CanExit, CanFeed, CanCall, CanHandBack, CanEnd, CanSpawn, CanTimeout, CanTick, CanWait, CanFail, CountedIn}
 use Rattle.stays_sound.proofs.Told.{runnables-length, slots_length}
+use Rattle.state.specs.Places.{place_in, with_place}
 use Rattle.stays_sound.proofs.Kept.{here, lowest-empty, runnable-kept, slot_kept, fed-kept, handed-kept, returned-kept, after_kept, slots-after-kept, caller-kept}
 
 -- ---- what each kind of change does
 
 -- one slot replaced: what the count of r loses and gains
 slots-put : (ss : Slots) (i : ℕ) (x : Slot) (r : ℕ) → i < max_slots → i < length ss.at → slots_of (with_slot ss i x) r + bit (of_runnable r (slot_in ss i)) ≡ slots_of ss r + bit (of_runnable r x)
-unfolding slots_of slot_in with_slot
+unfolding slots_of place_in with_place
 slots-put ss i x r b c = sum-put (λ k y. bit (of_runnable r y)) ss.at i max_slots x no_slot b c
 
 -- a slot that keeps whether it is used, and its runnable
@@ -54,7 +55,7 @@ pub counted-both : (rs : Runnables) (ss : Slots) (r : ℕ) (x : Runnable) (i : �
     → (r < max_runnable_confs → x.instances + bit (of_runnable r (slot_in ss i)) ≡ (runnable_in rs r).instances + bit (of_runnable r y))
     → ((k : ℕ) → (k ≡ r → ⊥) → of_runnable k y ≡ of_runnable k (slot_in ss i))
     → Counted rs ss → Counted (with_runnable rs r x) (with_slot ss i y)
-unfolding runnable_in with_runnable
+unfolding place_in with_place
 counted-both rs ss r x i y a b c f g h = record { counted = λ k l. go k l (ℕ_discrete k r) }
   where
     put : (k : ℕ) → slots_of (with_slot ss i y) k + bit (of_runnable k (slot_in ss i)) ≡ slots_of ss k + bit (of_runnable k y)

@@ -20,11 +20,12 @@ use Rattle.config.specs.Tables.{max_required_confs, required_conf_in, provided_c
 use Rattle.config.specs.Lists.{lists_at, element_at, is_listed}
 use Rattle.entries.specs.Faults.{is_queued, config_sound}
 use Rattle.state.specs.Parts.{no_element, max_values}
-use Rattle.state.specs.Queues.{up_one, push_value, rest_values}
+use Rattle.state.specs.Queues.{up_one, push_value, rest_values, pushed, without_oldest}
 use Rattle.state.specs.Tables.{element_in, with_element, copy_in}
 use Rattle.rules.specs.Sound.{values_sound, is_stored, element_sound, elements_sound}
 use Rattle.effects.specs.Steps.{seen, looked, joins, linked, accepts, storing, queueing, fed_element, fed_elements, fed, invalidated, receiving, dequeued, is_given, given_elements, hands_on, handed_elements, seen_elements, copied_elements}
 use Rattle.stays_sound.specs.Facts.{Sound, CanRead, CanFeed, CanInvalidate, CanReceive}
+use Rattle.state.specs.Places.{place_in, with_place}
 use Rattle.rules.proofs.Configured.{required-most, length_most, link-alike}
 
 -- ---- a queue of values
@@ -40,14 +41,14 @@ module _ (c : ℕ) (q : Values) (m : c ≤ 16) (h : values_sound c q.queued q.at
 
   -- one more, where there is room
   push-sound : (v : Value) → q.queued < c → is_payload v ≡ true → values_sound c (push_value q v).queued (push_value q v).at ≡ true
-  unfolding values_sound push_value
+  unfolding values_sound pushed
   push-sound v b g =
       let e : up_one q.queued ≡ q.queued + 1 = mod-eq_of_lt (omega arith) in
       rw e (both-make _ _ (le-leb (q.queued + 1) c (omega arith)) (filled-push is_payload is_void void_v max_values q.queued q.at v (omega arith) g values-filled))
 
   -- the oldest taken
   rest-sound : 0 < q.queued → values_sound c (rest_values q).queued (rest_values q).at ≡ true
-  unfolding values_sound rest_values is_void
+  unfolding values_sound without_oldest is_void
   rest-sound p =
       let n = values-most in
       let e : q.queued ≡ (q.queued - 1) + 1 = omega arith in
@@ -123,13 +124,13 @@ module _ (cfg : Config) (k : config_sound cfg ≡ true) (p : ℕ) (v : Value) (g
           (λ i. store-sound cfg q x v b i g h)
 
   fed-sound : (t : Elements) → elements_sound cfg t ≡ true → elements_sound cfg (fed_elements cfg p v t) ≡ true
-  unfolding elements_sound element_in fed_elements
+  unfolding elements_sound place_in fed_elements
   fed-sound t h = all-each (fed_element cfg p v) no_element (λ q y. element_sound cfg q y) cfg.required.n max_required_confs t.at h (λ q b c e. fed-one q (get_or t.at q no_element) c e)
 
 -- ---- the table
 
 elements-put : (cfg : Config) (t : Elements) (q : ℕ) (x : Element) → elements_sound cfg t ≡ true → element_sound cfg q x ≡ true → elements_sound cfg (with_element t q x) ≡ true
-unfolding elements_sound element_in with_element
+unfolding elements_sound place_in with_place
 elements-put cfg t q x h g = all-put (λ k y. element_sound cfg k y) t.at q max_required_confs x no_element h g
 
 -- a linked element is queued as the provided one is
@@ -187,7 +188,7 @@ module _ (cfg : Config) (st : State) where
   hand-on-keeps-elements i s = pick-has (λ (y : Elements). elements_sound cfg y ≡ true) (hands_on cfg st i) _ st.elements (λ _. given-sound cfg s.config _ _ 4 st.elements s.elements) (λ _. s.elements)
 
   pub copy-keeps-elements : (r : ℕ) → Sound cfg st → elements_sound cfg (copied_elements cfg r st.elements) ≡ true
-  unfolding copied_elements seen_elements elements_sound element_in
+  unfolding copied_elements seen_elements elements_sound place_in
   copy-keeps-elements r s =
       pick-has (λ (y : Elements). elements_sound cfg y ≡ true) (lists_at cfg.incoming r 0) _ st.elements
       (λ _. all-each (λ (q : ℕ) (x : Element). pick (is_listed cfg.incoming r q) (seen x) x) no_element (λ q y. element_sound cfg q y) cfg.required.n max_required_confs st.elements.at s.elements

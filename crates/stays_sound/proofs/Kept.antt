@@ -18,24 +18,25 @@ use Rattle.state.specs.Fields.{with_count}
 use Rattle.state.specs.Tables.{max_slots, runnable_in, operation_in, slot_in, with_runnable, with_slot}
 use Rattle.effects.specs.Steps.{woken, is_fed, fed_runnables, is_given_to, given_runnables, hands_on, handed_runnables, is_returned, returned_runnables, runnable_after, runnables_after, operation_after, operations_after, slot_after, slots_after, caller_after, waiting_on, is_empty_at, lowest_empty}
 use Rattle.stays_sound.specs.Facts.{Sound, There}
+use Rattle.state.specs.Places.{place_in, with_place}
 use Rattle.stays_sound.proofs.Told.{slots_length}
 
 -- ---- one part replaced by one that is alike in what g reads
 
 module _ {B : Type 0} where
   pub runnable-kept : (g : Runnable → B) (rs : Runnables) (r : ℕ) (x : Runnable) → g x ≡ g (runnable_in rs r) → (j : ℕ) → g (runnable_in (with_runnable rs r x) j) ≡ g (runnable_in rs j)
-  unfolding runnable_in with_runnable
+  unfolding place_in with_place
   runnable-kept g rs r x e j = put-each (λ k y. g y ≡ g (get_or rs.at k no_runnable)) rs.at r x no_runnable e j refl
 
   pub slot_kept : (g : Slot → B) (ss : Slots) (i : ℕ) (x : Slot) → g x ≡ g (slot_in ss i) → (k : ℕ) → g (slot_in (with_slot ss i x) k) ≡ g (slot_in ss k)
-  unfolding slot_in with_slot
+  unfolding place_in with_place
   slot_kept g ss i x e k = put-each (λ j y. g y ≡ g (get_or ss.at j no_slot)) ss.at i x no_slot e k refl
 
   -- ---- each of the first parts changed to one that is
 
   runnables-kept : (g : Runnable → B) (f : ℕ → Runnable → Runnable) (n : ℕ) (rs : Runnables) → ((r : ℕ) (x : Runnable) → g (f r x) ≡ g x)
       → (j : ℕ) → g (runnable_in (record { at = each_below f no_runnable n rs.at }) j) ≡ g (runnable_in rs j)
-  unfolding runnable_in
+  unfolding place_in
   runnables-kept g f n rs e j = each-has f no_runnable (λ k y. g y ≡ g (get_or rs.at k no_runnable)) n rs.at j (λ l. e j (get_or rs.at j no_runnable)) refl
 
   -- runnables woken keep all but that
@@ -61,7 +62,7 @@ module _ {B : Type 0} where
   after_kept g t w cfg rs j = runnables-kept g (λ (r : ℕ) (x : Runnable). runnable_after t x) cfg.runnables.n rs (λ r x. w x) j
 
   pub waited-kept : (g : Operation → B) (t : ℕ) → ((x : Operation) (n : ℕ) → g (with_count x n) ≡ g x) → (cfg : Config) (os : Operations) (j : ℕ) → g (operation_in (operations_after cfg os t) j) ≡ g (operation_in os j)
-  unfolding operations_after operation_in operation_after
+  unfolding operations_after place_in operation_after
   waited-kept g t w cfg os j =
       let x = get_or os.at j no_operation in
       each-has (λ (o : ℕ) (x : Operation). operation_after t x) no_operation (λ k y. g y ≡ g (get_or os.at k no_operation)) cfg.operations.n os.at j
@@ -69,7 +70,7 @@ module _ {B : Type 0} where
 
   -- and so of slots
   pub slots-after-kept : (g : Slot → B) (t : ℕ) → ((x : Slot) → g (slot_after t x) ≡ g x) → (ss : Slots) (k : ℕ) → g (slot_in (slots_after ss t) k) ≡ g (slot_in ss k)
-  unfolding slots_after slot_in
+  unfolding slots_after place_in
   slots-after-kept g t w ss k = each-has (λ (i : ℕ) (x : Slot). slot_after t x) no_slot (λ j y. g y ≡ g (get_or ss.at j no_slot)) max_slots ss.at k (λ l. w (get_or ss.at k no_slot)) refl
 
   -- a caller waits, or does not: all but that is as it was
@@ -79,14 +80,14 @@ module _ {B : Type 0} where
 
 -- what holds of each slot, and of the one put in its place
 pub slot_has : (P : ℕ → Slot → Type 0) (ss : Slots) (i : ℕ) (x : Slot) → P i x → ((k : ℕ) → P k (slot_in ss k)) → (k : ℕ) → P k (slot_in (with_slot ss i x) k)
-unfolding slot_in with_slot
+unfolding place_in with_place
 slot_has P ss i x p q k = put-each P ss.at i x no_slot p k (q k)
 
 -- ---- inside a table
 
 -- a slot with an instance in it is one of the table
 pub slot-inside : (ss : Slots) (i : ℕ) → (slot_in ss i).used ≡ true → i < length ss.at
-unfolding slot_in no_slot
+unfolding place_in no_slot
 slot-inside ss i h = inside_of (λ y. y.used ≡ true) ss.at i no_slot (λ e. clash false e refl) h
 
 -- and so of a sound state's 32

@@ -21,6 +21,7 @@ use Rattle.rules.specs.Sound.{is_outcome, calling_sound, done_sound, operation_s
 use Rattle.effects.specs.Steps.{opening, called, closing, closed, answers, client_of, has_failed, handed_back, answered, operation_after, operations_after, waited}
 use Rattle.stays_sound.specs.Facts.{Sound, CanCall, CanHandBack, CanTimeout, CanWait}
 use Rattle.rules.proofs.Configured.{operations-most}
+use Rattle.state.specs.Places.{place_in, with_place}
 use Rattle.stays_sound.proofs.Instances.{instance-at, owed-client, client-there}
 
 -- ---- one operation
@@ -84,7 +85,7 @@ handed-outcome st i v h = pick-has (λ w. is_outcome w ≡ true) (has_failed st 
 -- ---- the table
 
 operations-put : (cfg : Config) (t : Operations) (o : ℕ) (x : Operation) → operations_sound cfg t ≡ true → operation_sound cfg o x ≡ true → operations_sound cfg (with_operation t o x) ≡ true
-unfolding operations_sound operation_in with_operation
+unfolding operations_sound place_in with_place
 operations-put cfg t o x h g = all-put (λ k y. operation_sound cfg k y) t.at o max_operation_confs x no_operation h g
 
 -- ---- step by step
@@ -115,7 +116,7 @@ module _ (cfg : Config) (st : State) where
   timeout-keeps-operations o s z = operations-put cfg st.operations o _ s.operations (close-sound cfg o (operation_in st.operations o) timeout_v refl z.calling (operation-at cfg st s o z.inside))
 
   pub wait-keeps-operations : (t : ℕ) → Sound cfg st → CanWait cfg st t → operations_sound cfg (waited cfg st t).operations ≡ true
-  unfolding waited operations_sound operation_in operations_after
+  unfolding waited operations_sound place_in operations_after
   wait-keeps-operations t s z =
       all-each (λ (o : ℕ) (x : Operation). operation_after t x) no_operation (λ o y. operation_sound cfg o y) cfg.operations.n max_operation_confs st.operations.at s.operations
       (λ o b c h. after-sound cfg o t (get_or st.operations.at o no_operation) h)

@@ -19,7 +19,7 @@ use Rattle.config.specs.Tables.{max_runnable_confs, runnable_conf_in, operation_
 use Rattle.config.specs.Lists.{element_at}
 use Rattle.entries.specs.Faults.{is_server, config_sound}
 use Rattle.state.specs.Parts.{no_client, no_runnable, max_requests}
-use Rattle.state.specs.Queues.{up_one, push_request, first_request, rest_requests}
+use Rattle.state.specs.Queues.{up_one, push_request, first_request, rest_requests, oldest, pushed, without_oldest}
 use Rattle.state.specs.Fields.{with_pending, with_requests}
 use Rattle.state.specs.Tables.{runnable_in, operation_in, slot_in, with_runnable}
 use Rattle.rules.specs.Sound.{is_no_client, client_fits, requests_sound, most_pending, runnable_sound, runnables_sound}
@@ -27,6 +27,7 @@ use Rattle.effects.specs.Steps.{is_given, is_given_to, given_runnables, hands_on
 use Rattle.effects.proofs.Pending.{more-fits}
 use Rattle.stays_sound.specs.Facts.{Sound, CanFeed, CanCall, CanHandBack, CanEnd, CanSpawn, CanTimeout, CanTick, CanWait}
 use Rattle.stays_sound.proofs.Instances.{instance-at, life-there}
+use Rattle.state.specs.Places.{place_in, with_place}
 use Rattle.rules.proofs.Configured.{runnables-most, capacity-most, operation-there, timer-there, timer-plain, devent-plain, revent-plain}
 
 -- ---- a queue of requests
@@ -42,7 +43,7 @@ module _ (cfg : Config) (r : ℕ) (q : Requests) (h : requests_sound cfg r q ≡
 
   -- one more request, where there is room
   push-sound : (c : Client) → config_sound cfg ≡ true → q.queued < (runnable_conf_in cfg.runnables r).capacity → client_fits cfg r c ≡ true → requests_sound cfg r (push_request q c) ≡ true
-  unfolding requests_sound push_request
+  unfolding requests_sound pushed
   push-sound c k b g =
       let m = capacity-most cfg k r in
       let e : up_one q.queued ≡ q.queued + 1 = mod-eq_of_lt (omega arith) in
@@ -51,7 +52,7 @@ module _ (cfg : Config) (r : ℕ) (q : Requests) (h : requests_sound cfg r q ≡
 
   -- the oldest taken
   rest-sound : config_sound cfg ≡ true → 0 < q.queued → requests_sound cfg r (rest_requests q) ≡ true
-  unfolding requests_sound rest_requests is_no_client is_void
+  unfolding requests_sound without_oldest is_no_client is_void
   rest-sound k p =
       let m = capacity-most cfg k r in
       let n = requests-most in
@@ -62,7 +63,7 @@ module _ (cfg : Config) (r : ℕ) (q : Requests) (h : requests_sound cfg r q ≡
 
   -- the oldest is a client of the server
   pub first_fits : config_sound cfg ≡ true → 0 < q.queued → client_fits cfg r (first_request q) ≡ true
-  unfolding first_request
+  unfolding oldest
   first_fits k p = filled-good (client_fits cfg r) is_no_client no_client max_requests q.queued q.at requests-filled 0 (omega arith) p
 
 -- ---- one runnable
@@ -100,7 +101,7 @@ woken-sound cfg r x b p h =
 -- ---- the table
 
 pub runnables-put : (cfg : Config) (rs : Runnables) (r : ℕ) (x : Runnable) → runnables_sound cfg rs ≡ true → runnable_sound cfg r x ≡ true → runnables_sound cfg (with_runnable rs r x) ≡ true
-unfolding runnables_sound runnable_in with_runnable
+unfolding runnables_sound place_in with_place
 runnables-put cfg rs r x h q = all-put (λ k y. runnable_sound cfg k y) rs.at r max_runnable_confs x no_runnable h q
 
 pub runnable-at : (cfg : Config) (rs : Runnables) → runnables_sound cfg rs ≡ true → (r : ℕ) → r < max_runnable_confs → runnable_sound cfg r (runnable_in rs r) ≡ true
@@ -110,7 +111,7 @@ runnable-at cfg rs h = all-at (λ (r : ℕ). runnable_sound cfg r (runnable_in r
 -- each of the runnables that are there, changed by f
 runnables-each : (cfg : Config) (f : ℕ → Runnable → Runnable) (rs : Runnables) → ((r : ℕ) (x : Runnable) → r < cfg.runnables.n → runnable_sound cfg r x ≡ true → runnable_sound cfg r (f r x) ≡ true)
     → runnables_sound cfg rs ≡ true → runnables_sound cfg (record { at = each_below f no_runnable cfg.runnables.n rs.at }) ≡ true
-unfolding runnables_sound runnable_in
+unfolding runnables_sound place_in
 runnables-each cfg f rs g h = all-each f no_runnable (λ k y. runnable_sound cfg k y) cfg.runnables.n max_runnable_confs rs.at h (λ k b c q. g k (get_or rs.at k no_runnable) c q)
 
 -- ---- events

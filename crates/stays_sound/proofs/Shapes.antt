@@ -16,40 +16,41 @@ use Rattle.state.specs.Tables.{max_slots, runnable_in, element_in, operation_in,
 use Rattle.rules.specs.Sound.{shaped}
 use Rattle.effects.specs.Steps.{stored, entering, exiting, entered, exited, seen, looked, fed_element, fed_elements, woken, is_fed, fed_runnables, fed, invalidated, receiving, opening, asking, caller_after, called, closing, is_returned, returned_runnables, closed, finishing, failing, failed, client_of, finished, answered, emptied, lowest_empty, spawned, ticked, operation_after, timer_after, runnable_after, operations_after, timers_after, runnables_after, waited, dequeued, awaiting, awaited, slot_after, slots_after, is_given, given_elements, is_given_to, given_runnables, hands_on, handed_elements, handed_runnables, handed_on, cleared, uncopied, copies_of, seen_elements, copied_elements, copied_into, copied_to, setting}
 use Rattle.stays_sound.proofs.Told.{Shape, shape-told, shape-made}
+use Rattle.state.specs.Places.{with_place}
 use Rattle.stays_sound.specs.Facts.{Sound}
 
 -- ---- one place changed, and the first places changed
 
 pub runnable-length : (t : Runnables) (i : ℕ) (x : Runnable) → length (with_runnable t i x).at ≡ length t.at
-unfolding with_runnable
+unfolding with_place
 runnable-length t i x = length-set t.at i x
 
 pub variable-length : (t : Variables) (i : ℕ) (x : Variable) → length (with_variable t i x).at ≡ length t.at
-unfolding with_variable
+unfolding with_place
 variable-length t i x = length-set t.at i x
 
 pub area-length : (t : Areas) (i : ℕ) (x : Area) → length (with_area t i x).at ≡ length t.at
-unfolding with_area
+unfolding with_place
 area-length t i x = length-set t.at i x
 
 pub element-length : (t : Elements) (i : ℕ) (x : Element) → length (with_element t i x).at ≡ length t.at
-unfolding with_element
+unfolding with_place
 element-length t i x = length-set t.at i x
 
 pub operation-length : (t : Operations) (i : ℕ) (x : Operation) → length (with_operation t i x).at ≡ length t.at
-unfolding with_operation
+unfolding with_place
 operation-length t i x = length-set t.at i x
 
 pub timer-length : (t : Timers) (i : ℕ) (x : Timer) → length (with_timer t i x).at ≡ length t.at
-unfolding with_timer
+unfolding with_place
 timer-length t i x = length-set t.at i x
 
 pub slot-length : (t : Slots) (i : ℕ) (x : Slot) → length (with_slot t i x).at ≡ length t.at
-unfolding with_slot
+unfolding with_place
 slot-length t i x = length-set t.at i x
 
 pub copies_length : (t : Copied) (i : ℕ) (x : Copies) → length (with_copies t i x).at ≡ length t.at
-unfolding with_copies
+unfolding with_place
 copies_length t i x = length-set t.at i x
 
 pub cleared-length : (l : Lists) (r : ℕ) (t : Copied) (i : ℕ) → length (cleared l r t i).at ≡ length t.at

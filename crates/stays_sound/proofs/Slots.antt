@@ -28,12 +28,13 @@ use Rattle.stays_sound.specs.Facts.{Sound, CanEnter, CanExit, There, CanCall, Ca
 use Rattle.rules.proofs.Configured.{areas-most}
 use Rattle.stays_sound.proofs.Areas.{free-room}
 use Rattle.stays_sound.proofs.Instances.{Instance, instance-made, slot-below, instance-at, owed-server, stack-most, stack-filled}
+use Rattle.state.specs.Places.{place_in, with_place}
 use Rattle.stays_sound.proofs.Runnables.{sits-at, first_fits}
 
 -- ---- the table
 
 pub slots-put : (cfg : Config) (ss : Slots) (i : ℕ) (x : Slot) → slots_sound cfg ss ≡ true → slot_sound cfg x ≡ true → slots_sound cfg (with_slot ss i x) ≡ true
-unfolding slots_sound slot_in with_slot
+unfolding slots_sound place_in with_place
 slots-put cfg ss i x h q = all-put (λ k y. slot_sound cfg y) ss.at i max_slots x no_slot h q
 
 -- the table with a slot's instance changed
@@ -174,7 +175,7 @@ module _ (cfg : Config) (st : State) where
   hold-keeps-slots i q t s z = await-slots i (on_element q t) s z.who.there (all_made _ (lt-ltb _ _ z.inside, (z.queued, (eq-eqb _ _ z.own, (le-leb t max_time z.time, tt)))))
 
   pub wait-keeps-slots : (t : ℕ) → Sound cfg st → CanWait cfg st t → slots_sound cfg (waited cfg st t).slots ≡ true
-  unfolding waited slots_after slots_sound slot_in
+  unfolding waited slots_after slots_sound place_in
   wait-keeps-slots t s z = all-each (λ (i : ℕ) (x : Slot). slot_after t x) no_slot (λ i y. slot_sound cfg y) max_slots max_slots st.slots.at s.slots (λ i b c h. slot-after cfg t (get_or st.slots.at i no_slot) h)
 
   pub hand-back-keeps-slots : (i : ℕ) (v : Value) → Sound cfg st → CanHandBack cfg st i v → slots_sound cfg (finished st st i).slots ≡ true

@@ -19,7 +19,7 @@ use Rattle.config.specs.Tables.{max_runnable_confs, max_variable_confs, max_area
 use Rattle.entries.specs.Faults.{config_sound}
 use Rattle.state.specs.Parts.{no_client, no_requests, no_runnable, no_variable, no_area, no_values, no_element, no_operation, no_timer, no_stack, no_slot, no_copies, max_requests}
 use Rattle.state.specs.Tables.{max_slots, no_runnables, no_variables, no_areas, no_elements, no_operations, no_timers, no_slots, no_copied, copies_in, runnable_in, variable_in, area_in, element_in, operation_in, timer_in, slot_in}
-use Rattle.state.specs.Start.{start_runnable, start_variable, start_element, start_runnables, start_variables, start_elements, start_of}
+use Rattle.state.specs.Start.{start_runnable, start_variable, start_element, start_runnables, start_variables, start_elements, start_of, started}
 use Rattle.rules.specs.Sound.{is_no_client, requests_sound, values_sound, most_pending, runnable_sound, variable_sound, is_stored, element_sound, is_outcome, done_sound, operation_sound, timer_sound, slot_sound, of_runnable, slots_of, times_in, holders, is_client, queued_as, served_as, clients_as, waits_on, waiters_of, runnables_sound, variables_sound, elements_sound, operations_sound, timers_sound, slots_sound, copies_sound, copied_sound, shaped, sound_of}
 use Rattle.stays_sound.specs.Facts.{Counted, Held, Clients, Waiters, Sound}
 use Rattle.rules.proofs.Configured.{init-there, init-plain}
@@ -27,6 +27,7 @@ use Rattle.effects.proofs.Pending.{top-some}
 use Rattle.stays_sound.proofs.Told.{made, shape-made}
 use Rattle.stays_sound.proofs.Runnables.{sits-made, most-plain}
 use Rattle.stays_sound.proofs.Slots.{blank-slot}
+use Rattle.state.specs.Places.{no_places, place_in}
 use Rattle.stays_sound.proofs.Copies.{no-copies-blank, blank-sound}
 
 -- a row of one part all along
@@ -62,14 +63,14 @@ module _ (cfg : Config) (h : config_sound cfg ≡ true) where
       pends false e = le-leb 0 (most_pending cfg r) (omega arith)
 
   start-runnables : runnables_sound cfg (start_runnables cfg.runnables) ≡ true
-  unfolding runnables_sound runnable_in start_runnables no_runnables
+  unfolding runnables_sound place_in started no_places
   start-runnables =
       all-each (λ (k : ℕ) (x : Runnable). start_runnable (runnable_conf_in cfg.runnables k)) no_runnable (λ r y. runnable_sound cfg r y) cfg.runnables.n max_runnable_confs (replicate max_runnable_confs no_runnable)
       (same-all (λ r y. runnable_sound cfg r y) max_runnable_confs no_runnable idle-sound) (λ k b c q. started-sound k)
 
   -- what holds of the blank runnable and of each that starts
   start-each : (P : Runnable → Type 0) → P no_runnable → ((r : ℕ) → P (start_runnable (runnable_conf_in cfg.runnables r))) → (r : ℕ) → r < max_runnable_confs → P (runnable_in (start_runnables cfg.runnables) r)
-  unfolding runnable_in start_runnables no_runnables
+  unfolding place_in started no_places
   start-each P a b r l =
       each-has (λ (k : ℕ) (x : Runnable). start_runnable (runnable_conf_in cfg.runnables k)) no_runnable (λ k y. P y) cfg.runnables.n (replicate max_runnable_confs no_runnable) r (λ c. b r)
       (rw (get_or-replicate max_runnable_confs r no_runnable no_runnable l) a)
@@ -77,7 +78,7 @@ module _ (cfg : Config) (h : config_sound cfg ≡ true) where
   -- ---- variables
 
   start-variables : variables_sound cfg (start_variables cfg.variables) ≡ true
-  unfolding variables_sound variable_sound variable_in start_variables start_variable no_variables is_payload is_void
+  unfolding variables_sound variable_sound place_in started start_variable no_places is_payload is_void
   start-variables =
       all-each (λ (k : ℕ) (x : Variable). start_variable (variable_conf_in cfg.variables k)) no_variable (λ v y. variable_sound cfg v y) cfg.variables.n max_variable_confs (replicate max_variable_confs no_variable)
       (same-all (λ v y. variable_sound cfg v y) max_variable_confs no_variable (λ v. either_way (ltb v cfg.variables.n)))
@@ -104,7 +105,7 @@ module _ (cfg : Config) (h : config_sound cfg ≡ true) where
       pick-has (λ y. element_sound cfg q y ≡ true) (eqb (required_conf_in cfg.required q).capacity 0) (record { value = never_received_v; updated = false; queue = no_values }) no_element (never-received q b) (λ e. blank-element q)
 
   start-elements : elements_sound cfg (start_elements cfg.required) ≡ true
-  unfolding elements_sound element_in start_elements no_elements
+  unfolding elements_sound place_in started no_places
   start-elements =
       all-each (λ (k : ℕ) (x : Element). start_element (required_conf_in cfg.required k)) no_element (λ q y. element_sound cfg q y) cfg.required.n max_required_confs (replicate max_required_confs no_element)
       (same-all (λ q y. element_sound cfg q y) max_required_confs no_element blank-element) (λ q b c e. start-element q c)
@@ -112,21 +113,21 @@ module _ (cfg : Config) (h : config_sound cfg ≡ true) where
   -- ---- operations, timers and slots
 
   start-operations : operations_sound cfg no_operations ≡ true
-  unfolding operations_sound operation_sound operation_in done_sound is_outcome is_payload is_void no_operations
+  unfolding operations_sound operation_sound place_in done_sound is_outcome is_payload is_void no_places
   start-operations = same-all (λ o y. operation_sound cfg o y) max_operation_confs no_operation (λ o. either_way (ltb o cfg.operations.n))
 
   start-timers : timers_sound cfg no_timers ≡ true
-  unfolding timers_sound timer_sound timer_in no_timers
+  unfolding timers_sound timer_sound place_in no_places
   start-timers = same-all (λ t y. timer_sound cfg t y) max_timer_confs no_timer (λ t. le-leb 0 (timer_conf_in cfg.timers t).period (omega arith))
 
   start-slots : slots_sound cfg no_slots ≡ true
-  unfolding slots_sound slot_in no_slots
+  unfolding slots_sound place_in no_places
   start-slots = same-all (λ k y. slot_sound cfg y) max_slots no_slot (λ k. blank-slot cfg)
 
   -- ---- no instance, no area held, no client
 
   empty-slot : (k : ℕ) → k < max_slots → slot_in no_slots k ≡ no_slot
-  unfolding slot_in no_slots
+  unfolding place_in no_places
   empty-slot k l = get_or-replicate max_slots k no_slot no_slot l
 
   start-counts : Counted (start_runnables cfg.runnables) no_slots
@@ -134,7 +135,7 @@ module _ (cfg : Config) (h : config_sound cfg ≡ true) where
   start-counts = record { counted = λ r l. start-each (λ x. x.instances ≡ 0) refl (λ k. refl) r l ∙ sym (sum-zero _ max_slots (λ k b. ap (λ (x : Slot). bit (of_runnable r x)) (empty-slot k b))) }
 
   free : (a : ℕ) → a < max_area_confs → area_in no_areas a ≡ no_area
-  unfolding area_in no_areas
+  unfolding place_in no_places
   free a l = get_or-replicate max_area_confs a no_area no_area l
 
   none-held : (a : ℕ) → times_in a no_slot.stack ≡ 0
@@ -173,7 +174,7 @@ module _ (cfg : Config) (h : config_sound cfg ≡ true) where
       )
 
   shut : (o : ℕ) → o < max_operation_confs → operation_in no_operations o ≡ no_operation
-  unfolding operation_in no_operations
+  unfolding place_in no_places
   shut o l = get_or-replicate max_operation_confs o no_operation no_operation l
 
   start-clients : Clients no_operations (start_runnables cfg.runnables) no_slots
@@ -195,13 +196,13 @@ module _ (cfg : Config) (h : config_sound cfg ≡ true) where
   -- ---- no copies
 
   start-copies : (t : Lists) → copied_sound cfg.edition t no_slots no_copied ≡ true
-  unfolding copied_sound copies_in no_copied
+  unfolding copied_sound place_in no_places
   start-copies t = same-all (λ k y. copies_sound cfg.edition t (slot_in no_slots k) y) max_slots no_copies (λ k. blank-sound cfg.edition t (slot_in no_slots k) no_copies no-copies-blank)
 
   -- ---- the whole
 
   start-shape : shaped (start_of cfg) ≡ true
-  unfolding start_of start_runnables start_variables start_elements no_runnables no_variables no_areas no_elements no_operations no_timers no_slots no_copied
+  unfolding start_of started no_places
   start-shape =
       shape-made _
       (record {

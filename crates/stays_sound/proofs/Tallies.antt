@@ -16,11 +16,12 @@ use Rattle.laws.proofs.Places.{sum-put, sum-push, sum-shift}
 use Rattle.config.specs.Tables.{max_runnable_confs}
 use Rattle.faces.specs.Types.{Client, Requests, Runnable, Runnables, Operation, Operations, Owed, Slot, Slots}
 use Rattle.state.specs.Parts.{no_client, max_requests, no_operation, no_runnable, no_slot}
-use Rattle.state.specs.Queues.{up_one, push_request, first_request, rest_requests}
+use Rattle.state.specs.Queues.{up_one, push_request, first_request, rest_requests, oldest, pushed, without_oldest}
 use Rattle.state.specs.Tables.{max_slots, runnable_in, operation_in, slot_in, with_runnable, with_operation, with_slot}
 use Rattle.rules.specs.Sound.{is_client, queued_as, served_as, clients_as}
 use Rattle.stays_sound.specs.Facts.{Tallied, Clients}
 use Rattle.stays_sound.proofs.Told.{own-client}
+use Rattle.state.specs.Places.{place_in, with_place}
 use Rattle.stays_sound.proofs.Kept.{slot_kept}
 
 -- a client counts for no other operation or number than its own
@@ -36,7 +37,7 @@ other-number o m c n = both-no (eqb c.operation o) _ (ne_eqb _ _ n)
 
 -- one operation replaced: what holds of the new one, and of each other, holds of all
 operation-put : (P : ℕ → Operation → Type 0) (os : Operations) (o : ℕ) (x : Operation) → o < length os.at → P o x → (k : ℕ) → ((k ≡ o → ⊥) → P k (operation_in os k)) → P k (operation_in (with_operation os o x) k)
-unfolding operation_in with_operation
+unfolding place_in with_place
 operation-put P os o x l p k q = go (ℕ_discrete k o)
   where
     go : Dec (k ≡ o) → P k (operation_in (with_operation os o x) k)
@@ -93,12 +94,12 @@ module _ (os : Operations) (n n' : ℕ → ℕ → ℕ) (h : Tallied os n) where
 module _ (rs : Runnables) (ss : Slots) (o m : ℕ) where
   -- one slot replaced
   pub served-put : (i : ℕ) (x : Slot) → i < max_slots → i < length ss.at → clients_as rs (with_slot ss i x) o m + served_as o m (slot_in ss i).owed ≡ clients_as rs ss o m + served_as o m x.owed
-  unfolding clients_as slot_in with_slot
+  unfolding clients_as place_in with_place
   served-put i x b c = omega (arith, sum-put (λ k y. served_as o m y.owed) ss.at i max_slots x no_slot b c)
 
   -- one runnable replaced
   pub queued-put : (r : ℕ) (x : Runnable) → r < max_runnable_confs → r < length rs.at → clients_as (with_runnable rs r x) ss o m + queued_as o m (runnable_in rs r).requests ≡ clients_as rs ss o m + queued_as o m x.requests
-  unfolding clients_as runnable_in with_runnable
+  unfolding clients_as place_in with_place
   queued-put r x b c = omega (arith, sum-put (λ k y. queued_as o m y.requests) rs.at r max_runnable_confs x no_runnable b c)
 
   -- runnables with the same requests, and slots whose clients count the same
@@ -114,14 +115,14 @@ module _ (rs : Runnables) (ss : Slots) (o m : ℕ) where
 
 -- one request more, at the end
 pub asked : (o m : ℕ) (q : Requests) (c : Client) → q.queued < length q.at → q.queued < max_requests → queued_as o m (push_request q c) ≡ queued_as o m q + bit (is_client o m c)
-unfolding queued_as push_request
+unfolding queued_as pushed
 asked o m q c l b =
     let e : up_one q.queued ≡ q.queued + 1 = omega arith in
     rw e (sum-push (λ (y : Client). bit (is_client o m y)) no_client q.queued q.at c l)
 
 -- the oldest request taken
 pub taken : (o m : ℕ) (q : Requests) → 0 < q.queued → q.queued ≤ length q.at → bit (is_client o m (first_request q)) + queued_as o m (rest_requests q) ≡ queued_as o m q
-unfolding queued_as first_request rest_requests
+unfolding queued_as oldest without_oldest
 taken o m q p l =
     let e : q.queued - 1 + 1 ≡ q.queued = omega arith in
     rw e at (sum-shift (λ (y : Client). bit (is_client o m y)) no_client (q.queued - 1) q.at (omega arith))

@@ -26,13 +26,14 @@ use Rattle.effects.specs.Steps.{entering, exiting, entered, exited, opening, wai
 use Rattle.stays_sound.specs.Facts.{Waiters, Sound, CanEnter, CanExit, CanCall, CanCollect, CanHandBack, CanEnd, CanSpawn, CanTimeout, CanWait, CanFail, WaitersIn}
 use Rattle.stays_sound.proofs.Told.{slots_length}
 use Rattle.stays_sound.proofs.Kept.{here, lowest-empty, slot_kept, waited-kept, slots-after-kept}
+use Rattle.state.specs.Places.{place_in, with_place}
 use Rattle.stays_sound.proofs.Instances.{slot_at}
 
 -- ---- what each kind of change does
 
 -- one slot replaced: what the waiters of o lose and gain
 waiters-put : (ss : Slots) (i : ℕ) (x : Slot) (o : ℕ) → i < max_slots → i < length ss.at → waiters_of (with_slot ss i x) o + bit (waits_on o (slot_in ss i)) ≡ waiters_of ss o + bit (waits_on o x)
-unfolding waiters_of slot_in with_slot
+unfolding waiters_of place_in with_place
 waiters-put ss i x o b c = sum-put (λ k y. bit (waits_on o y)) ss.at i max_slots x no_slot b c
 
 -- one slot replaced that waits as before
@@ -47,7 +48,7 @@ waiters-kept cfg os os' ss ss' f g h = record { most = λ o l. rw (g o) (h.most 
 
 -- a call that ends opens none
 closed-calls : (os : Operations) (o : ℕ) (v : Value) (p : ℕ) → (operation_in (with_operation os o (closing v (operation_in os o))) p).calling ≡ true → (operation_in os p).calling ≡ true
-unfolding operation_in with_operation closing
+unfolding place_in with_place closing
 closed-calls os o v p = put-each (λ k y. y.calling ≡ true → (get_or os.at k no_operation).calling ≡ true) os.at o _ no_operation (λ e. absurd (clash false e refl)) p (λ e. e)
 
 -- who does not wait waits on no operation
@@ -156,7 +157,7 @@ wait-keeps-waiters cfg st t s z =
 
 -- a call on o leaves every other operation as it was
 opened-other : (os : Operations) (o : ℕ) (x : Operation) (p : ℕ) → (p ≡ o → ⊥) → operation_in (with_operation os o x) p ≡ operation_in os p
-unfolding operation_in with_operation
+unfolding place_in with_place
 opened-other os o x p n = get_or-set_other os.at o p x no_operation n
 
 pub call-keeps-waiters : (cfg : Config) (st : State) (i o : ℕ) (v : Value) → Sound cfg st → CanCall cfg st i o v → WaitersIn cfg (called cfg st i o v)

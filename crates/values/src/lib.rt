@@ -2,15 +2,20 @@
 #![tactic(auto)]
 
 ghost use Rattle.std.specs.Prelude.{◌≡◌};
-ghost use Rattle.values.specs.Values.{number_v, full_v, is_void, says_full, is_payload, is_kind, is_mask, is_good, same_value};
+ghost use Rattle.values.specs.Values.{void_v, number_v, full_v, is_void, says_full, is_payload, is_kind, is_mask, is_good, same_value};
 
-#[derive(Clone, Copy)]
+#[derive(Clone, Copy, PartialEq, Eq)]
 pub struct Value {
     pub kind: u8,
     pub number: u32,
 }
 
 impl Value {
+    // The two kinds with a number beside them.
+    pub const NUMBER: u8 = 1;
+
+    pub const FULL: u8 = 8;
+
     pub const VOID: Value = Value { kind: 0, number: 0 };
 
     pub const OK: Value = Value { kind: 2, number: 0 };
@@ -31,69 +36,66 @@ impl Value {
     pub fn of(n: u32) -> Value
         ensures { result ≡ number_v n }
     {
-        Value { kind: 1, number: n }
+        Value {
+            kind: Value::NUMBER,
+            number: n,
+        }
     }
 
     // The Full with the mask m.
     pub fn full(m: u32) -> Value
         ensures { result ≡ full_v m }
     {
-        Value { kind: 8, number: m }
+        Value {
+            kind: Value::FULL,
+            number: m,
+        }
     }
 
+    #[tactic(auto, unfolding(crate::specs::Values::is_void))]
     pub fn is_void(self) -> bool
         ensures { result ≡ is_void self }
     {
-        if self.kind == 0 {
-            return self.number == 0;
-        }
-        false
+        self == Value::VOID
     }
 
     // A Full, whatever its mask is.
     pub fn says_full(self) -> bool
         ensures { result ≡ says_full self }
     {
-        self.kind == 8
+        self.kind == Value::FULL
     }
 
     // Void or a Number.
+    #[tactic(auto, unfolding(crate::specs::Values::is_payload))]
     pub fn is_payload(self) -> bool
         ensures { result ≡ is_payload self }
     {
-        if self.kind == 1 {
-            return true;
-        }
-        self.is_void()
+        self.kind == Value::NUMBER || self.is_void()
     }
 
     // One of the kinds, with a number only where the kind is Number or Full.
+    #[tactic(auto, unfolding(crate::specs::Values::is_good))]
     pub fn is_good(self) -> bool
         ensures { result ≡ is_good self }
     {
-        if self.kind == 1 {
-            return true;
+        match self.kind {
+            Value::NUMBER => true,
+            Value::FULL => is_mask(self.number),
+            k => is_kind(k) && self.number == 0,
         }
-        if self.says_full() {
-            return is_mask(self.number);
-        }
-        if is_kind(self.kind) {
-            return self.number == 0;
-        }
-        false
     }
 
+    #[tactic(auto, unfolding(crate::specs::Values::same_value))]
     pub fn same(self, v: Value) -> bool
         ensures { result ≡ same_value self v }
     {
-        if self.kind == v.kind {
-            return self.number == v.number;
-        }
-        false
+        self == v
     }
 }
 
 // A kind of value.
+#[tactic(auto, unfolding(crate::specs::Values::is_kind))]
 fn is_kind(k: u8) -> bool
     ensures { result ≡ is_kind k }
 {
@@ -104,10 +106,27 @@ fn is_kind(k: u8) -> bool
 const LAST_MASK: u32 = 65535;
 
 // A mask that a Full may have.
+#[tactic(auto, unfolding(crate::specs::Values::is_mask))]
 fn is_mask(m: u32) -> bool
     ensures { result ≡ is_mask m }
 {
     0 < m && m <= LAST_MASK
+}
+
+// What a table can hold: a kind of part, with the part that stands at an unused place.
+pub trait Part: Copy {
+    ghost blank: { Self };
+
+    fn blank() -> Self
+        ensures { result ≡ blank };
+}
+
+impl Part for Value {
+    ghost blank = { void_v };
+
+    fn blank() -> Value {
+        Value::VOID
+    }
 }
 
 // A recorded step: its code, who takes it, what it is about, its argument and the answer that it claims.

@@ -8,6 +8,7 @@ use Rattle.config.specs.Tables.{runnable_conf_in}
 use Rattle.laws.proofs.Places.{each_none, length-mapped}
 use Rattle.shared_steps.proofs.Stopping.{each-put, each_within, runnables-made}
 use Rattle.copies.specs.Given.{given_runnables_by}
+use Rattle.config.specs.Table.{part_in}
 use Rattle.copies.proofs.given_runnables.Goals as goal
 
 pub loop-k-init : goal.loop-k-init
@@ -38,7 +39,7 @@ pub loop-k-smaller : goal.loop-k-smaller
 loop-k-smaller c = omega arith
 
 pub loop-k-preserved : goal.loop-k-preserved
-unfolding runnable_conf_in
+unfolding part_in
 loop-k-preserved c =
     let a = c.args in
     let e : length a.rs.at ≡ 16 = search (rules, length-mapped, c.well_formed.1) in

@@ -6,6 +6,7 @@ use Rattle.laws.proofs.Places.{each_none, length-mapped}
 use Rattle.effects.specs.Steps as rules
 use Rattle.effects.specs.Steps.{is_returned, returned_runnables}
 use Rattle.shared_steps.proofs.Stopping.{each-put, each_within, runnables-made}
+use Rattle.config.specs.Table.{part_in}
 use Rattle.end_steps.proofs.returned_runnables.Goals as goal
 
 pub loop-r-init : goal.loop-r-init
@@ -36,7 +37,7 @@ pub loop-r-smaller : goal.loop-r-smaller
 loop-r-smaller c = omega arith
 
 pub loop-r-preserved : goal.loop-r-preserved
-unfolding runnable_conf_in
+unfolding part_in
 loop-r-preserved c =
     let a = c.args in
     let e : length a.rs.at ≡ 16 = search (rules, length-mapped, c.well_formed.1) in

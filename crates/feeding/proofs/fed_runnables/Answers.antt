@@ -8,6 +8,7 @@ use Rattle.config.specs.Tables.{runnable_conf_in}
 use Rattle.laws.proofs.Places.{each_none, length-mapped}
 use Rattle.shared_steps.proofs.Stopping.{each-put, each_within, runnables-made}
 use Rattle.feeding.specs.Rooms.{fed_runnables_by}
+use Rattle.config.specs.Table.{part_in}
 use Rattle.feeding.proofs.fed_runnables.Goals as goal
 
 pub loop-r-init : goal.loop-r-init
@@ -38,7 +39,7 @@ pub loop-r-smaller : goal.loop-r-smaller
 loop-r-smaller c = omega arith
 
 pub loop-r-preserved : goal.loop-r-preserved
-unfolding runnable_conf_in
+unfolding part_in
 loop-r-preserved c =
     let a = c.args in
     let e : length a.rs.at ≡ 16 = search (rules, length-mapped, c.well_formed.1) in

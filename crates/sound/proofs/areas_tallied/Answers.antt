@@ -6,6 +6,7 @@ use Rattle.laws.proofs.Places.{inside, length-mapped}
 use Rattle.state.specs.Parts.{no_area}
 use Rattle.state.specs.Tables.{area_in}
 use Rattle.sound.specs.Walk.{areas_tallied}
+use Rattle.state.specs.Places.{place_in}
 use Rattle.sound.proofs.areas_tallied.Goals as goal
 
 pub loop-k-init : goal.loop-k-init
@@ -30,7 +31,7 @@ pub loop-k-smaller : goal.loop-k-smaller
 loop-k-smaller c = omega (arith, c.loop-k-test.true)
 
 pub loop-k-preserved : goal.loop-k-preserved
-unfolding area_in
+unfolding place_in
 loop-k-preserved c =
     let a = c.args in
     let e : length a.t.at ≡ 16 = search (rules, length-mapped) in
@@ -39,7 +40,7 @@ loop-k-preserved c =
     (omega (arith, b), all_more _ _ c.loop-k.invariant.1 (rw (inside a.t.at k 16 _ no_area e b) at (sym c.area_tallied.ensures ∙ c.if-area_tallied.true)))
 
 pub returns-else-area_tallied : goal.returns-else-area_tallied
-unfolding areas_tallied area_in
+unfolding areas_tallied place_in
 returns-else-area_tallied c =
     let a = c.args in
     let e : length a.t.at ≡ 16 = search (rules, length-mapped) in

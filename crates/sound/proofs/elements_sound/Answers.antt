@@ -6,6 +6,7 @@ use Rattle.laws.proofs.Places.{inside, length-mapped}
 use Rattle.state.specs.Parts.{no_element, no_values}
 use Rattle.state.specs.Tables.{element_in}
 use Rattle.rules.specs.Sound.{elements_sound}
+use Rattle.state.specs.Places.{place_in}
 use Rattle.sound.proofs.elements_sound.Goals as goal
 
 pub loop-k-init : goal.loop-k-init
@@ -27,7 +28,7 @@ pub loop-k-smaller : goal.loop-k-smaller
 loop-k-smaller c = omega (arith, c.loop-k-test.true)
 
 pub loop-k-preserved : goal.loop-k-preserved
-unfolding element_in no_element no_values
+unfolding place_in no_element no_values
 loop-k-preserved c =
     let a = c.args in
     let e : length a.t.at ≡ 16 = search (rules, length-mapped) in
@@ -35,7 +36,7 @@ loop-k-preserved c =
     (omega (arith, c.loop-k-test.true), all_more _ _ c.loop-k.invariant.1 (rw (inside a.t.at k 16 _ no_element e c.loop-k-test.true) at (sym c.element_sound.ensures ∙ c.if-element_sound.true)))
 
 pub returns-else-element_sound : goal.returns-else-element_sound
-unfolding elements_sound element_in no_element no_values
+unfolding elements_sound place_in no_element no_values
 returns-else-element_sound c =
     let a = c.args in
     let e : length a.t.at ≡ 16 = search (rules, length-mapped) in

@@ -6,6 +6,7 @@ use Rattle.laws.proofs.Places.{inside, length-mapped}
 use Rattle.state.specs.Parts.{no_operation}
 use Rattle.state.specs.Tables.{operation_in}
 use Rattle.sound.specs.Walk.{operations_tallied}
+use Rattle.state.specs.Places.{place_in}
 use Rattle.sound.proofs.operations_tallied.Goals as goal
 
 pub loop-k-init : goal.loop-k-init
@@ -30,7 +31,7 @@ pub loop-k-smaller : goal.loop-k-smaller
 loop-k-smaller c = omega (arith, c.loop-k-test.true)
 
 pub loop-k-preserved : goal.loop-k-preserved
-unfolding operation_in
+unfolding place_in
 loop-k-preserved c =
     let a = c.args in
     let e : length a.t.at ≡ 8 = search (length-mapped, c.well_formed.1.1.1) in
@@ -39,7 +40,7 @@ loop-k-preserved c =
     (omega (arith, b), all_more _ _ c.loop-k.invariant.1 (rw (inside a.t.at k 8 _ no_operation e b) at (sym c.operation_tallied.ensures ∙ c.if-operation_tallied.true)))
 
 pub returns-else-operation_tallied : goal.returns-else-operation_tallied
-unfolding operations_tallied operation_in
+unfolding operations_tallied place_in
 returns-else-operation_tallied c =
     let a = c.args in
     let e : length a.t.at ≡ 8 = search (length-mapped, c.well_formed.1.1.1) in

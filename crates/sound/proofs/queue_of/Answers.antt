@@ -7,17 +7,18 @@ use Rattle.state.specs.Parts.{no_runnable, no_requests}
 use Rattle.state.specs.Tables.{runnable_in}
 use Rattle.sound.specs.Only.{only_operations}
 use Rattle.sound.specs.Walk.{queue_of}
+use Rattle.state.specs.Places.{place_in}
 use Rattle.sound.proofs.queue_of.Goals as goal
 
 pub returns-then-k-lt-MAX : goal.returns-then-k-lt-MAX
-unfolding queue_of only_operations runnable_in no_runnable no_requests
+unfolding queue_of only_operations place_in no_runnable no_requests
 returns-then-k-lt-MAX c =
     let a = c.args in
     let e : length a.rs.at ≡ 16 = search (rules, length-mapped) in
     rw (← c.get-conf.ensures) (ap (λ (x : Runnable). x.requests) (inside a.rs.at c.get-conf.result.server 16 _ no_runnable e c.if-k-lt-MAX.true))
 
 pub returns : goal.returns
-unfolding queue_of only_operations runnable_in no_runnable no_requests
+unfolding queue_of only_operations place_in no_runnable no_requests
 returns c =
     let a = c.args in
     let e : length a.rs.at ≡ 16 = search (rules, length-mapped) in

@@ -6,6 +6,7 @@ use Rattle.laws.proofs.Places.{inside, length-mapped}
 use Rattle.state.specs.Parts.{no_runnable, no_requests}
 use Rattle.state.specs.Tables.{runnable_in}
 use Rattle.sound.specs.Walk.{runnables_tallied}
+use Rattle.state.specs.Places.{place_in}
 use Rattle.sound.proofs.runnables_tallied.Goals as goal
 
 pub loop-k-init : goal.loop-k-init
@@ -30,7 +31,7 @@ pub loop-k-smaller : goal.loop-k-smaller
 loop-k-smaller c = omega (arith, c.loop-k-test.true)
 
 pub loop-k-preserved : goal.loop-k-preserved
-unfolding runnable_in no_runnable no_requests
+unfolding place_in no_runnable no_requests
 loop-k-preserved c =
     let a = c.args in
     let e : length a.t.at ≡ 16 = search (length-mapped, c.well_formed.1.1) in
@@ -39,7 +40,7 @@ loop-k-preserved c =
     (omega (arith, b), all_more _ _ c.loop-k.invariant.1 (rw (inside a.t.at k 16 _ no_runnable e b) at (sym c.runnable_tallied.ensures ∙ c.if-runnable_tallied.true)))
 
 pub returns-else-runnable_tallied : goal.returns-else-runnable_tallied
-unfolding runnables_tallied runnable_in no_runnable no_requests
+unfolding runnables_tallied place_in no_runnable no_requests
 returns-else-runnable_tallied c =
     let a = c.args in
     let e : length a.t.at ≡ 16 = search (length-mapped, c.well_formed.1.1) in

@@ -7,6 +7,7 @@ use Rattle.state.specs.Parts.{no_slot, no_stack, no_copies}
 use Rattle.state.specs.Tables.{slot_in, copies_in}
 use Rattle.sound.specs.Tally.{no_tally, tally_of}
 use Rattle.sound.specs.Walk.{slot_walked, slots_walked, walk_of}
+use Rattle.state.specs.Places.{place_in}
 use Rattle.sound.proofs.walk.Goals as goal
 
 pub loop-k-init : goal.loop-k-init
@@ -38,7 +39,7 @@ pub loop-k-smaller : goal.loop-k-smaller
 loop-k-smaller c = omega (arith, c.loop-k-test.true)
 
 pub loop-k-preserved : goal.loop-k-preserved
-unfolding slot_in copies_in no_slot no_stack no_copies tally_of
+unfolding place_in no_slot no_stack no_copies tally_of
 loop-k-preserved c =
     let a = c.args in
     let e0 : length a.slots.at ≡ 32 = search (rules, length-mapped) in
@@ -49,7 +50,7 @@ loop-k-preserved c =
     (omega (arith, b), all_more _ _ c.loop-k.invariant.1 (rw (inside a.slots.at k 32 _ no_slot e0 b, inside a.incoming.at k 32 _ no_copies e1 b, inside a.outgoing.at k 32 _ no_copies e2 b) at (sym c.slot_walked.ensures ∙ c.if-slot_walked.true)), rw (c.tallied-t.ensures, inside a.slots.at k 32 _ no_slot e0 b, c.loop-k.invariant.2, add-one))
 
 pub returns-else-slot_walked : goal.returns-else-slot_walked
-unfolding walk_of slots_walked slot_in copies_in no_slot no_stack no_copies no_tally
+unfolding walk_of slots_walked place_in no_slot no_stack no_copies no_tally
 returns-else-slot_walked c =
     let a = c.args in
     let e0 : length a.slots.at ≡ 32 = search (rules, length-mapped) in

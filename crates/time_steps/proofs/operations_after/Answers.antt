@@ -6,6 +6,7 @@ use native.Mathlib.Omega.{arith}
 use Rattle.laws.proofs.Places.{each_more, each_none}
 use Rattle.effects.specs.Steps.{operations_after}
 use Rattle.state.specs.Tables.{operation_in, with_operation}
+use Rattle.state.specs.Places.{place_in, with_place}
 use Rattle.time_steps.proofs.operations_after.Goals as goal
 
 pub loop-o-init : goal.loop-o-init
@@ -18,7 +19,7 @@ pub loop-o-smaller : goal.loop-o-smaller
 loop-o-smaller c = omega arith
 
 pub loop-o-preserved : goal.loop-o-preserved
-unfolding with_operation operation_in
+unfolding with_place place_in
 loop-o-preserved c = (omega arith, rw (c.with-u.ensures, c.operation_after.ensures, c.get.ensures, c.loop-o.invariant.1, each_more))
 
 pub returns : goal.returns

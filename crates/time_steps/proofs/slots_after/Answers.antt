@@ -6,6 +6,7 @@ use native.Mathlib.Omega.{arith}
 use Rattle.laws.proofs.Places.{each_more, each_none}
 use Rattle.effects.specs.Steps.{slots_after}
 use Rattle.state.specs.Tables.{slot_in, with_slot}
+use Rattle.state.specs.Places.{place_in, with_place}
 use Rattle.time_steps.proofs.slots_after.Goals as goal
 
 pub loop-i-init : goal.loop-i-init
@@ -18,7 +19,7 @@ pub loop-i-smaller : goal.loop-i-smaller
 loop-i-smaller c = omega arith
 
 pub loop-i-preserved : goal.loop-i-preserved
-unfolding with_slot slot_in
+unfolding with_place place_in
 loop-i-preserved c = (omega arith, rw (c.with-u.ensures, c.slot_after.ensures, c.get.ensures, c.loop-i.invariant.1, each_more))
 
 pub returns : goal.returns

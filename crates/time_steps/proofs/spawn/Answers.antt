@@ -10,6 +10,7 @@ use Rattle.state.specs.Tables.{runnable_in, with_slot}
 use Rattle.effects.specs.Steps.{took, may_spawn, spawned, lists_some, spawn_of}
 use Rattle.time_steps.proofs.Places.{found_at, found_none}
 use Rattle.time_steps.proofs.Spawning.{spawn-taken, begun-unlisted}
+use Rattle.state.specs.Places.{with_place}
 use Rattle.time_steps.proofs.spawn.Goals as goal
 
 pub returns-in_default : goal.returns-in_default
@@ -20,7 +21,7 @@ pub bounds-slots-place : goal.bounds-slots-place
 bounds-slots-place c = omega (arith, (found_at c.args.st.slots c.in-At.k (sym c.found_empty.ensures ∙ c.in-At.is)).2)
 
 pub returns-then-lists_some : goal.returns-then-lists_some
-unfolding spawned with_slot
+unfolding spawned with_place
 returns-then-lists_some c =
     let a = c.args in
     let k = c.in-At.k in
@@ -29,7 +30,7 @@ returns-then-lists_some c =
     (sym (spawn-taken a.cfg a.st a.r k m (sym c.found_empty.ensures ∙ c.in-At.is)))
 
 pub returns-then-may_spawn : goal.returns-then-may_spawn
-unfolding spawned with_slot
+unfolding spawned with_place
 returns-then-may_spawn c =
     let a = c.args in
     let k = c.in-At.k in

@@ -6,6 +6,7 @@ use native.Mathlib.Omega.{arith}
 use Rattle.laws.proofs.Places.{each_more, each_none}
 use Rattle.effects.specs.Steps.{timers_after}
 use Rattle.state.specs.Tables.{timer_in, with_timer}
+use Rattle.state.specs.Places.{place_in, with_place}
 use Rattle.time_steps.proofs.timers_after.Goals as goal
 
 pub loop-k-init : goal.loop-k-init
@@ -18,7 +19,7 @@ pub loop-k-smaller : goal.loop-k-smaller
 loop-k-smaller c = omega arith
 
 pub loop-k-preserved : goal.loop-k-preserved
-unfolding with_timer timer_in
+unfolding with_place place_in
 loop-k-preserved c = (omega arith, rw (c.with-u.ensures, c.timer_after.ensures, c.get.ensures, c.loop-k.invariant.1, each_more))
 
 pub returns : goal.returns

@@ -1,6 +1,6 @@
 -- `config::Lists::place` meets its contract.
 -- Assumes nothing.
-use Prim.Native.Nat.{ℕ, ◌-◌, ◌≤◌}
+use Prim.Native.Nat.{ℕ}
 use mathlib.Core.Path.{◌≡◌}
 use lib.Dec.{eqb}
 use Rattle.laws.specs.Choice.{both}
@@ -9,7 +9,4 @@ use Rattle.config.specs.Lists.{lists_at, element_at}
 use Rattle.config.proofs.Lists.place.Given as goal
 
 abbrev pub invariant-loop-j : goal.invariant-loop-j
-invariant-loop-j l = (l.j ≤ 4) × (first_below (λ (k : ℕ). both (lists_at l.self l.r k) (eqb (element_at l.self l.r k) l.q)) l.j ≡ l.j)
-
-abbrev pub decreases-loop-j : goal.decreases-loop-j
-decreases-loop-j l = 4 - l.j
+invariant-loop-j l = first_below (λ (k : ℕ). both (lists_at l.self l.r k) (eqb (element_at l.self l.r k) l.q)) l.j ≡ l.j
