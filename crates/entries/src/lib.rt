@@ -359,11 +359,11 @@ pub fn entry_of(cfg: Config, tag: u8, i: u8) -> Entry
         }
         numbers::TAG_INCOMING => {
             let t = cfg.incoming;
-            listed_entry(t.get(i as usize))
+            listed_entry(t.get(i))
         }
         numbers::TAG_OUTGOING => {
             let t = cfg.outgoing;
-            listed_entry(t.get(i as usize))
+            listed_entry(t.get(i))
         }
         _ => Entry::BLANK,
     }
