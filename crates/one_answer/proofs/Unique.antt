@@ -11,6 +11,10 @@ use contract.Lifetimes.{Lfts}
 use denote.Triple.Clauses.{AtExit}
 use borrow.Fn.Kind.{ParamKind, ResultKind}
 use borrow.Fn.Kinds.{Dens, res_t, ended_of, Out}
+use denote.Param.Laws.{Laws, IsCopy}
+use denote.RattleType.{RattleType}
+use mir.Syntax.{Dict, w64}
+use mir.Val.{Fits}
 use Rattle.wire.proofs.Laws.{written_once}
 
 -- ---- the law
@@ -54,98 +58,8 @@ values-Value-same κs a x y s t = same
 pub config-bit : One Rattle.config.proofs.bit.Kinds.ps Rattle.config.proofs.bit.Kinds.r Rattle.config.proofs.bit.Reads.Post
 config-bit κs a x y s t = same
 
-pub config-RunnableConfs-none : One Rattle.config.proofs.RunnableConfs.none.Kinds.ps Rattle.config.proofs.RunnableConfs.none.Kinds.r Rattle.config.proofs.RunnableConfs.none.Reads.Post
-config-RunnableConfs-none κs a x y s t = same
-
-pub config-RunnableConfs-get : One Rattle.config.proofs.RunnableConfs.get.Kinds.ps Rattle.config.proofs.RunnableConfs.get.Kinds.r Rattle.config.proofs.RunnableConfs.get.Reads.Post
-config-RunnableConfs-get κs a x y s t = same
-
-pub config-RunnableConfs-add : One Rattle.config.proofs.RunnableConfs.add.Kinds.ps Rattle.config.proofs.RunnableConfs.add.Kinds.r Rattle.config.proofs.RunnableConfs.add.Reads.Post
-config-RunnableConfs-add κs a x y s t = same
-
 pub config-RunnableConf-top : One Rattle.config.proofs.RunnableConf.top.Kinds.ps Rattle.config.proofs.RunnableConf.top.Kinds.r Rattle.config.proofs.RunnableConf.top.Reads.Post
 config-RunnableConf-top κs a x y s t = same
-
-pub config-VariableConfs-none : One Rattle.config.proofs.VariableConfs.none.Kinds.ps Rattle.config.proofs.VariableConfs.none.Kinds.r Rattle.config.proofs.VariableConfs.none.Reads.Post
-config-VariableConfs-none κs a x y s t = same
-
-pub config-VariableConfs-get : One Rattle.config.proofs.VariableConfs.get.Kinds.ps Rattle.config.proofs.VariableConfs.get.Kinds.r Rattle.config.proofs.VariableConfs.get.Reads.Post
-config-VariableConfs-get κs a x y s t = same
-
-pub config-VariableConfs-add : One Rattle.config.proofs.VariableConfs.add.Kinds.ps Rattle.config.proofs.VariableConfs.add.Kinds.r Rattle.config.proofs.VariableConfs.add.Reads.Post
-config-VariableConfs-add κs a x y s t = same
-
-pub config-AreaConfs-none : One Rattle.config.proofs.AreaConfs.none.Kinds.ps Rattle.config.proofs.AreaConfs.none.Kinds.r Rattle.config.proofs.AreaConfs.none.Reads.Post
-config-AreaConfs-none κs a x y s t = same
-
-pub config-AreaConfs-get : One Rattle.config.proofs.AreaConfs.get.Kinds.ps Rattle.config.proofs.AreaConfs.get.Kinds.r Rattle.config.proofs.AreaConfs.get.Reads.Post
-config-AreaConfs-get κs a x y s t = same
-
-pub config-AreaConfs-add : One Rattle.config.proofs.AreaConfs.add.Kinds.ps Rattle.config.proofs.AreaConfs.add.Kinds.r Rattle.config.proofs.AreaConfs.add.Reads.Post
-config-AreaConfs-add κs a x y s t = same
-
-pub config-RequiredConfs-none : One Rattle.config.proofs.RequiredConfs.none.Kinds.ps Rattle.config.proofs.RequiredConfs.none.Kinds.r Rattle.config.proofs.RequiredConfs.none.Reads.Post
-config-RequiredConfs-none κs a x y s t = same
-
-pub config-RequiredConfs-get : One Rattle.config.proofs.RequiredConfs.get.Kinds.ps Rattle.config.proofs.RequiredConfs.get.Kinds.r Rattle.config.proofs.RequiredConfs.get.Reads.Post
-config-RequiredConfs-get κs a x y s t = same
-
-pub config-RequiredConfs-add : One Rattle.config.proofs.RequiredConfs.add.Kinds.ps Rattle.config.proofs.RequiredConfs.add.Kinds.r Rattle.config.proofs.RequiredConfs.add.Reads.Post
-config-RequiredConfs-add κs a x y s t = same
-
-pub config-ProvidedConfs-none : One Rattle.config.proofs.ProvidedConfs.none.Kinds.ps Rattle.config.proofs.ProvidedConfs.none.Kinds.r Rattle.config.proofs.ProvidedConfs.none.Reads.Post
-config-ProvidedConfs-none κs a x y s t = same
-
-pub config-ProvidedConfs-get : One Rattle.config.proofs.ProvidedConfs.get.Kinds.ps Rattle.config.proofs.ProvidedConfs.get.Kinds.r Rattle.config.proofs.ProvidedConfs.get.Reads.Post
-config-ProvidedConfs-get κs a x y s t = same
-
-pub config-ProvidedConfs-add : One Rattle.config.proofs.ProvidedConfs.add.Kinds.ps Rattle.config.proofs.ProvidedConfs.add.Kinds.r Rattle.config.proofs.ProvidedConfs.add.Reads.Post
-config-ProvidedConfs-add κs a x y s t = same
-
-pub config-Links-none : One Rattle.config.proofs.Links.none.Kinds.ps Rattle.config.proofs.Links.none.Kinds.r Rattle.config.proofs.Links.none.Reads.Post
-config-Links-none κs a x y s t = same
-
-pub config-Links-get : One Rattle.config.proofs.Links.get.Kinds.ps Rattle.config.proofs.Links.get.Kinds.r Rattle.config.proofs.Links.get.Reads.Post
-config-Links-get κs a x y s t = same
-
-pub config-Links-add : One Rattle.config.proofs.Links.add.Kinds.ps Rattle.config.proofs.Links.add.Kinds.r Rattle.config.proofs.Links.add.Reads.Post
-config-Links-add κs a x y s t = same
-
-pub config-OperationConfs-none : One Rattle.config.proofs.OperationConfs.none.Kinds.ps Rattle.config.proofs.OperationConfs.none.Kinds.r Rattle.config.proofs.OperationConfs.none.Reads.Post
-config-OperationConfs-none κs a x y s t = same
-
-pub config-OperationConfs-get : One Rattle.config.proofs.OperationConfs.get.Kinds.ps Rattle.config.proofs.OperationConfs.get.Kinds.r Rattle.config.proofs.OperationConfs.get.Reads.Post
-config-OperationConfs-get κs a x y s t = same
-
-pub config-OperationConfs-add : One Rattle.config.proofs.OperationConfs.add.Kinds.ps Rattle.config.proofs.OperationConfs.add.Kinds.r Rattle.config.proofs.OperationConfs.add.Reads.Post
-config-OperationConfs-add κs a x y s t = same
-
-pub config-TimerConfs-none : One Rattle.config.proofs.TimerConfs.none.Kinds.ps Rattle.config.proofs.TimerConfs.none.Kinds.r Rattle.config.proofs.TimerConfs.none.Reads.Post
-config-TimerConfs-none κs a x y s t = same
-
-pub config-TimerConfs-get : One Rattle.config.proofs.TimerConfs.get.Kinds.ps Rattle.config.proofs.TimerConfs.get.Kinds.r Rattle.config.proofs.TimerConfs.get.Reads.Post
-config-TimerConfs-get κs a x y s t = same
-
-pub config-TimerConfs-add : One Rattle.config.proofs.TimerConfs.add.Kinds.ps Rattle.config.proofs.TimerConfs.add.Kinds.r Rattle.config.proofs.TimerConfs.add.Reads.Post
-config-TimerConfs-add κs a x y s t = same
-
-pub config-DataEvents-none : One Rattle.config.proofs.DataEvents.none.Kinds.ps Rattle.config.proofs.DataEvents.none.Kinds.r Rattle.config.proofs.DataEvents.none.Reads.Post
-config-DataEvents-none κs a x y s t = same
-
-pub config-DataEvents-get : One Rattle.config.proofs.DataEvents.get.Kinds.ps Rattle.config.proofs.DataEvents.get.Kinds.r Rattle.config.proofs.DataEvents.get.Reads.Post
-config-DataEvents-get κs a x y s t = same
-
-pub config-DataEvents-add : One Rattle.config.proofs.DataEvents.add.Kinds.ps Rattle.config.proofs.DataEvents.add.Kinds.r Rattle.config.proofs.DataEvents.add.Reads.Post
-config-DataEvents-add κs a x y s t = same
-
-pub config-ReturnEvents-none : One Rattle.config.proofs.ReturnEvents.none.Kinds.ps Rattle.config.proofs.ReturnEvents.none.Kinds.r Rattle.config.proofs.ReturnEvents.none.Reads.Post
-config-ReturnEvents-none κs a x y s t = same
-
-pub config-ReturnEvents-get : One Rattle.config.proofs.ReturnEvents.get.Kinds.ps Rattle.config.proofs.ReturnEvents.get.Kinds.r Rattle.config.proofs.ReturnEvents.get.Reads.Post
-config-ReturnEvents-get κs a x y s t = same
-
-pub config-ReturnEvents-add : One Rattle.config.proofs.ReturnEvents.add.Kinds.ps Rattle.config.proofs.ReturnEvents.add.Kinds.r Rattle.config.proofs.ReturnEvents.add.Reads.Post
-config-ReturnEvents-add κs a x y s t = same
 
 pub config-Config-none : One Rattle.config.proofs.Config.none.Kinds.ps Rattle.config.proofs.Config.none.Kinds.r Rattle.config.proofs.Config.none.Reads.Post
 config-Config-none κs a x y s t = same
@@ -158,15 +72,6 @@ config-marks-invalid κs a x y s t = same
 
 pub config-has-step : One Rattle.config.proofs.has_step.Kinds.ps Rattle.config.proofs.has_step.Kinds.r Rattle.config.proofs.has_step.Reads.Post
 config-has-step κs a x y s t = same
-
-pub config-Lists-none : One Rattle.config.proofs.Lists.none.Kinds.ps Rattle.config.proofs.Lists.none.Kinds.r Rattle.config.proofs.Lists.none.Reads.Post
-config-Lists-none κs a x y s t = same
-
-pub config-Lists-get : One Rattle.config.proofs.Lists.get.Kinds.ps Rattle.config.proofs.Lists.get.Kinds.r Rattle.config.proofs.Lists.get.Reads.Post
-config-Lists-get κs a x y s t = same
-
-pub config-Lists-add : One Rattle.config.proofs.Lists.add.Kinds.ps Rattle.config.proofs.Lists.add.Kinds.r Rattle.config.proofs.Lists.add.Reads.Post
-config-Lists-add κs a x y s t = same
 
 pub config-Lists-below : One Rattle.config.proofs.Lists.below.Kinds.ps Rattle.config.proofs.Lists.below.Kinds.r Rattle.config.proofs.Lists.below.Reads.Post
 config-Lists-below κs a x y s t = same
@@ -194,27 +99,6 @@ config-has-field κs a x y s t = same
 
 -- ---- state
 
-pub state-Requests-get : One Rattle.state.proofs.Requests.get.Kinds.ps Rattle.state.proofs.Requests.get.Kinds.r Rattle.state.proofs.Requests.get.Reads.Post
-state-Requests-get κs a x y s t = same
-
-pub state-Requests-push : One Rattle.state.proofs.Requests.push.Kinds.ps Rattle.state.proofs.Requests.push.Kinds.r Rattle.state.proofs.Requests.push.Reads.Post
-state-Requests-push κs a x y s t = same
-
-pub state-Requests-first : One Rattle.state.proofs.Requests.first.Kinds.ps Rattle.state.proofs.Requests.first.Kinds.r Rattle.state.proofs.Requests.first.Reads.Post
-state-Requests-first κs a x y s t = same
-
-pub state-Requests-rest : One Rattle.state.proofs.Requests.rest.Kinds.ps Rattle.state.proofs.Requests.rest.Kinds.r Rattle.state.proofs.Requests.rest.Reads.Post
-state-Requests-rest κs a x y s t = same
-
-pub state-Values-push : One Rattle.state.proofs.Values.push.Kinds.ps Rattle.state.proofs.Values.push.Kinds.r Rattle.state.proofs.Values.push.Reads.Post
-state-Values-push κs a x y s t = same
-
-pub state-Values-first : One Rattle.state.proofs.Values.first.Kinds.ps Rattle.state.proofs.Values.first.Kinds.r Rattle.state.proofs.Values.first.Reads.Post
-state-Values-first κs a x y s t = same
-
-pub state-Values-rest : One Rattle.state.proofs.Values.rest.Kinds.ps Rattle.state.proofs.Values.rest.Kinds.r Rattle.state.proofs.Values.rest.Reads.Post
-state-Values-rest κs a x y s t = same
-
 pub state-Stack-push : One Rattle.state.proofs.Stack.push.Kinds.ps Rattle.state.proofs.Stack.push.Kinds.r Rattle.state.proofs.Stack.push.Reads.Post
 state-Stack-push κs a x y s t = same
 
@@ -223,48 +107,6 @@ state-Stack-top κs a x y s t = same
 
 pub state-Stack-pop : One Rattle.state.proofs.Stack.pop.Kinds.ps Rattle.state.proofs.Stack.pop.Kinds.r Rattle.state.proofs.Stack.pop.Reads.Post
 state-Stack-pop κs a x y s t = same
-
-pub state-Runnables-get : One Rattle.state.proofs.Runnables.get.Kinds.ps Rattle.state.proofs.Runnables.get.Kinds.r Rattle.state.proofs.Runnables.get.Reads.Post
-state-Runnables-get κs a x y s t = same
-
-pub state-Runnables-with : One Rattle.state.proofs.Runnables.with.Kinds.ps Rattle.state.proofs.Runnables.with.Kinds.r Rattle.state.proofs.Runnables.with.Reads.Post
-state-Runnables-with κs a x y s t = same
-
-pub state-Variables-get : One Rattle.state.proofs.Variables.get.Kinds.ps Rattle.state.proofs.Variables.get.Kinds.r Rattle.state.proofs.Variables.get.Reads.Post
-state-Variables-get κs a x y s t = same
-
-pub state-Variables-with : One Rattle.state.proofs.Variables.with.Kinds.ps Rattle.state.proofs.Variables.with.Kinds.r Rattle.state.proofs.Variables.with.Reads.Post
-state-Variables-with κs a x y s t = same
-
-pub state-Areas-get : One Rattle.state.proofs.Areas.get.Kinds.ps Rattle.state.proofs.Areas.get.Kinds.r Rattle.state.proofs.Areas.get.Reads.Post
-state-Areas-get κs a x y s t = same
-
-pub state-Areas-with : One Rattle.state.proofs.Areas.with.Kinds.ps Rattle.state.proofs.Areas.with.Kinds.r Rattle.state.proofs.Areas.with.Reads.Post
-state-Areas-with κs a x y s t = same
-
-pub state-Elements-get : One Rattle.state.proofs.Elements.get.Kinds.ps Rattle.state.proofs.Elements.get.Kinds.r Rattle.state.proofs.Elements.get.Reads.Post
-state-Elements-get κs a x y s t = same
-
-pub state-Elements-with : One Rattle.state.proofs.Elements.with.Kinds.ps Rattle.state.proofs.Elements.with.Kinds.r Rattle.state.proofs.Elements.with.Reads.Post
-state-Elements-with κs a x y s t = same
-
-pub state-Operations-get : One Rattle.state.proofs.Operations.get.Kinds.ps Rattle.state.proofs.Operations.get.Kinds.r Rattle.state.proofs.Operations.get.Reads.Post
-state-Operations-get κs a x y s t = same
-
-pub state-Operations-with : One Rattle.state.proofs.Operations.with.Kinds.ps Rattle.state.proofs.Operations.with.Kinds.r Rattle.state.proofs.Operations.with.Reads.Post
-state-Operations-with κs a x y s t = same
-
-pub state-Timers-get : One Rattle.state.proofs.Timers.get.Kinds.ps Rattle.state.proofs.Timers.get.Kinds.r Rattle.state.proofs.Timers.get.Reads.Post
-state-Timers-get κs a x y s t = same
-
-pub state-Timers-with : One Rattle.state.proofs.Timers.with.Kinds.ps Rattle.state.proofs.Timers.with.Kinds.r Rattle.state.proofs.Timers.with.Reads.Post
-state-Timers-with κs a x y s t = same
-
-pub state-Slots-get : One Rattle.state.proofs.Slots.get.Kinds.ps Rattle.state.proofs.Slots.get.Kinds.r Rattle.state.proofs.Slots.get.Reads.Post
-state-Slots-get κs a x y s t = same
-
-pub state-Slots-with : One Rattle.state.proofs.Slots.with.Kinds.ps Rattle.state.proofs.Slots.with.Kinds.r Rattle.state.proofs.Slots.with.Reads.Post
-state-Slots-with κs a x y s t = same
 
 pub state-State-start : One Rattle.state.proofs.State.start.Kinds.ps Rattle.state.proofs.State.start.Kinds.r Rattle.state.proofs.State.start.Reads.Post
 state-State-start κs a x y s t = same
@@ -281,11 +123,41 @@ state-Copies-get κs a x y s t = same
 pub state-Copies-with : One Rattle.state.proofs.Copies.with.Kinds.ps Rattle.state.proofs.Copies.with.Kinds.r Rattle.state.proofs.Copies.with.Reads.Post
 state-Copies-with κs a x y s t = same
 
-pub state-Copied-get : One Rattle.state.proofs.Copied.get.Kinds.ps Rattle.state.proofs.Copied.get.Kinds.r Rattle.state.proofs.Copied.get.Reads.Post
-state-Copied-get κs a x y s t = same
+-- ---- tables and queues, of every kind of part and every size
 
-pub state-Copied-with : One Rattle.state.proofs.Copied.with.Kinds.ps Rattle.state.proofs.Copied.with.Kinds.r Rattle.state.proofs.Copied.with.Reads.Post
-state-Copied-with κs a x y s t = same
+module _ (T : RattleType) (l : Laws T) (c : IsCopy T) (p : Rattle.values.specs.declared.Part.Ghosts T.Denot) (d : Dict) (q : Rattle.std.specs.declared.clone.Clone.Ghosts T.Denot) (e : Dict) where
+  pub config-Table-none : (n : ℕ) (f : Fits w64 n) → One (Rattle.config.proofs.Table.none.Kinds.ps T n l f c) (Rattle.config.proofs.Table.none.Kinds.r T n l f c) (Rattle.config.proofs.Table.none.Reads.Post T n l f c p d q e)
+  config-Table-none n f κs a x y s t = same
+
+  pub config-Table-get : (n : ℕ) (f : Fits w64 n) → One (Rattle.config.proofs.Table.get.Kinds.ps T n l f c) (Rattle.config.proofs.Table.get.Kinds.r T n l f c) (Rattle.config.proofs.Table.get.Reads.Post T n l f c p d q e)
+  config-Table-get n f κs a x y s t = same
+
+  pub config-Table-part : (n : ℕ) (f : Fits w64 n) → One (Rattle.config.proofs.Table.part.Kinds.ps T n l f c) (Rattle.config.proofs.Table.part.Kinds.r T n l f c) (Rattle.config.proofs.Table.part.Reads.Post T n l f c p d q e)
+  config-Table-part n f κs a x y s t = same
+
+  pub config-Table-add : (n : ℕ) (f : Fits w64 n) → One (Rattle.config.proofs.Table.add.Kinds.ps T n l f c) (Rattle.config.proofs.Table.add.Kinds.r T n l f c) (Rattle.config.proofs.Table.add.Reads.Post T n l f c p d q e)
+  config-Table-add n f κs a x y s t = same
+
+  pub state-Places-none : (n : ℕ) (f : Fits w64 n) → One (Rattle.state.proofs.Places.none.Kinds.ps T n l f c) (Rattle.state.proofs.Places.none.Kinds.r T n l f c) (Rattle.state.proofs.Places.none.Reads.Post T n l f c p d q e)
+  state-Places-none n f κs a x y s t = same
+
+  pub state-Places-get : (n : ℕ) (f : Fits w64 n) → One (Rattle.state.proofs.Places.get.Kinds.ps T n l f c) (Rattle.state.proofs.Places.get.Kinds.r T n l f c) (Rattle.state.proofs.Places.get.Reads.Post T n l f c p d q e)
+  state-Places-get n f κs a x y s t = same
+
+  pub state-Places-with : (n : ℕ) (f : Fits w64 n) → One (Rattle.state.proofs.Places.with.Kinds.ps T n l f c) (Rattle.state.proofs.Places.with.Kinds.r T n l f c) (Rattle.state.proofs.Places.with.Reads.Post T n l f c p d q e)
+  state-Places-with n f κs a x y s t = same
+
+  pub state-Queue-get : One (Rattle.state.proofs.Queue.get.Kinds.ps T l c) (Rattle.state.proofs.Queue.get.Kinds.r T l c) (Rattle.state.proofs.Queue.get.Reads.Post T l c p d q e)
+  state-Queue-get κs a x y s t = same
+
+  pub state-Queue-push : One (Rattle.state.proofs.Queue.push.Kinds.ps T l c) (Rattle.state.proofs.Queue.push.Kinds.r T l c) (Rattle.state.proofs.Queue.push.Reads.Post T l c p d q e)
+  state-Queue-push κs a x y s t = same
+
+  pub state-Queue-first : One (Rattle.state.proofs.Queue.first.Kinds.ps T l c) (Rattle.state.proofs.Queue.first.Kinds.r T l c) (Rattle.state.proofs.Queue.first.Reads.Post T l c p d q e)
+  state-Queue-first κs a x y s t = same
+
+  pub state-Queue-rest : One (Rattle.state.proofs.Queue.rest.Kinds.ps T l c) (Rattle.state.proofs.Queue.rest.Kinds.r T l c) (Rattle.state.proofs.Queue.rest.Reads.Post T l c p d q e)
+  state-Queue-rest κs a x y s t = same
 
 -- ---- entries
 
