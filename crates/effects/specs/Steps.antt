@@ -1,6 +1,6 @@
 -- The eighteen steps, fail, hold, give up, read copy and write copy, once refusals 2 to 5 have let them through: each with its own refusals, its answer and the state after it ("The eighteen steps" and the paragraphs below its table; W-201; W-205; W-210; W-211).
 -- Assumes nothing.
-use Rattle.std.specs.Prelude.{ℕ, zero, suc, ◌+◌, ◌-◌, ◌%◌, Bool, true, false, not, ltb, leb, eqb}
+use Rattle.std.specs.Prelude.{ℕ, zero, suc, ◌+◌, ◌-◌, ◌%◌, Bool, true, false, not, ltb, leb, eqb, Option, Some, None}
 use Rattle.numbers.specs.Tags.{operation_tag, required_tag}
 use Rattle.numbers.specs.Refusals.{malformed, area_taken, not_on_top, queue_full, number_borne, still_waits, not_due, no_slot_free, too_far, not_over, areas_held, wrong_client}
 use Rattle.laws.specs.Choice.{pick, both, either, bit}
@@ -17,8 +17,6 @@ use Rattle.state.specs.Fields.{with_interval, with_pending, with_instances, with
 use Rattle.state.specs.Tables.{max_slots, runnable_in, variable_in, area_in, element_in, operation_in, timer_in, slot_in, copy_in, copies_in, with_runnable, with_variable, with_area, with_element, with_operation, with_timer, with_slot, with_runnables, with_variables, with_areas, with_elements, with_operations, with_timers, with_slots, with_copy, with_copies, with_incoming, with_outgoing}
 use Rattle.state.specs.Queues.{up_one, push_request, first_request, rest_requests, push_value, first_value, rest_values, push_area, top_area, pop_area}
 use Rattle.rules.specs.Sound.{is_waiting, is_held, clients_as, is_bound}
-use Rattle.effects.specs.declared.Found.{Found}
-use Rattle.effects.specs.declared.Found.TheVariants.{At, Nothing}
 
 -- a refusal leaves the state as it was ("Numbers of refusal")
 abbrev pub refused : ℕ → State → Stepped
@@ -487,8 +485,8 @@ unfoldable pub lowest_empty : Slots → ℕ
 lowest_empty t = first_below (is_empty_at t) max_slots
 
 -- the lowest empty slot as an answer: its number, or nothing ("The eighteen steps", Spawn)
-unfoldable pub found_empty : Slots → Found
-found_empty t = pick (ltb (lowest_empty t) max_slots) (At (lowest_empty t)) Nothing
+unfoldable pub found_empty : Slots → Option ℕ
+found_empty t = pick (ltb (lowest_empty t) max_slots) (Some (lowest_empty t)) None
 
 -- the state after r is spawned into the slot k ("The eighteen steps", Spawn)
 unfoldable pub spawned : Config → State → ℕ → ℕ → State

@@ -1,10 +1,3 @@
 // What each step does, as definitions: its own guards, its answer and the state after it, and one step by its code. They stand in specs/; there is no code here.
 
-// The lowest empty slot, or none.
 #![tactic(auto)]
-
-#[derive(Clone, Copy)]
-pub enum Found {
-    At(u8),
-    Nothing,
-}

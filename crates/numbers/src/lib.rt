@@ -1,9 +1,8 @@
 // The numbers that the documents give, for code: numbers of refusal, codes of steps, and the tags of fields with the lengths of their bodies.
 // specs/ has them for definitions, by the same stems.
-
-// Refusals of a step and of a field of a recording.
 #![tactic(auto)]
 
+// Refusals of a step and of a field of a recording.
 pub const NOT_SOUND: u8 = 1;
 
 pub const MALFORMED: u8 = 2;

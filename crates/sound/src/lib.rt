@@ -16,8 +16,8 @@ ghost use Rattle.sound.specs.Tally.{counted, entered, held_below, noting, tallie
 ghost use Rattle.sound.specs.Walk.{clients_with, client_alone, queue_alone, queue_of, noted_alone, runnable_tallied, waiter_tallied, operation_tallied, area_tallied, runnables_tallied, operations_tallied, areas_tallied, rest_tests, slot_walked, walk_of};
 
 use config::{
-    AreaConfs, Config, Lists, OperationConfs, RequiredConfs, RunnableConfs, TimerConfs,
-    VariableConfs,
+    AreaConf, AreaConfs, Config, Lists, OperationConf, OperationConfs, RequiredConfs, RunnableConf,
+    RunnableConfs, TimerConfs, VariableConfs,
 };
 use entries::Entry;
 use state::{
@@ -665,10 +665,10 @@ struct Tally {
 
 impl Tally {
     const BLANK: Tally = Tally {
-        instances: [0; RunnableConfs::MAX],
-        waiters: [0; OperationConfs::MAX],
+        instances: [0; RunnableConf::MAX],
+        waiters: [0; OperationConf::MAX],
         held: Held {
-            at: [0; AreaConfs::MAX],
+            at: [0; AreaConf::MAX],
         },
         noted: Noted {
             n: 0,

@@ -8,12 +8,12 @@ use Rattle.values.specs.Values.{number_v}
 use Rattle.faces.specs.Types.{Config, Elements, Copied, State}
 use Rattle.config.specs.Tables.{runnable_conf_in}
 use Rattle.state.specs.Tables.{runnable_in, with_copies}
-use Rattle.effects.specs.declared.Found.TheVariants.{At}
+use Rattle.std.specs.Prelude.{Some}
 use Rattle.effects.specs.Steps.{took, may_spawn, found_empty, spawned, lists_some, copies_of, seen_elements, copied_elements, copied_into, copied_to, begun_in, spawn_of}
 use Rattle.time_steps.proofs.Places.{found_at}
 
 module _ (cfg : Config) (st : State) (r k : ℕ) where
-  pub spawn-taken : may_spawn (runnable_conf_in cfg.runnables r) (runnable_in st.runnables r) ≡ true → found_empty st.slots ≡ At k → spawn_of cfg st r ≡ took (number_v k) (begun_in cfg st r k)
+  pub spawn-taken : may_spawn (runnable_conf_in cfg.runnables r) (runnable_in st.runnables r) ≡ true → found_empty st.slots ≡ Some k → spawn_of cfg st r ≡ took (number_v k) (begun_in cfg st r k)
   unfolding spawn_of
   spawn-taken m h = let f = found_at st.slots k h in rw (m, f.1, f.0)
 

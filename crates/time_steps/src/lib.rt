@@ -6,7 +6,6 @@ ghost use Rattle.laws.specs.Choice.{both};
 ghost use Rattle.effects.specs.Steps.{is_due, may_spawn, starting, fresh, instance_of, found_empty, spawn_of, tick_of, operation_lets, timer_lets, slot_lets, operations_let, timers_let, slots_let, operation_after, timer_after, runnable_after, slot_after, operations_after, timers_after, runnables_after, slots_after, wait_of};
 
 use config::{Config, RunnableConf, RunnableConfs};
-use effects::Found;
 use state::{
     Awaited, Life, Operation, Operations, Owed, Runnable, Runnables, Slot, Slots, Stack, State,
     Stepped, Timer, Timers,
@@ -90,19 +89,19 @@ fn instance_of(c: RunnableConf, r: u8, x: Runnable) -> Slot
 }
 
 // The lowest empty slot.
-fn found_empty(t: Slots) -> Found
+fn found_empty(t: Slots) -> Option<u8>
     ensures { result ≡ found_empty t }
 {
     let mut k: u8 = 0;
     loop {
         if k == Slots::MAX as u8 {
-            break Found::Nothing;
+            break None;
         }
         let x = t.get(k);
         if x.used {
             k = k + 1;
         } else {
-            break Found::At(k);
+            break Some(k);
         }
     }
 }
@@ -117,7 +116,7 @@ pub fn spawn(cfg: Config, st: State, r: u8) -> Stepped
     let x = runnables.get(r);
     if may_spawn(c, x) {
         let mut slots = st.slots;
-        let Found::At(k) = found_empty(slots) else {
+        let Some(k) = found_empty(slots) else {
             return shared_steps::refuse(numbers::NO_SLOT_FREE, st);
         };
         let place = k as usize;

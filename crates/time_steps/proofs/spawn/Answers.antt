@@ -18,26 +18,26 @@ unfolding spawn_of
 returns-in_default c = rw (← c.get-c.ensures, ← c.get-x.ensures, ← c.may_spawn.ensures, c.if-may_spawn.true, found_none c.args.st.slots (sym c.found_empty.ensures ∙ c.in_default.is), c.refuse.ensures)
 
 pub bounds-slots-place : goal.bounds-slots-place
-bounds-slots-place c = omega (arith, (found_at c.args.st.slots c.in-At.k (sym c.found_empty.ensures ∙ c.in-At.is)).2)
+bounds-slots-place c = omega (arith, (found_at c.args.st.slots c.in-Some.k (sym c.found_empty.ensures ∙ c.in-Some.is)).2)
 
 pub returns-then-lists_some : goal.returns-then-lists_some
 unfolding spawned with_place
 returns-then-lists_some c =
     let a = c.args in
-    let k = c.in-At.k in
+    let k = c.in-Some.k in
     let m : may_spawn (runnable_conf_in a.cfg.runnables a.r) (runnable_in a.st.runnables a.r) ≡ true = rw (c.get-c.ensures, c.get-x.ensures) at (sym c.may_spawn.ensures ∙ c.if-may_spawn.true) in
     rw (c.take.ensures, c.of.ensures, c.copied_to.ensures, c.with-next.ensures, c.starting.ensures, c.instance_of-s.ensures, c.get-x.ensures, c.get-c.ensures)
-    (sym (spawn-taken a.cfg a.st a.r k m (sym c.found_empty.ensures ∙ c.in-At.is)))
+    (sym (spawn-taken a.cfg a.st a.r k m (sym c.found_empty.ensures ∙ c.in-Some.is)))
 
 pub returns-then-may_spawn : goal.returns-then-may_spawn
 unfolding spawned with_place
 returns-then-may_spawn c =
     let a = c.args in
-    let k = c.in-At.k in
+    let k = c.in-Some.k in
     let m : may_spawn (runnable_conf_in a.cfg.runnables a.r) (runnable_in a.st.runnables a.r) ≡ true = rw (c.get-c.ensures, c.get-x.ensures) at (sym c.may_spawn.ensures ∙ c.if-may_spawn.true) in
     let l : lists_some a.cfg.incoming a.r ≡ false = sym c.lists_some.ensures ∙ c.if-lists_some.false in
     rw (c.take-then-may_spawn.ensures, c.of-then-may_spawn.ensures, c.with-next.ensures, c.starting.ensures, c.instance_of-s.ensures, c.get-x.ensures, c.get-c.ensures)
-    (ap (λ (s : State). took (number_v k) s) (sym (begun-unlisted a.cfg a.st a.r k l)) ∙ sym (spawn-taken a.cfg a.st a.r k m (sym c.found_empty.ensures ∙ c.in-At.is)))
+    (ap (λ (s : State). took (number_v k) s) (sym (begun-unlisted a.cfg a.st a.r k l)) ∙ sym (spawn-taken a.cfg a.st a.r k m (sym c.found_empty.ensures ∙ c.in-Some.is)))
 
 pub returns : goal.returns
 unfolding spawn_of
