@@ -1,28 +1,22 @@
 -- `call_steps::any_served_as` meets its contract.
 -- Assumes nothing.
-use borrow.Author.Rules.{rules}
-use mathlib.Core.Path.{◌≡◌, sym, ◌∙◌}
+use Prim.Native.Nat.{ℕ}
+use lib.Dec.{ltb}
+use lib.ListN.{get_or}
+use mathlib.Core.Path.{◌∙◌, refl}
 use native.Mathlib.Omega.{arith}
-use Rattle.laws.proofs.Looping.{sum-none}
-use Rattle.call_steps.proofs.Some.{some-here, some_more, some-not}
+use borrow.Author.Rules.{rules}
+use Rattle.std.proofs.Common.{tests}
+use Rattle.std.proofs.lemmas.Iterator.{YieldsList-from_range}
+use Rattle.std.proofs.lemmas.Iterator.Search.{any_from_yields_List}
+use Rattle.state.specs.Parts.{no_client}
+use Rattle.state.specs.Tables.{slot_in, runnable_in}
+use Rattle.rules.specs.Sound.{is_client, waits_on, queued_as, served_as, waiters_of}
+use Rattle.call_steps.proofs.Some.{any-counts}
 use Rattle.call_steps.proofs.any_served_as.Goals as goal
-
-pub loop-k-init : goal.loop-k-init
-loop-k-init c = (search rules, sum-none _)
-
-pub returns-then-is_served_as : goal.returns-then-is_served_as
-returns-then-is_served_as c = sym (some-here _ _ c.loop-k.k c.loop-k-test.true (rw c.get-x.ensures at (sym c.is_served_as.ensures ∙ c.if-is_served_as.true)))
-
-pub overflow_add-k : goal.overflow_add-k
-overflow_add-k c = omega (arith, c.loop-k-test.true)
-
-pub loop-k-smaller : goal.loop-k-smaller
-loop-k-smaller c = omega (arith, c.loop-k-test.true)
-
-pub loop-k-preserved : goal.loop-k-preserved
-loop-k-preserved c = (omega (arith, c.loop-k-test.true), some_more _ _ c.loop-k.invariant.1 (rw c.get-x.ensures at (sym c.is_served_as.ensures ∙ c.if-is_served_as.false)))
 
 pub returns : goal.returns
 returns c =
-    let e : c.loop-k.k ≡ 32 = omega (arith, c.loop-k-test.false, c.loop-k.invariant.0) in
-    sym (some-not _ _ (rw e at c.loop-k.invariant.1))
+    let a = c.args in
+    any_from_yields_List (λ (k : ℕ). ltb 0 (served_as a.o a.m (slot_in a.t k).owed)) _ _ _ c.any.ensures.ran (YieldsList-from_range 0 32 32 refl (omega arith)) (λ x b q k. search (rules, tests))
+    ∙ any-counts _ _

@@ -9,7 +9,5 @@ use Rattle.faces.specs.Types.{Runnable}
 use Rattle.time_steps.proofs.runnables_after.Given as goal
 
 abbrev pub invariant-loop-r : goal.invariant-loop-r
-invariant-loop-r l = (l.r ≤ l.n) × (l.u.at ≡ each_below (λ (j : ℕ) (x : Runnable). runnable_after l.t x) no_runnable l.r l.initial.u.at)
+invariant-loop-r l = l.u.at ≡ each_below (λ (j : ℕ) (x : Runnable). runnable_after l.t x) no_runnable l.r l.initial.u.at
 
-abbrev pub decreases-loop-r : goal.decreases-loop-r
-decreases-loop-r l = l.n - l.r

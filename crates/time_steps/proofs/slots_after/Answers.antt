@@ -1,6 +1,5 @@
 -- `time_steps::slots_after` meets its contract.
 -- Assumes nothing.
-use borrow.Author.Rules.{rules}
 use mathlib.Core.Path.{◌≡◌}
 use native.Mathlib.Omega.{arith}
 use Rattle.laws.proofs.Places.{each_more, each_none}
@@ -9,20 +8,14 @@ use Rattle.state.specs.Tables.{slot_in, with_slot}
 use Rattle.time_steps.proofs.slots_after.Goals as goal
 
 pub loop-i-init : goal.loop-i-init
-loop-i-init c = (search rules, rw each_none)
-
-pub overflow_add-i : goal.overflow_add-i
-overflow_add-i c = omega arith
-
-pub loop-i-smaller : goal.loop-i-smaller
-loop-i-smaller c = omega arith
+loop-i-init c = rw each_none
 
 pub loop-i-preserved : goal.loop-i-preserved
 unfolding with_slot slot_in
-loop-i-preserved c = (omega arith, rw (c.with-u.ensures, c.slot_after.ensures, c.get.ensures, c.loop-i.invariant.1, each_more))
+loop-i-preserved c = rw (c.with-u.ensures, c.slot_after.ensures, c.get.ensures, c.loop-i.invariant, each_more)
 
 pub returns : goal.returns
 unfolding slots_after
 returns c =
     let e : c.loop-i.i ≡ 32 = omega arith in
-    rw (c.loop-i.invariant.1, e)
+    rw (c.loop-i.invariant, e)

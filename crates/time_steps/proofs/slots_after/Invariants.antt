@@ -9,7 +9,5 @@ use Rattle.faces.specs.Types.{Slot, Slots}
 use Rattle.time_steps.proofs.slots_after.Given as goal
 
 abbrev pub invariant-loop-i : goal.invariant-loop-i
-invariant-loop-i l = (l.i ≤ 32) × (◌≡◌ {A = Slots} l.u (record { at = each_below (λ (j : ℕ) (x : Slot). slot_after l.t x) no_slot l.i l.initial.u.at }))
+invariant-loop-i l = ◌≡◌ {A = Slots} l.u (record { at = each_below (λ (j : ℕ) (x : Slot). slot_after l.t x) no_slot l.i l.initial.u.at })
 
-abbrev pub decreases-loop-i : goal.decreases-loop-i
-decreases-loop-i l = 32 - l.i

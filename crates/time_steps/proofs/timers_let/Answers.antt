@@ -1,30 +1,19 @@
 -- `time_steps::timers_let` meets its contract.
 -- Assumes nothing.
-use borrow.Author.Rules.{rules}
-use mathlib.Core.Path.{◌∙◌, ◌≡◌, sym}
+use Prim.Native.Nat.{ℕ}
+use mathlib.Core.Path.{◌∙◌, refl}
 use native.Mathlib.Omega.{arith}
-use Rattle.laws.proofs.Looping.{all-fails, all_more, all_none}
-use Rattle.effects.specs.Steps.{timers_let}
+use Rattle.std.proofs.Common.{rules, tests}
+use Rattle.std.proofs.lemmas.Iterator.{YieldsList-from_range}
+use Rattle.std.proofs.lemmas.Iterator.Search.{all_from_yields_List}
+use Rattle.effects.specs.Steps.{timer_lets, timers_let}
+use Rattle.shared_steps.proofs.Asked.{all-asked}
+use Rattle.state.specs.Tables.{timer_in}
 use Rattle.time_steps.proofs.timers_let.Goals as goal
-
-pub loop-k-init : goal.loop-k-init
-loop-k-init c = (search rules, all_none _)
-
-pub overflow_add-k : goal.overflow_add-k
-overflow_add-k c = omega (arith, c.well_formed.0.1.1.1.1.1.1.1)
-
-pub loop-k-smaller : goal.loop-k-smaller
-loop-k-smaller c = omega arith
-
-pub loop-k-preserved : goal.loop-k-preserved
-loop-k-preserved c = (omega arith, all_more _ _ c.loop-k.invariant.1 (rw (← c.get.ensures) (sym c.timer_lets.ensures ∙ c.if-timer_lets.true)))
-
-pub returns-else-timer_lets : goal.returns-else-timer_lets
-unfolding timers_let
-returns-else-timer_lets c = sym (all-fails _ _ c.loop-k.k (omega arith) (rw (← c.get.ensures) (sym c.timer_lets.ensures ∙ c.if-timer_lets.false)))
 
 pub returns : goal.returns
 unfolding timers_let
 returns c =
-    let e : c.loop-k.k ≡ c.args.cfg.timers.n = omega arith in
-    sym (rw e at c.loop-k.invariant.1)
+    let a = c.args in
+    all_from_yields_List (λ (k : ℕ). timer_lets a.t (timer_in a.ts k)) _ _ _ c.all.ensures.ran (YieldsList-from_range 0 a.cfg.timers.n a.cfg.timers.n refl (omega arith)) (λ x b q k. search (rules, tests))
+    ∙ all-asked _ _
