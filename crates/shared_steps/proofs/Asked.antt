@@ -4,7 +4,17 @@ use Prim.Native.Nat.{ℕ, zero, suc, ◌+◌}
 use mathlib.Core.Bool.{Bool, true, false}
 use mathlib.Core.Path.{◌≡◌, refl, sym, ◌∙◌, ap}
 use native.Mathlib.Omega.{arith}
-use Rattle.std.specs.List.{range_with_len, list_all, list_any}
+use denote.Param.Members.{Mut}
+use mathlib.Core.List.{List}
+use Rattle.std.specs.declared.ops.Range.{Range}
+use Rattle.std.specs.Option.{MatchOption}
+use Rattle.std.proofs.Common.{Option}
+use Rattle.std.specs.Fn.{Called}
+use Rattle.std.specs.Iterator.{YieldsThen}
+use Rattle.std.specs.List.{range_with_len, list_all, list_any, FoldsTo}
+use Rattle.std.proofs.iter.Yields.{nat_range_steps}
+use Rattle.std.proofs.lemmas.Iterator.{YieldsList-from_range}
+use Rattle.std.proofs.lemmas.Iterator.Search.{all_from_yields_List, any_from_yields_List}
 use Rattle.laws.specs.Choice.{both, either}
 use Rattle.laws.specs.Loop.{all_below, any_below}
 use Rattle.laws.proofs.Looping.{all_same, any_same}
@@ -59,8 +69,23 @@ any-from p a (suc n) =
 
 -- ---- a range that begins at 0
 
-pub all-asked : (p : ℕ → Bool) (n : ℕ) → list_all p (range_with_len 0 n) ≡ all_below p n
+all-asked : (p : ℕ → Bool) (n : ℕ) → list_all p (range_with_len 0 n) ≡ all_below p n
 all-asked p n = all-from p 0 n ∙ all_same _ p n (λ k l. let e : 0 + k ≡ k = omega arith in ap p e)
 
-pub any-asked : (p : ℕ → Bool) (n : ℕ) → list_any p (range_with_len 0 n) ≡ any_below p n
+any-asked : (p : ℕ → Bool) (n : ℕ) → list_any p (range_with_len 0 n) ≡ any_below p n
 any-asked p n = any-from p 0 n ∙ any_same _ p n (λ k l. let e : 0 + k ≡ k = omega arith in ap p e)
+
+-- ---- what `(0..n).all` and `(0..n).any` answer, by their clause `ran`, where the closure computes the test p
+
+module _ {F : Type 0} {g : Mut F (ℕ × Unit {0}) Bool} {n : ℕ} {u : Range ℕ} {f : F} {r : Bool} (p : ℕ → Bool) where
+  pub all-ran :
+      (xs : List ℕ) × (o : Option ℕ) × (j : F) × YieldsThen nat_range_steps (record { start = 0; end = n }) xs o u × FoldsTo (λ q x h. Called g q (x, tt) true h) f xs j × MatchOption o (r ≡ true) (λ x. (r ≡ false) × ((h : F) × Called g j (x, tt) false h))
+      → ((x : ℕ) (b : Bool) (q : F) → Called g f (x, tt) b q → (q ≡ f) × (b ≡ p x))
+      → r ≡ all_below p n
+  all-ran ran calls = all_from_yields_List p u f r ran (YieldsList-from_range 0 n n refl (omega arith)) calls ∙ all-asked p n
+
+  pub any-ran :
+      (xs : List ℕ) × (o : Option ℕ) × (j : F) × YieldsThen nat_range_steps (record { start = 0; end = n }) xs o u × FoldsTo (λ q x h. Called g q (x, tt) false h) f xs j × MatchOption o (r ≡ false) (λ x. (r ≡ true) × ((h : F) × Called g j (x, tt) true h))
+      → ((x : ℕ) (b : Bool) (q : F) → Called g f (x, tt) b q → (q ≡ f) × (b ≡ p x))
+      → r ≡ any_below p n
+  any-ran ran calls = any_from_yields_List p u f r ran (YieldsList-from_range 0 n n refl (omega arith)) calls ∙ any-asked p n

@@ -281,8 +281,8 @@ fn slots_after(ss: Slots, t: u32) -> Slots
     ensures { result ≡ slots_after ss t }
 {
     let mut u = ss;
-    for i in 0..SLOTS {
-        u = u.with(i, slot_after(t, u.get(i)));
+    for x in u.at.iter_mut() {
+        *x = slot_after(t, *x);
     }
     u
 }

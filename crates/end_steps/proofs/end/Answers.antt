@@ -1,11 +1,11 @@
 -- `end_steps::end` meets its contract.
 -- Assumes nothing.
-use Rattle.std.proofs.Common.{◌≡◌, true, false, not, ltb, sym, ap, ◌∙◌, le-ltb, lt-ltb}
+use Rattle.std.proofs.Common.{◌≡◌, true, false, not, ltb, sym, ap, ◌∙◌, le-ltb}
 use Rattle.laws.specs.Choice.{both}
 use Rattle.values.specs.Values.{void_v}
 use Rattle.config.specs.Lists.{lists_at}
 use Rattle.faces.specs.Types.{Slot, State}
-use Rattle.effects.specs.Steps.{end_of, serves, holds, took, lists_some, runnable_of}
+use Rattle.effects.specs.Steps.{serves, holds, took, lists_some, runnable_of}
 use Rattle.end_steps.proofs.Ending.{ended-unlisted, end-taken}
 use Rattle.end_steps.proofs.end.Goals as goal
 
