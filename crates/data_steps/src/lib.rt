@@ -2,10 +2,10 @@
 #![tactic(auto)]
 
 ghost use Rattle.std.specs.Prelude.{◌≡◌};
-ghost use Rattle.state.specs.Tables.{slot_in};
+ghost use Rattle.state.specs.Tables.{slot_in, with_elements, with_runnables};
 ghost use Rattle.rules.specs.Sound.{is_waiting};
-ghost use Rattle.feeding.specs.Rooms.{is_full_by, full_mask_by};
-ghost use Rattle.effects.specs.Steps.{read_variable_of, write_variable_of, entering, exiting, enter_of, on_top, exit_of, seen, read_of, updated_of, write_of, invalidate_of, sent_of, send_of, receiving, receive_of, hold_of, give_up_of};
+ghost use Rattle.feeding.specs.Rooms.{is_full_by, full_mask_by, fed_runnables_by};
+ghost use Rattle.effects.specs.Steps.{read_variable_of, write_variable_of, entering, exiting, enter_of, on_top, exit_of, seen, fed_elements, read_of, updated_of, write_of, invalidate_of, sent_of, send_of, receiving, receive_of, hold_of, give_up_of};
 
 use config::{Config, RequiredConfs};
 use feeding::Rooms;
@@ -14,20 +14,21 @@ use values::Value;
 
 // ---- 1, 2: variables
 
+#[tactic(auto, unfolding(effects::specs::Steps::read_variable_of))]
 pub fn read_variable(st: State, v: u8) -> Stepped
     ensures { result ≡ read_variable_of st v }
 {
-    let t = st.variables;
-    let x = t.get(v);
-    shared_steps::take(x.value, st)
+    shared_steps::take(st.variables.get(v).value, st)
 }
 
+#[tactic(auto, unfolding(effects::specs::Steps::write_variable_of))]
 pub fn write_variable(st: State, v: u8, x: Value) -> Stepped
     ensures { result ≡ write_variable_of st v x }
 {
-    let t = st.variables;
-    let mut next = st;
-    next.variables = t.with(v, Variable { value: x });
+    let next = State {
+        variables: st.variables.with(v, Variable { value: x }),
+        ..st
+    };
     shared_steps::take(Value::VOID, next)
 }
 
@@ -36,57 +37,57 @@ pub fn write_variable(st: State, v: u8, x: Value) -> Stepped
 fn entering(x: Slot, a: u8) -> Slot
     ensures { result ≡ entering x a }
 {
-    let t = x.stack;
-    let mut y = x;
-    y.stack = t.push(a);
-    y
+    Slot {
+        stack: x.stack.push(a),
+        ..x
+    }
 }
 
 fn exiting(x: Slot) -> Slot
     ensures { result ≡ exiting x }
 {
-    let t = x.stack;
-    let mut y = x;
-    y.stack = t.pop();
-    y
+    Slot {
+        stack: x.stack.pop(),
+        ..x
+    }
 }
 
+#[tactic(auto, unfolding(effects::specs::Steps::enter_of))]
 pub fn enter(st: State, i: u8, a: u8) -> Stepped
     ensures { result ≡ enter_of st i a }
 {
-    let areas = st.areas;
-    let x = areas.get(a);
-    if x.taken {
+    if st.areas.get(a).taken {
         return shared_steps::refuse(numbers::AREA_TAKEN, st);
     }
-    let slots = st.slots;
-    let s = slots.get(i);
-    let mut next = st;
-    next.areas = areas.with(a, Area { taken: true });
-    next.slots = slots.with(i, entering(s, a));
+    let next = State {
+        areas: st.areas.with(a, Area { taken: true }),
+        slots: st.slots.with(i, entering(st.slots.get(i), a)),
+        ..st
+    };
     shared_steps::take(Value::VOID, next)
 }
 
+#[tactic(auto, unfolding(effects::specs::Steps::on_top))]
 fn on_top(x: Slot, a: u8) -> bool
     ensures { result ≡ on_top x a }
 {
-    let t = x.stack;
-    0 < t.held && t.top() == a
+    0 < x.stack.held && x.stack.top() == a
 }
 
+#[tactic(auto, unfolding(effects::specs::Steps::exit_of))]
 pub fn exit(st: State, i: u8, a: u8) -> Stepped
     ensures { result ≡ exit_of st i a }
 {
-    let slots = st.slots;
-    let s = slots.get(i);
-    if on_top(s, a) {
-        let areas = st.areas;
-        let mut next = st;
-        next.areas = areas.with(a, Area { taken: false });
-        next.slots = slots.with(i, exiting(s));
-        return shared_steps::take(Value::VOID, next);
+    let s = st.slots.get(i);
+    if !on_top(s, a) {
+        return shared_steps::refuse(numbers::NOT_ON_TOP, st);
     }
-    shared_steps::refuse(numbers::NOT_ON_TOP, st)
+    let next = State {
+        areas: st.areas.with(a, Area { taken: false }),
+        slots: st.slots.with(i, exiting(s)),
+        ..st
+    };
+    shared_steps::take(Value::VOID, next)
 }
 
 // ---- 5, 7: an unqueued element read, and its flag asked
@@ -94,109 +95,104 @@ pub fn exit(st: State, i: u8, a: u8) -> Stepped
 fn seen(x: Element) -> Element
     ensures { result ≡ seen x }
 {
-    let mut y = x;
-    y.updated = false;
-    y
+    Element {
+        updated: false,
+        ..x
+    }
 }
 
+#[tactic(auto, unfolding(effects::specs::Steps::read_of))]
 pub fn read(st: State, q: u8) -> Stepped
     ensures { result ≡ read_of st q }
 {
-    let t = st.elements;
-    let x = t.get(q);
-    let mut next = st;
-    next.elements = t.with(q, seen(x));
+    let x = st.elements.get(q);
+    let next = State {
+        elements: st.elements.with(q, seen(x)),
+        ..st
+    };
     shared_steps::take(x.value, next)
 }
 
+#[tactic(auto, unfolding(effects::specs::Steps::updated_of))]
 pub fn updated(st: State, q: u8) -> Stepped
     ensures { result ≡ updated_of st q }
 {
-    let t = st.elements;
-    let x = t.get(q);
-    if x.updated {
-        return shared_steps::take(Value::of(1), st);
-    }
-    shared_steps::take(Value::of(0), st)
+    let x = st.elements.get(q);
+    shared_steps::take(Value::of(u32::from(x.updated)), st)
 }
 
 // ---- 6, 8, 10: a value goes to every linked element
 
+// Every linked element has taken the value, and data events have followed; the rooms are those before.
+fn fed(cfg: Config, st: State, rooms: Rooms, p: u8, v: Value) -> State
+    ensures { result ≡ with_runnables (with_elements st (fed_elements cfg p v st.elements)) (fed_runnables_by cfg rooms p st.runnables) }
+{
+    State {
+        elements: feeding::fed_elements(cfg, p, v, st.elements),
+        runnables: feeding::fed_runnables(cfg, rooms, p, st.runnables),
+        ..st
+    }
+}
+
 pub fn write(cfg: Config, st: State, p: u8, v: Value) -> Stepped
     ensures { result ≡ write_of cfg st p v }
 {
-    let t = st.elements;
-    let rs = st.runnables;
-    let rooms = Rooms::of(cfg, t);
-    let mut next = st;
-    next.elements = feeding::fed_elements(cfg, p, v, t);
-    next.runnables = feeding::fed_runnables(cfg, rooms, p, rs);
-    shared_steps::take(Value::VOID, next)
+    let rooms = Rooms::of(cfg, st.elements);
+    shared_steps::take(Value::VOID, fed(cfg, st, rooms, p, v))
 }
 
 // No data events (ours).
+#[tactic(auto, unfolding(effects::specs::Steps::invalidate_of))]
 pub fn invalidate(cfg: Config, st: State, p: u8) -> Stepped
     ensures { result ≡ invalidate_of cfg st p }
 {
-    let t = st.elements;
-    let mut next = st;
-    next.elements = feeding::fed_elements(cfg, p, Value::INVALID, t);
+    let next = State {
+        elements: feeding::fed_elements(cfg, p, Value::INVALID, st.elements),
+        ..st
+    };
     shared_steps::take(Value::VOID, next)
 }
 
 // The linked queue q is full.
+#[tactic(auto, unfolding(feeding::specs::Rooms::is_full_by, effects::specs::Steps::linked))]
 fn is_full(cfg: Config, rooms: Rooms, p: u8, q: u8) -> bool
     ensures { result ≡ is_full_by cfg rooms p q }
 {
-    let links = cfg.links;
-    if feeding::linked(links, p, q) {
-        if rooms.get(q) {
-            return false;
-        }
-        return true;
-    }
-    false
+    feeding::linked(cfg.links, p, q) && !rooms.get(q)
 }
 
 // The linked queues that are full, each as the bit of its element.
 fn full_mask(cfg: Config, rooms: Rooms, p: u8) -> u32
     ensures { result ≡ full_mask_by cfg rooms p }
 {
-    let required = cfg.required;
-    let n = shared_steps::within(required.n, RequiredConfs::MAX as u8);
+    let n = shared_steps::within(cfg.required.n, RequiredConfs::MAX as u8);
     let mut mask: u32 = 0;
-    let mut bit: u32 = 1;
-    let mut q: u8 = 0;
-    while q < n {
+    for q in 0..n {
         if is_full(cfg, rooms, p, q) {
-            mask = mask + bit;
+            mask += 1 << q;
         }
-        bit = bit + bit;
-        q = q + 1;
     }
     mask
 }
 
 // Ok if no linked queue was full, else Full with the mask of those that were.
+#[tactic(auto, unfolding(effects::specs::Steps::sent_of))]
 fn sent(mask: u32) -> Value
     ensures { result ≡ sent_of mask }
 {
     if mask == 0 {
-        return Value::OK;
+        Value::OK
+    } else {
+        Value::full(mask)
     }
-    Value::full(mask)
 }
 
 // The answer names the linked queues that were full.
 pub fn send(cfg: Config, st: State, p: u8, v: Value) -> Stepped
     ensures { result ≡ send_of cfg st p v }
 {
-    let t = st.elements;
-    let rs = st.runnables;
-    let rooms = Rooms::of(cfg, t);
-    let mut next = st;
-    next.elements = feeding::fed_elements(cfg, p, v, t);
-    next.runnables = feeding::fed_runnables(cfg, rooms, p, rs);
+    let rooms = Rooms::of(cfg, st.elements);
+    let next = fed(cfg, st, rooms, p, v);
     shared_steps::take(sent(full_mask(cfg, rooms, p)), next)
 }
 
@@ -205,44 +201,42 @@ pub fn send(cfg: Config, st: State, p: u8, v: Value) -> Stepped
 fn receiving(x: Element) -> Element
     ensures { result ≡ receiving x }
 {
-    let q = x.queue;
-    let mut y = x;
-    y.queue = q.rest();
-    y
+    Element {
+        queue: x.queue.rest(),
+        ..x
+    }
 }
 
 // The oldest value, removed, and an instance that is held goes on; if there is none, NoData, and 10 for one that is held.
+#[tactic(auto, unfolding(effects::specs::Steps::receive_of))]
 pub fn receive(st: State, i: u8, q: u8) -> Stepped
     ensures { result ≡ receive_of st i q }
 {
-    let t = st.elements;
-    let x = t.get(q);
-    let queue = x.queue;
-    if queue.queued == 0 {
-        let slots = st.slots;
-        if waits(slots, i) {
+    let x = st.elements.get(q);
+    if x.queue.queued == 0 {
+        if waits(st.slots, i) {
             return shared_steps::refuse(numbers::STILL_WAITS, st);
         }
         return shared_steps::take(Value::NO_DATA, st);
     }
-    let mut next = st;
-    next.elements = t.with(q, receiving(x));
-    shared_steps::take(queue.first(), shared_steps::gone_on(next, i))
+    let next = State {
+        elements: st.elements.with(q, receiving(x)),
+        ..st
+    };
+    shared_steps::take(x.queue.first(), shared_steps::gone_on(next, i))
 }
 
 // The instance in the slot i waits.
 fn waits(slots: Slots, i: u8) -> bool
     ensures { result ≡ is_waiting (slot_in slots i).life }
 {
-    let x = slots.get(i);
-    let l = x.life;
-    let a = l.awaited;
-    0 < a.part
+    0 < slots.get(i).life.awaited.part
 }
 
 // ---- 20, 21: hold and give up
 
 // An instance is held on the element q for t milliseconds at most, whether or not there is data already.
+#[tactic(auto, unfolding(effects::specs::Steps::hold_of))]
 pub fn hold(st: State, i: u8, q: u8, t: u32) -> Stepped
     ensures { result ≡ hold_of st i q t }
 {
@@ -255,14 +249,11 @@ pub fn hold(st: State, i: u8, q: u8, t: u32) -> Stepped
 }
 
 // A held instance whose time is up goes on, with Timeout.
+#[tactic(auto, unfolding(effects::specs::Steps::give_up_of))]
 pub fn give_up(st: State, i: u8) -> Stepped
     ensures { result ≡ give_up_of st i }
 {
-    let slots = st.slots;
-    let x = slots.get(i);
-    let l = x.life;
-    let a = l.awaited;
-    if a.left == 0 {
+    if st.slots.get(i).life.awaited.left == 0 {
         return shared_steps::take(Value::TIMEOUT, shared_steps::gone_on(st, i));
     }
     shared_steps::refuse(numbers::NOT_OVER, st)

@@ -6,7 +6,7 @@ ghost use Rattle.laws.specs.Choice.{pick, both};
 ghost use Rattle.laws.specs.Loop.{any_below};
 ghost use Rattle.values.specs.Values.{server_err_v, is_number};
 ghost use Rattle.config.specs.Tables.{return_event_in};
-ghost use Rattle.effects.specs.Steps.{closing, returned_runnables, lists_some, answers, finishing, hand_back_of, timeout_of, leaving, emptied, end_of, failing, fail_of};
+ghost use Rattle.effects.specs.Steps.{closing, closed, returned_runnables, lists_some, answers, finishing, hand_back_of, timeout_of, leaving, emptied, end_of, failing, fail_of};
 
 use config::{Config, ReturnEvent, ReturnEvents, RunnableConfs};
 use state::{Client, Life, Operation, Operations, Owed, Runnable, Runnables, Slot, State, Stepped};
@@ -15,11 +15,12 @@ use values::Value;
 // ---- 13, 16: a call ends
 
 // Done with a value, and the number up by one: behind 65,535 comes 0.
+#[tactic(auto, unfolding(effects::specs::Steps::closing))]
 fn closing(v: Value, x: Operation) -> Operation
     ensures { result ≡ closing v x }
 {
     Operation {
-        number: std::num::wrapping_add_u16(x.number, 1),
+        number: x.number.wrapping_add(1),
         calling: false,
         count: 0,
         done: v,
@@ -36,38 +37,37 @@ fn is_return(d: ReturnEvent, o: u8, r: u8) -> bool
 fn is_returned(t: ReturnEvents, o: u8, r: u8) -> bool
     ensures { result ≡ any_below (λ (e : ℕ). both ((return_event_in t e).runnable == r) ((return_event_in t e).operation == o)) t.n }
 {
-    let n = t.n;
-    let mut e: u8 = 0;
-    while e < n {
-        if is_return(t.get(e), o, r) {
-            return true;
-        }
-        e = e + 1;
-    }
-    false
+    (0..t.n).any(|e| is_return(t.get(e), o, r))
 }
 
 // Each runnable that return events wake, once.
 fn returned_runnables(cfg: Config, o: u8, rs: Runnables) -> Runnables
     ensures { result ≡ returned_runnables cfg o rs }
 {
-    let confs = cfg.runnables;
-    let n = shared_steps::within(confs.n, RunnableConfs::MAX as u8);
-    let revents = cfg.revents;
+    let n = shared_steps::within(cfg.runnables.n, RunnableConfs::MAX as u8);
     let mut u = rs;
-    let mut r: u8 = 0;
-    while r < n {
+    for r in 0..n {
         let k = r as usize;
-        let x = u.at[k];
-        let c = confs.at[k];
-        let y = shared_steps::woken_if(is_returned(revents, o, r), c, x);
-        u.at[k] = y;
-        r = r + 1;
+        let wakes = is_returned(cfg.revents, o, r);
+        u.at[k] = shared_steps::woken_if(wakes, cfg.runnables.at[k], u.at[k]);
     }
     u
 }
 
+// The state after the call of o has ended with v: the operation is Done with it, and the return events have woken their runnables.
+#[tactic(auto, unfolding(effects::specs::Steps::closed))]
+fn closed(cfg: Config, st: State, o: u8, v: Value) -> State
+    ensures { result ≡ closed cfg st o v }
+{
+    State {
+        operations: st.operations.with(o, closing(v, st.operations.get(o))),
+        runnables: returned_runnables(cfg, o, st.runnables),
+        ..st
+    }
+}
+
 // The operation is Calling with the client's number.
+#[tactic(auto, unfolding(effects::specs::Steps::answers))]
 fn answers(t: Operations, c: Client) -> bool
     ensures { result ≡ answers t c }
 {
@@ -80,13 +80,14 @@ fn answers(t: Operations, c: Client) -> bool
 fn finishing(x: Slot) -> Slot
     ensures { result ≡ finishing x }
 {
-    let mut life = x.life;
-    life.finished = true;
-    let w = Owed::BLANK;
-    let mut y = x;
-    y.life = life;
-    y.owed = w;
-    y
+    Slot {
+        life: Life {
+            finished: true,
+            ..x.life
+        },
+        owed: Owed::BLANK,
+        ..x
+    }
 }
 
 // An instance that has failed hands back a Number, where it may hand back Void alone.
@@ -100,57 +101,38 @@ fn hands_number(l: Life, v: Value) -> bool
 fn handed_back(l: Life, v: Value) -> Value
     ensures { result ≡ pick l.failed server_err_v v }
 {
-    if l.failed {
-        return Value::SERVER_ERR;
-    }
-    v
+    if l.failed { Value::SERVER_ERR } else { v }
 }
 
 // Number 1 if that ends the client's call, else Number 0, and the operation is untouched.
+#[tactic(auto, unfolding(effects::specs::Steps::hand_back_of, effects::specs::Steps::closed))]
 pub fn hand_back(cfg: Config, st: State, i: u8, v: Value) -> Stepped
     ensures { result ≡ hand_back_of cfg st i v }
 {
-    let slots = st.slots;
-    let x = slots.get(i);
-    let l = x.life;
-    if hands_number(l, v) {
+    let x = st.slots.get(i);
+    if hands_number(x.life, v) {
         return shared_steps::refuse(numbers::MALFORMED, st);
     }
-    let w = x.owed;
-    if w.serving {
-        let c = w.client;
-        let operations = st.operations;
-        if answers(operations, c) {
-            let o = c.operation;
-            let runnables = st.runnables;
-            let mut next = st;
-            next.operations = operations.with(o, closing(handed_back(l, v), operations.get(o)));
-            next.runnables = returned_runnables(cfg, o, runnables);
-            next.slots = slots.with(i, finishing(x));
-            return shared_steps::take(Value::of(1), next);
-        }
-        let mut next = st;
-        next.slots = slots.with(i, finishing(x));
-        return shared_steps::take(Value::of(0), next);
+    if !x.owed.serving {
+        return shared_steps::refuse(numbers::WRONG_CLIENT, st);
     }
-    shared_steps::refuse(numbers::WRONG_CLIENT, st)
+    let c = x.owed.client;
+    let slots = st.slots.with(i, finishing(x));
+    if answers(st.operations, c) {
+        let next = closed(cfg, st, c.operation, handed_back(x.life, v));
+        return shared_steps::take(Value::of(1), State { slots, ..next });
+    }
+    shared_steps::take(Value::of(0), State { slots, ..st })
 }
 
 // A call that is open, and whose count has run out, ends with Timeout.
+#[tactic(auto, unfolding(effects::specs::Steps::timeout_of))]
 pub fn timeout(cfg: Config, st: State, o: u8) -> Stepped
     ensures { result ≡ timeout_of cfg st o }
 {
-    let t = st.operations;
-    let x = t.get(o);
-    if x.calling {
-        if x.count == 0 {
-            let runnables = st.runnables;
-            let mut next = st;
-            next.operations = t.with(o, closing(Value::TIMEOUT, x));
-            next.runnables = returned_runnables(cfg, o, runnables);
-            return shared_steps::take(Value::VOID, next);
-        }
-        return shared_steps::refuse(numbers::NOT_OVER, st);
+    let x = st.operations.get(o);
+    if x.calling && x.count == 0 {
+        return shared_steps::take(Value::VOID, closed(cfg, st, o, Value::TIMEOUT));
     }
     shared_steps::refuse(numbers::NOT_OVER, st)
 }
@@ -160,55 +142,45 @@ pub fn timeout(cfg: Config, st: State, o: u8) -> Stepped
 fn leaving(x: Runnable) -> Runnable
     ensures { result ≡ leaving x }
 {
-    let mut y = x;
-    y.instances = state::down_one(x.instances);
-    y
+    Runnable {
+        instances: state::down_one(x.instances),
+        ..x
+    }
 }
 
 // The slot is emptied, and the runnable's count goes down by one.
+#[tactic(auto, unfolding(state::specs::Parts::no_slot, state::specs::Parts::no_stack))]
 fn emptied(st: State, i: u8) -> State
     ensures { result ≡ emptied st i }
 {
-    let slots = st.slots;
-    let x = slots.get(i);
-    let life = x.life;
-    let r = life.runnable;
-    let runnables = st.runnables;
-    let mut next = st;
-    next.runnables = runnables.with(r, leaving(runnables.get(r)));
-    next.slots = slots.with(i, Slot::BLANK);
-    next
+    let r = st.slots.get(i).life.runnable;
+    State {
+        runnables: st.runnables.with(r, leaving(st.runnables.get(r))),
+        slots: st.slots.with(i, Slot::BLANK),
+        ..st
+    }
 }
 
 // The runnable lists no element, so that its instances have no copies.
 fn lists_none(cfg: Config, r: u8) -> bool
     ensures { result ≡ both (not (lists_some cfg.incoming r)) (not (lists_some cfg.outgoing r)) }
 {
-    if copies::lists_some(cfg.incoming, r) {
-        return false;
-    }
-    if copies::lists_some(cfg.outgoing, r) {
-        return false;
-    }
-    true
+    !copies::lists_some(cfg.incoming, r) && !copies::lists_some(cfg.outgoing, r)
 }
 
 // What the instance has set is written, and then its slot is emptied.
+#[tactic(auto, unfolding(effects::specs::Steps::end_of))]
 pub fn end(cfg: Config, st: State, i: u8) -> Stepped
     ensures { result ≡ end_of cfg st i }
 {
-    let slots = st.slots;
-    let x = slots.get(i);
-    let w = x.owed;
-    if w.serving {
+    let x = st.slots.get(i);
+    if x.owed.serving {
         return shared_steps::refuse(numbers::WRONG_CLIENT, st);
     }
-    let t = x.stack;
-    if 0 < t.held {
+    if 0 < x.stack.held {
         return shared_steps::refuse(numbers::AREAS_HELD, st);
     }
-    let life = x.life;
-    let r = life.runnable;
+    let r = x.life.runnable;
     if lists_none(cfg, r) {
         return shared_steps::take(Value::VOID, emptied(st, i));
     }
@@ -221,19 +193,23 @@ pub fn end(cfg: Config, st: State, i: u8) -> Stepped
 fn failing(x: Slot) -> Slot
     ensures { result ≡ failing x }
 {
-    let mut life = x.life;
-    life.failed = true;
-    let mut y = x;
-    y.life = life;
-    y
+    Slot {
+        life: Life {
+            failed: true,
+            ..x.life
+        },
+        ..x
+    }
 }
 
 // What the instance owes and holds stays with it.
+#[tactic(auto, unfolding(effects::specs::Steps::fail_of))]
 pub fn fail(st: State, i: u8) -> Stepped
     ensures { result ≡ fail_of st i }
 {
-    let slots = st.slots;
-    let mut next = st;
-    next.slots = slots.with(i, failing(slots.get(i)));
+    let next = State {
+        slots: st.slots.with(i, failing(st.slots.get(i))),
+        ..st
+    };
     shared_steps::take(Value::VOID, next)
 }

@@ -36,10 +36,10 @@ each_within m f d n l e = go (dec_lt n m)
     go (no b) = let a : length l ≤ m = omega arith in rw (le-ltb n m (omega (arith, b))) (sym (each-past m f d n l a (omega (arith, b))))
 
 -- one place more, read whatever would stand past the end
-pub each-put : {A : Type 0} (f : ℕ → A → A) (d : A) (l : List A) (u : List A) (k : ℕ) (z : A) → length l ≡ 16 → k < 16 → u ≡ each_below f d k l → set u k (f k (get_or u k z)) ≡ each_below f d (k + 1) l
-each-put f d l u k z e b q =
-    let n : length u ≡ 16 = ap length q ∙ each-length f d k l ∙ e in
-    rw (inside u k 16 z d n b, q, each_more)
+pub each-put : {A : Type 0} {m : ℕ} (f : ℕ → A → A) (d : A) (l : List A) (u : List A) (k : ℕ) (z : A) → length l ≡ m → k < m → u ≡ each_below f d k l → set u k (f k (get_or u k z)) ≡ each_below f d (k + 1) l
+each-put {m = m} f d l u k z e b q =
+    let n : length u ≡ m = ap length q ∙ each-length f d k l ∙ e in
+    rw (inside u k m z d n b, q, each_more)
 
 -- ---- tables of a state
 

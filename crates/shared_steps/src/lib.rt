@@ -7,7 +7,7 @@ ghost use Rattle.effects.specs.Steps.{awaited};
 ghost use Rattle.effects.specs.Steps.{refused, took, one_more, woken, awaiting, gone_on};
 
 use config::RunnableConf;
-use state::{Awaited, Runnable, Slot, State, Stepped};
+use state::{Awaited, Life, Runnable, Slot, State, Stepped};
 use values::{Answer, Value};
 
 // A refusal leaves the state as it was.
@@ -34,21 +34,23 @@ pub fn take(v: Value, st: State) -> Stepped
 pub fn awaiting(x: Slot, a: Awaited) -> Slot
     ensures { result ≡ awaiting x a }
 {
-    let mut life = x.life;
-    life.awaited = a;
-    let mut y = x;
-    y.life = life;
-    y
+    Slot {
+        life: Life {
+            awaited: a,
+            ..x.life
+        },
+        ..x
+    }
 }
 
 // The state with what the instance i waits for.
 pub fn awaited(st: State, i: u8, a: Awaited) -> State
     ensures { result ≡ awaited st i a }
 {
-    let slots = st.slots;
-    let mut next = st;
-    next.slots = slots.with(i, awaiting(slots.get(i), a));
-    next
+    State {
+        slots: st.slots.with(i, awaiting(st.slots.get(i), a)),
+        ..st
+    }
 }
 
 // The state after the instance i has gone on: it waits no longer.
@@ -62,36 +64,29 @@ pub fn gone_on(st: State, i: u8) -> State
 pub fn within(n: u8, top: u8) -> u8
     ensures { (result ≤ top) × (result ≡ pick (ltb n top) n top) }
 {
-    if n < top {
-        return n;
-    }
-    top
+    n.min(top)
 }
 
 // One more, but never past the top.
+#[tactic(auto, unfolding(effects::specs::Steps::one_more))]
 fn one_more(top: u8, n: u8) -> u8
     ensures { result ≡ one_more top n }
 {
-    if n < top {
-        return n + 1;
-    }
-    n
+    if n < top { n + 1 } else { n }
 }
 
 // A runnable has one more activation pending, up to its top.
 pub fn woken(c: RunnableConf, x: Runnable) -> Runnable
     ensures { result ≡ woken c x }
 {
-    let mut y = x;
-    y.pending = one_more(c.top(), x.pending);
-    y
+    Runnable {
+        pending: one_more(c.top(), x.pending),
+        ..x
+    }
 }
 
 pub fn woken_if(b: bool, c: RunnableConf, x: Runnable) -> Runnable
     ensures { result ≡ pick b (woken c x) x }
 {
-    if b {
-        return woken(c, x);
-    }
-    x
+    if b { woken(c, x) } else { x }
 }

@@ -12,4 +12,4 @@ unfolding send_of fed
 returns c =
     let a = c.args in
     let e : length a.cfg.required.at ≡ 16 = search (length-mapped, c.well_formed.0.1.1.1.1.1.0.1.1.1.0.1.0.1) in
-    rw (c.take.ensures, ← full-mask-by a.cfg a.st.elements e, ← fed-runnables-by a.cfg a.st.elements e, ← c.of-rooms.ensures, ← c.full_mask.ensures, ← c.sent.ensures, ← c.fed_runnables-next.ensures, ← c.fed_elements-next.ensures)
+    rw (c.take.ensures, c.sent.ensures, c.full_mask.ensures, c.fed-next.ensures, c.of-rooms.ensures, full-mask-by a.cfg a.st.elements e, fed-runnables-by a.cfg a.st.elements e)

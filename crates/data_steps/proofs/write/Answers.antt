@@ -11,4 +11,4 @@ pub returns : goal.returns
 unfolding write_of fed
 returns c =
     let e : length c.args.cfg.required.at ≡ 16 = search (length-mapped, c.well_formed.0.1.1.1.1.1.0.1.1.1.0.1.0.1) in
-    rw (c.take.ensures, c.fed_runnables-next.ensures, c.fed_elements-next.ensures, c.of-rooms.ensures, fed-runnables-by c.args.cfg c.args.st.elements e)
+    rw (c.take.ensures, c.fed.ensures, c.of-rooms.ensures, fed-runnables-by c.args.cfg c.args.st.elements e)

@@ -1,6 +1,6 @@
 -- `time_steps::operations_after` meets its contract.
 -- Assumes nothing.
-use Prim.Native.Nat.{◌-◌, ◌≤◌, ℕ}
+use Prim.Native.Nat.{ℕ}
 use mathlib.Core.Path.{◌≡◌}
 use Rattle.laws.specs.Row.{each_below}
 use Rattle.effects.specs.Steps.{operation_after}
@@ -9,7 +9,4 @@ use Rattle.faces.specs.Types.{Operation, Operations}
 use Rattle.time_steps.proofs.operations_after.Given as goal
 
 abbrev pub invariant-loop-o : goal.invariant-loop-o
-invariant-loop-o l = (l.o ≤ l.n) × (◌≡◌ {A = Operations} l.u (record { at = each_below (λ (j : ℕ) (x : Operation). operation_after l.t x) no_operation l.o l.initial.u.at }))
-
-abbrev pub decreases-loop-o : goal.decreases-loop-o
-decreases-loop-o l = l.n - l.o
+invariant-loop-o l = ◌≡◌ {A = Operations} l.u (record { at = each_below (λ (j : ℕ) (x : Operation). operation_after l.t x) no_operation l.o l.initial.u.at })
