@@ -24,22 +24,22 @@ pub fn lists_some(t: Lists, r: u8) -> bool
 // ---- at end: what was set is written
 
 // The element at place j of r's list was set.
+#[tactic(auto, unfolding(effects::specs::Steps::is_given))]
 fn is_given(t: Lists, r: u8, c: Copies, j: u8) -> bool
     ensures { result ≡ is_given t r c j }
 {
-    let v = c.get(j);
-    t.lists_at(r, j) && v.is_payload()
+    t.lists_at(r, j) && c.get(j).is_payload()
 }
 
 // The element at place j is written, if it was set.
 fn given_at(cfg: Config, r: u8, c: Copies, j: u8, t: Elements) -> Elements
     ensures { result ≡ pick (is_given cfg.outgoing r c j) (fed_elements cfg (element_at cfg.outgoing r j) (copy_in c j) t) t }
 {
-    let lists = cfg.outgoing;
-    if is_given(lists, r, c, j) {
-        return feeding::fed_elements(cfg, lists.element_at(r, j), c.get(j), t);
+    if is_given(cfg.outgoing, r, c, j) {
+        feeding::fed_elements(cfg, cfg.outgoing.element_at(r, j), c.get(j), t)
+    } else {
+        t
     }
-    t
 }
 
 // In list order, each over what the one before has left.
@@ -47,54 +47,37 @@ fn given_elements(cfg: Config, r: u8, c: Copies, t: Elements) -> Elements
     ensures { result ≡ given_elements cfg r c max_listed t }
 {
     let mut u = t;
-    let mut j: u8 = 0;
-    while j < Lists::MAX_LISTED {
+    for j in 0..Lists::MAX_LISTED {
         u = given_at(cfg, r, c, j, u);
-        j = j + 1;
     }
     u
 }
 
 // The element at place j was set, and feeds a data event of the runnable k.
+#[tactic(auto, unfolding(crate::specs::Given::gives_by))]
 fn gives(cfg: Config, rooms: Rooms, r: u8, c: Copies, k: u8, j: u8) -> bool
     ensures { result ≡ gives_by cfg rooms r c k j }
 {
-    let lists = cfg.outgoing;
-    if is_given(lists, r, c, j) {
-        return feeding::is_fed(cfg, rooms, lists.element_at(r, j), k);
-    }
-    false
+    is_given(cfg.outgoing, r, c, j) && feeding::is_fed(cfg, rooms, cfg.outgoing.element_at(r, j), k)
 }
 
 // Some element that was set feeds a data event of the runnable k.
 fn is_given_to(cfg: Config, rooms: Rooms, r: u8, c: Copies, k: u8) -> bool
     ensures { result ≡ is_given_by cfg rooms r c k }
 {
-    let mut j: u8 = 0;
-    while j < Lists::MAX_LISTED {
-        if gives(cfg, rooms, r, c, k, j) {
-            return true;
-        }
-        j = j + 1;
-    }
-    false
+    (0..Lists::MAX_LISTED).any(|j| gives(cfg, rooms, r, c, k, j))
 }
 
 // Each runnable that these data events wake, once.
 fn given_runnables(cfg: Config, rooms: Rooms, r: u8, c: Copies, rs: Runnables) -> Runnables
     ensures { result ≡ given_runnables_by cfg rooms r c rs }
 {
-    let confs = cfg.runnables;
-    let n = shared_steps::within(confs.n, RunnableConfs::MAX as u8);
+    let n = shared_steps::within(cfg.runnables.n, RunnableConfs::MAX as u8);
     let mut u = rs;
-    let mut k: u8 = 0;
-    while k < n {
+    for k in 0..n {
         let i = k as usize;
-        let x = u.at[i];
-        let conf = confs.at[i];
-        let y = shared_steps::woken_if(is_given_to(cfg, rooms, r, c, k), conf, x);
-        u.at[i] = y;
-        k = k + 1;
+        let wakes = is_given_to(cfg, rooms, r, c, k);
+        u.at[i] = shared_steps::woken_if(wakes, cfg.runnables.at[i], u.at[i]);
     }
     u
 }
@@ -103,71 +86,62 @@ fn given_runnables(cfg: Config, rooms: Rooms, r: u8, c: Copies, rs: Runnables) -
 pub fn handed_on(cfg: Config, st: State, i: u8) -> State
     ensures { result ≡ handed_on cfg st i }
 {
-    let slots = st.slots;
-    let x = slots.get(i);
-    let life = x.life;
+    let life = st.slots.get(i).life;
     let r = life.runnable;
-    if lists_some(cfg.outgoing, r) {
-        if life.failed {
-            return st;
-        }
-        let outgoing = st.outgoing;
-        let c = outgoing.get(i);
-        let elements = st.elements;
-        let runnables = st.runnables;
-        let rooms = Rooms::of(cfg, elements);
-        let mut next = st;
-        next.elements = given_elements(cfg, r, c, elements);
-        next.runnables = given_runnables(cfg, rooms, r, c, runnables);
-        return next;
+    if !lists_some(cfg.outgoing, r) || life.failed {
+        return st;
     }
-    st
+    let c = st.outgoing.get(i);
+    let rooms = Rooms::of(cfg, st.elements);
+    State {
+        elements: given_elements(cfg, r, c, st.elements),
+        runnables: given_runnables(cfg, rooms, r, c, st.runnables),
+        ..st
+    }
 }
 
 // No copies in the slot i of the runnable r.
+#[tactic(auto, unfolding(effects::specs::Steps::cleared, state::specs::Parts::no_copies))]
 fn cleared(t: Lists, r: u8, cs: Copied, i: u8) -> Copied
     ensures { result ≡ cleared t r cs i }
 {
     if lists_some(t, r) {
-        return cs.with(i, Copies::BLANK);
+        cs.with(i, Copies::BLANK)
+    } else {
+        cs
     }
-    cs
 }
 
 pub fn uncopied(cfg: Config, st: State, r: u8, i: u8) -> State
     ensures { result ≡ uncopied cfg st r i }
 {
-    let incoming = st.incoming;
-    let outgoing = st.outgoing;
-    let mut next = st;
-    next.incoming = cleared(cfg.incoming, r, incoming, i);
-    next.outgoing = cleared(cfg.outgoing, r, outgoing, i);
-    next
+    State {
+        incoming: cleared(cfg.incoming, r, st.incoming, i),
+        outgoing: cleared(cfg.outgoing, r, st.outgoing, i),
+        ..st
+    }
 }
 
 // ---- at spawn: what is listed is copied
 
 // The copy at place j of a new instance of r.
+#[tactic(auto, unfolding(effects::specs::Steps::copy_of))]
 fn copy_of(t: Lists, r: u8, es: Elements, j: u8) -> Value
     ensures { result ≡ copy_of t r es j }
 {
     if t.lists_at(r, j) {
-        let x = es.get(t.element_at(r, j));
-        return x.value;
+        es.get(t.element_at(r, j)).value
+    } else {
+        Value::NEVER_RECEIVED
     }
-    Value::NEVER_RECEIVED
 }
 
 fn copies_of(t: Lists, r: u8, es: Elements) -> Copies
     ensures { result ≡ copies_of t r es }
 {
     let mut c = Copies::BLANK;
-    let mut j: u8 = 0;
-    while j < Lists::MAX_LISTED {
-        let k = j as usize;
-        let v = copy_of(t, r, es, j);
-        c.at[k] = v;
-        j = j + 1;
+    for j in 0..Lists::MAX_LISTED {
+        c.at[j as usize] = copy_of(t, r, es, j);
     }
     c
 }
@@ -177,87 +151,77 @@ fn seen_if(listed: bool, x: Element) -> Element
     ensures { result ≡ pick listed (seen x) x }
 {
     if listed {
-        let mut y = x;
-        y.updated = false;
-        return y;
+        Element {
+            updated: false,
+            ..x
+        }
+    } else {
+        x
     }
-    x
 }
 
 fn seen_elements(cfg: Config, r: u8, es: Elements) -> Elements
     ensures { result ≡ seen_elements cfg r es }
 {
-    let lists = cfg.incoming;
-    let required = cfg.required;
-    let n = shared_steps::within(required.n, RequiredConfs::MAX as u8);
+    let n = shared_steps::within(cfg.required.n, RequiredConfs::MAX as u8);
     let mut u = es;
-    let mut q: u8 = 0;
-    while q < n {
+    for q in 0..n {
         let k = q as usize;
-        let x = u.at[k];
-        let y = seen_if(lists.has(r, q), x);
-        u.at[k] = y;
-        q = q + 1;
+        u.at[k] = seen_if(cfg.incoming.has(r, q), u.at[k]);
     }
     u
 }
 
+#[tactic(auto, unfolding(effects::specs::Steps::copied_elements))]
 fn copied_elements(cfg: Config, r: u8, es: Elements) -> Elements
     ensures { result ≡ copied_elements cfg r es }
 {
-    let lists = cfg.incoming;
-    if lists_some(lists, r) {
-        return seen_elements(cfg, r, es);
+    if lists_some(cfg.incoming, r) {
+        seen_elements(cfg, r, es)
+    } else {
+        es
     }
-    es
 }
 
+#[tactic(auto, unfolding(effects::specs::Steps::copied_into))]
 fn copied_into(cfg: Config, r: u8, es: Elements, cs: Copied, k: u8) -> Copied
     ensures { result ≡ copied_into cfg r es cs k }
 {
-    let lists = cfg.incoming;
-    if lists_some(lists, r) {
-        return cs.with(k, copies_of(lists, r, es));
+    if lists_some(cfg.incoming, r) {
+        cs.with(k, copies_of(cfg.incoming, r, es))
+    } else {
+        cs
     }
-    cs
 }
 
 // An instance of r in the slot k has copied the elements that r lists.
 pub fn copied_to(cfg: Config, st: State, r: u8, k: u8) -> State
     ensures { result ≡ copied_to cfg st r k }
 {
-    let elements = st.elements;
-    let incoming = st.incoming;
-    let mut next = st;
-    next.elements = copied_elements(cfg, r, elements);
-    next.incoming = copied_into(cfg, r, elements, incoming, k);
-    next
+    State {
+        elements: copied_elements(cfg, r, st.elements),
+        incoming: copied_into(cfg, r, st.elements, st.incoming, k),
+        ..st
+    }
 }
 
 // ---- 22, 23: copies read and set
 
+#[tactic(auto, unfolding(effects::specs::Steps::read_copy_of))]
 pub fn read_copy(cfg: Config, st: State, i: u8, q: u8) -> Stepped
     ensures { result ≡ read_copy_of cfg st i q }
 {
-    let slots = st.slots;
-    let x = slots.get(i);
-    let life = x.life;
-    let incoming = st.incoming;
-    let c = incoming.get(i);
-    let lists = cfg.incoming;
-    shared_steps::take(c.get(lists.place(life.runnable, q)), st)
+    let r = st.slots.get(i).life.runnable;
+    let c = st.incoming.get(i);
+    shared_steps::take(c.get(cfg.incoming.place(r, q)), st)
 }
 
+#[tactic(auto, unfolding(effects::specs::Steps::write_copy_of))]
 pub fn write_copy(cfg: Config, st: State, i: u8, p: u8, v: Value) -> Stepped
     ensures { result ≡ write_copy_of cfg st i p v }
 {
-    let slots = st.slots;
-    let x = slots.get(i);
-    let life = x.life;
-    let outgoing = st.outgoing;
-    let c = outgoing.get(i);
-    let lists = cfg.outgoing;
-    let mut next = st;
-    next.outgoing = outgoing.with(i, c.with(lists.place(life.runnable, p), v));
-    shared_steps::take(Value::VOID, next)
+    let r = st.slots.get(i).life.runnable;
+    let c = st.outgoing.get(i);
+    let outgoing = st.outgoing.with(i, c.with(cfg.outgoing.place(r, p), v));
+    shared_steps::take(Value::VOID, State { outgoing, ..st })
 }

@@ -1,2 +1,3 @@
 -- Laws of the least, and the theorems of this crate.
 pub mod Passing
+pub mod Ranged

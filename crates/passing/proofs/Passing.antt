@@ -1,6 +1,6 @@
 -- How far time may go: laws of the least, as a loop finds it.
 -- Assumes nothing.
-use Prim.Native.Nat.{ℕ, zero, suc, ◌+◌, ◌≤◌, ◌<◌}
+use Prim.Native.Nat.{ℕ, zero, suc, ◌+◌, ◌≤◌, ◌<◌, min}
 use mathlib.Core.Bool.{Bool, true, false, not}
 use mathlib.Core.Path.{◌≡◌, refl, sym, ap, ap₂, ◌∙◌}
 use native.Mathlib.Decide.{dec_lt, dec_le}
@@ -26,6 +26,14 @@ least-none f top = refl
 pub least_more : (f : ℕ → ℕ) (top i : ℕ) → least_below f top (i + 1) ≡ least (least_below f top i) (f i)
 unfolding least_below
 least_more f top i = rw add-one
+
+-- the code's `min` is the least
+pub min_least : (a b : ℕ) → min a b ≡ least a b
+min_least a b = go (dec_lt b a)
+  where
+    go : Dec (b < a) → min a b ≡ least a b
+    go (yes l) = rw (lt-ltb b a l) (omega (arith, l))
+    go (no l) = rw (le-ltb b a (omega (arith, l))) (omega (arith, l))
 
 -- ---- it is the least that counts: so much may pass, and no more
 

@@ -12,6 +12,7 @@ use rules::Row;
 use state::{Life, Slots};
 use values::{Step, Value};
 
+// Kept: `Row` and the table of steps in specs/ (`rows`) say who, which part, which queueing and which argument by these numbers.
 // Who takes a step.
 const NOBODY: u8 = 0;
 
@@ -40,83 +41,80 @@ const A_NUMBER: u8 = 2;
 
 const A_TIME: u8 = 3;
 
-// The table of steps, a row for each code from 0 on: who takes it, the part, the queueing, the argument.
-const ROWS: [[u8; 4]; 24] = [
-    [NOBODY, NO_PART, ANYHOW, NOTHING],
-    [A_SLOT, numbers::TAG_VARIABLE, ANYHOW, NOTHING],
-    [A_SLOT, numbers::TAG_VARIABLE, ANYHOW, A_PAYLOAD],
-    [A_SLOT, numbers::TAG_AREA, ANYHOW, NOTHING],
-    [A_SLOT, numbers::TAG_AREA, ANYHOW, NOTHING],
-    [A_SLOT, numbers::TAG_REQUIRED, UNQUEUED, NOTHING],
-    [A_SLOT, numbers::TAG_PROVIDED, UNQUEUED, A_PAYLOAD],
-    [A_SLOT, numbers::TAG_REQUIRED, UNQUEUED, NOTHING],
-    [A_SLOT, numbers::TAG_PROVIDED, UNQUEUED, NOTHING],
-    [A_SLOT, numbers::TAG_REQUIRED, QUEUED, NOTHING],
-    [A_SLOT, numbers::TAG_PROVIDED, QUEUED, A_PAYLOAD],
-    [A_SLOT, numbers::TAG_OPERATION, ANYHOW, A_PAYLOAD],
-    [A_SLOT, numbers::TAG_OPERATION, ANYHOW, NOTHING],
-    [A_SLOT, NO_PART, ANYHOW, A_PAYLOAD],
-    [A_SLOT, NO_PART, ANYHOW, NOTHING],
-    [SCHEDULER, numbers::TAG_RUNNABLE, ANYHOW, NOTHING],
-    [SCHEDULER, numbers::TAG_OPERATION, ANYHOW, NOTHING],
-    [SCHEDULER, numbers::TAG_TIMER, ANYHOW, NOTHING],
-    [SCHEDULER, NO_PART, ANYHOW, A_NUMBER],
-    [A_SLOT, NO_PART, ANYHOW, NOTHING],
-    [A_SLOT, numbers::TAG_REQUIRED, QUEUED, A_TIME],
-    [A_SLOT, NO_PART, ANYHOW, NOTHING],
-    [A_SLOT, numbers::TAG_REQUIRED, COPIED, NOTHING],
-    [A_SLOT, numbers::TAG_PROVIDED, COPIED, A_PAYLOAD],
+// A row of the table: who takes the step, the part, the queueing, the argument.
+macro_rules! row {
+    ($who:expr, $part:expr, $queueing:expr, $argument:expr) => {
+        Row {
+            who: $who,
+            part: $part,
+            queueing: $queueing,
+            argument: $argument,
+        }
+    };
+}
+
+// The row of a code without one, which is nobody's.
+const NO_ROW: Row = row!(NOBODY, NO_PART, ANYHOW, NOTHING);
+
+// The table of steps, a row for each code from 0 on.
+const ROWS: [Row; 24] = [
+    NO_ROW,
+    row!(A_SLOT, numbers::TAG_VARIABLE, ANYHOW, NOTHING),
+    row!(A_SLOT, numbers::TAG_VARIABLE, ANYHOW, A_PAYLOAD),
+    row!(A_SLOT, numbers::TAG_AREA, ANYHOW, NOTHING),
+    row!(A_SLOT, numbers::TAG_AREA, ANYHOW, NOTHING),
+    row!(A_SLOT, numbers::TAG_REQUIRED, UNQUEUED, NOTHING),
+    row!(A_SLOT, numbers::TAG_PROVIDED, UNQUEUED, A_PAYLOAD),
+    row!(A_SLOT, numbers::TAG_REQUIRED, UNQUEUED, NOTHING),
+    row!(A_SLOT, numbers::TAG_PROVIDED, UNQUEUED, NOTHING),
+    row!(A_SLOT, numbers::TAG_REQUIRED, QUEUED, NOTHING),
+    row!(A_SLOT, numbers::TAG_PROVIDED, QUEUED, A_PAYLOAD),
+    row!(A_SLOT, numbers::TAG_OPERATION, ANYHOW, A_PAYLOAD),
+    row!(A_SLOT, numbers::TAG_OPERATION, ANYHOW, NOTHING),
+    row!(A_SLOT, NO_PART, ANYHOW, A_PAYLOAD),
+    row!(A_SLOT, NO_PART, ANYHOW, NOTHING),
+    row!(SCHEDULER, numbers::TAG_RUNNABLE, ANYHOW, NOTHING),
+    row!(SCHEDULER, numbers::TAG_OPERATION, ANYHOW, NOTHING),
+    row!(SCHEDULER, numbers::TAG_TIMER, ANYHOW, NOTHING),
+    row!(SCHEDULER, NO_PART, ANYHOW, A_NUMBER),
+    row!(A_SLOT, NO_PART, ANYHOW, NOTHING),
+    row!(A_SLOT, numbers::TAG_REQUIRED, QUEUED, A_TIME),
+    row!(A_SLOT, NO_PART, ANYHOW, NOTHING),
+    row!(A_SLOT, numbers::TAG_REQUIRED, COPIED, NOTHING),
+    row!(A_SLOT, numbers::TAG_PROVIDED, COPIED, A_PAYLOAD),
 ];
 
 // The row of a code; a code without one is nobody's.
+#[tactic(auto, unfolding(rules::specs::Rows::row_of, rules::specs::Rows::rows))]
 pub fn row_of(code: u8) -> Row
     ensures { result ≡ row_of code }
 {
-    let k = code as usize;
-    if k < 24 {
-        let l = ROWS[k];
-        return Row {
-            who: l[0],
-            part: l[1],
-            queueing: l[2],
-            argument: l[3],
-        };
-    }
-    Row {
-        who: NOBODY,
-        part: NO_PART,
-        queueing: ANYHOW,
-        argument: NOTHING,
-    }
+    ROWS.get(code as usize).copied().unwrap_or(NO_ROW)
 }
 
 // A value is the argument asked for; none is Void, and a time is a Number of 1 to 3,600,000.
+#[tactic(auto, unfolding(rules::specs::Refusals::argues))]
 fn argues(k: u8, v: Value) -> bool
     ensures { result ≡ argues k v }
 {
-    if k == NOTHING {
-        return v.is_void();
+    match k {
+        NOTHING => v.is_void(),
+        A_PAYLOAD => v.is_payload(),
+        A_TIME => v.kind == 1 && entries::is_time(v.number),
+        _ => v.kind == 1,
     }
-    if k == A_PAYLOAD {
-        return v.is_payload();
-    }
-    if k == A_TIME {
-        return v.kind == 1 && entries::is_time(v.number);
-    }
-    v.kind == 1
 }
 
 // What and argument are as the row has them.
+#[tactic(auto, unfolding(rules::specs::Refusals::formed))]
 pub fn formed(row: Row, what: u8, v: Value) -> bool
     ensures { result ≡ formed row what v }
 {
-    if NO_PART < row.part {
-        return argues(row.argument, v);
-    }
-    what == 0 && argues(row.argument, v)
+    (row.part != NO_PART || what == 0) && argues(row.argument, v)
 }
 
 // The part that is named is there, if one is.
+#[tactic(auto, unfolding(rules::specs::Refusals::part_there))]
 fn part_there(cfg: Config, tag: u8, n: u8) -> bool
     ensures { result ≡ part_there cfg tag n }
 {
@@ -124,75 +122,58 @@ fn part_there(cfg: Config, tag: u8, n: u8) -> bool
 }
 
 // The list in which elements of a kind are named.
+#[tactic(auto, unfolding(rules::specs::Refusals::lists_of))]
 fn lists_of(cfg: Config, tag: u8) -> Lists
     ensures { result ≡ lists_of cfg tag }
 {
     if tag == numbers::TAG_REQUIRED {
-        return cfg.incoming;
+        cfg.incoming
+    } else {
+        cfg.outgoing
     }
-    cfg.outgoing
 }
 
 // An element of which the row asks that the runnable r lists it is listed by it.
+#[tactic(auto, unfolding(rules::specs::Refusals::listed_there))]
 fn listed_there(cfg: Config, r: u8, row: Row, n: u8) -> bool
     ensures { result ≡ listed_there cfg r row n }
 {
-    if row.queueing == COPIED {
-        let t = lists_of(cfg, row.part);
-        return t.has(r, n);
-    }
-    true
+    row.queueing != COPIED || lists_of(cfg, row.part).has(r, n)
 }
 
 // What a step by an instance of the runnable r names is there.
+#[tactic(auto, unfolding(rules::specs::Refusals::named_there))]
 fn named_there(cfg: Config, r: u8, row: Row, n: u8) -> bool
     ensures { result ≡ named_there cfg r row n }
 {
     part_there(cfg, row.part, n) && listed_there(cfg, r, row, n)
 }
 
+#[tactic(auto, unfolding(rules::specs::Refusals::queues_as))]
 fn queues_as(cfg: Config, tag: u8, queueing: u8, n: u8) -> bool
     ensures { result ≡ queues_as cfg tag queueing n }
 {
-    if queueing == ANYHOW {
-        return true;
-    }
-    let e = entries::entry_of(cfg, tag, n);
-    if 0 < e.second {
-        return queueing == QUEUED;
-    }
-    if queueing == QUEUED {
-        return false;
-    }
-    true
+    queueing == ANYHOW || (0 < entries::entry_of(cfg, tag, n).second) == (queueing == QUEUED)
 }
 
+#[tactic(auto, unfolding(rules::specs::Refusals::part_own))]
 fn part_own(cfg: Config, component: u8, row: Row, n: u8) -> bool
     ensures { result ≡ part_own cfg component row n }
 {
-    let tag = row.part;
-    if tag == NO_PART {
-        return true;
-    }
-    let e = entries::entry_of(cfg, tag, n);
-    e.first == component && queues_as(cfg, tag, row.queueing, n)
+    row.part == NO_PART
+        || entries::entry_of(cfg, row.part, n).first == component
+            && queues_as(cfg, row.part, row.queueing, n)
 }
 
+#[tactic(auto, unfolding(rules::specs::Refusals::asks_synchronous))]
 fn asks_synchronous(cfg: Config, code: u8, what: u8) -> bool
     ensures { result ≡ asks_synchronous cfg code what }
 {
-    if code == numbers::CODE_RESULT {
-        let t = cfg.operations;
-        let c = t.get(what);
-        if c.asynchronous {
-            return false;
-        }
-        return true;
-    }
-    false
+    code == numbers::CODE_RESULT && !cfg.operations.get(what).asynchronous
 }
 
 // A step for one that waits alone: a synchronous result, and giving up.
+#[tactic(auto, unfolding(rules::specs::Refusals::asks_waiting))]
 fn asks_waiting(cfg: Config, code: u8, what: u8) -> bool
     ensures { result ≡ asks_waiting cfg code what }
 {
@@ -203,125 +184,111 @@ fn asks_waiting(cfg: Config, code: u8, what: u8) -> bool
 fn may_ask(cfg: Config, l: Life, code: u8, what: u8) -> bool
     ensures { result ≡ either (not (asks_waiting cfg code what)) (is_waiting l) }
 {
-    if asks_waiting(cfg, code, what) {
-        return is_waiting(l);
-    }
-    true
+    !asks_waiting(cfg, code, what) || is_waiting(l)
 }
 
 // A finished instance may end alone, and exit too if it has failed.
+#[tactic(auto, unfolding(rules::specs::Refusals::finished_lets))]
 fn finished_lets(l: Life, code: u8) -> bool
     ensures { result ≡ finished_lets l code }
 {
-    if l.finished {
-        return code == numbers::CODE_END || l.failed && code == numbers::CODE_EXIT;
-    }
-    true
+    !l.finished || code == numbers::CODE_END || l.failed && code == numbers::CODE_EXIT
 }
 
 // One that has failed may hand back, exit and end alone.
+#[tactic(auto, unfolding(rules::specs::Refusals::failed_lets))]
 fn failed_lets(l: Life, code: u8) -> bool
     ensures { result ≡ failed_lets l code }
 {
-    if l.failed {
-        return code == numbers::CODE_HAND_BACK
-            || (code == numbers::CODE_EXIT || code == numbers::CODE_END);
-    }
-    true
+    !l.failed
+        || code == numbers::CODE_HAND_BACK
+        || code == numbers::CODE_EXIT
+        || code == numbers::CODE_END
 }
 
 // What ends the waiting of an instance: the result on its operation; or a receive on the element that holds it, or giving up.
+#[tactic(auto, unfolding(rules::specs::Refusals::ends_waiting))]
 fn ends_waiting(l: Life, code: u8, what: u8) -> bool
     ensures { result ≡ ends_waiting l code what }
 {
     let a = l.awaited;
     if a.part == numbers::TAG_OPERATION {
-        return code == numbers::CODE_RESULT && a.on == what;
+        code == numbers::CODE_RESULT && a.on == what
+    } else {
+        code == numbers::CODE_GIVE_UP || code == numbers::CODE_RECEIVE && a.on == what
     }
-    if code == numbers::CODE_GIVE_UP {
-        return true;
-    }
-    code == numbers::CODE_RECEIVE && a.on == what
 }
 
 // The instance waits.
 fn is_waiting(l: Life) -> bool
     ensures { result ≡ is_waiting l }
 {
-    let a = l.awaited;
-    NO_PART < a.part
+    NO_PART < l.awaited.part
 }
 
 // A waiting instance may take only what ends its waiting.
+#[tactic(auto, unfolding(rules::specs::Refusals::waiting_lets))]
 pub fn waiting_lets(l: Life, code: u8, what: u8) -> bool
     ensures { result ≡ waiting_lets l code what }
 {
-    if is_waiting(l) {
-        return ends_waiting(l, code, what);
-    }
-    true
+    !is_waiting(l) || ends_waiting(l, code, what)
 }
 
+#[tactic(auto, unfolding(rules::specs::Refusals::life_lets, laws::specs::Choice::all_of))]
 fn life_lets(cfg: Config, l: Life, code: u8, what: u8) -> bool
     ensures { result ≡ life_lets cfg l code what }
 {
     waiting_lets(l, code, what)
-        && (finished_lets(l, code) && (failed_lets(l, code) && may_ask(cfg, l, code, what)))
+        && finished_lets(l, code)
+        && failed_lets(l, code)
+        && may_ask(cfg, l, code, what)
 }
 
 // For a step of a slot: the first of 2, 30, 3, 4 and 5 that holds, or 0.
+#[tactic(auto, unfolding(rules::specs::Refusals::instance_refusal))]
 pub fn instance_refusal(cfg: Config, slots: Slots, s: Step) -> u8
     ensures { result ≡ instance_refusal cfg slots (row_of s.code) s }
 {
-    let code = s.code;
-    let what = s.what;
-    let row = row_of(code);
-    if formed(row, what, s.argument) {
-        if config::has_step(cfg.edition, code) {
-            let x = slots.get(s.who);
-            let l = x.life;
-            if x.used {
-                if named_there(cfg, l.runnable, row, what) {
-                    return owned_refusal(cfg, l, row, code, what);
-                }
-                return numbers::NOT_THERE;
-            }
-            return numbers::NOT_THERE;
-        }
+    let row = row_of(s.code);
+    if !formed(row, s.what, s.argument) {
+        return numbers::MALFORMED;
+    }
+    if !config::has_step(cfg.edition, s.code) {
         return numbers::STEP_GONE;
     }
-    numbers::MALFORMED
+    let x = slots.get(s.who);
+    if !x.used || !named_there(cfg, x.life.runnable, row, s.what) {
+        return numbers::NOT_THERE;
+    }
+    owned_refusal(cfg, x.life, row, s.code, s.what)
 }
 
 // The same from 4 on.
+#[tactic(auto, unfolding(rules::specs::Refusals::owned_refusal))]
 fn owned_refusal(cfg: Config, l: Life, row: Row, code: u8, what: u8) -> u8
     ensures { result ≡ owned_refusal cfg l row code what }
 {
-    let t = cfg.runnables;
-    let c = t.get(l.runnable);
-    if part_own(cfg, c.component, row, what) {
-        if life_lets(cfg, l, code, what) {
-            return 0;
-        }
-        return numbers::BARRED;
+    let own = cfg.runnables.get(l.runnable).component;
+    if !part_own(cfg, own, row, what) {
+        numbers::NOT_OWN
+    } else if !life_lets(cfg, l, code, what) {
+        numbers::BARRED
+    } else {
+        0
     }
-    numbers::NOT_OWN
 }
 
 // For a step of the scheduler, in which who is unused: the first of 2 and 3 that holds, or 0.
+#[tactic(auto, unfolding(rules::specs::Refusals::scheduler_refusal))]
 pub fn scheduler_refusal(cfg: Config, s: Step) -> u8
     ensures { result ≡ scheduler_refusal cfg (row_of s.code) s }
 {
-    let what = s.what;
     let row = row_of(s.code);
-    if s.who == 0 {
-        if formed(row, what, s.argument) {
-            if part_there(cfg, row.part, what) {
-                return 0;
-            }
-            return numbers::NOT_THERE;
-        }
-        return numbers::MALFORMED;
+    if s.who != 0 || !formed(row, s.what, s.argument) {
+        numbers::MALFORMED
+    } else if !part_there(cfg, row.part, s.what) {
+        numbers::NOT_THERE
+    } else {
+        0
     }
-    numbers::MALFORMED
 }

@@ -1,12 +1,12 @@
 // Why a step is refused, finer than its number, number by number: which slot, which need, which count.
 #![tactic(auto)]
 
-ghost use Rattle.std.specs.Prelude.{◌≡◌, get_or};
+ghost use Rattle.std.specs.Prelude.{◌≡◌, ◌<◌, get_or, MatchOption};
 ghost use Rattle.config.specs.Tables.{runnable_conf_in};
-ghost use Rattle.state.specs.Tables.{runnable_in, slot_in};
+ghost use Rattle.state.specs.Tables.{max_slots, runnable_in, slot_in};
 ghost use Rattle.whys.specs.Whys.{form_cause, slot_cause, code_cause, part_cause, there_cause, own_cause, life_cause, holds_of, holder_of, top_cause, full_cause, serves_as, bearer_of, borne_cause, open_cause, due_cause, spawn_cause, stop_cause, early_cause, still_cause, owed_cause, why_of};
 
-use config::{AreaConfs, Config, RunnableConf};
+use config::{Config, RunnableConf};
 use rules::Row;
 use state::{Life, Owed, Runnable, Slots, Stack, State};
 use values::{Step, Value};
@@ -78,6 +78,7 @@ pub enum Cause {
 }
 
 // What a row says: whose step it is, and whether it names a part.
+// Kept: `Row` and the table of steps in specs/ say so by these numbers.
 const A_SLOT: u8 = 1;
 
 const SCHEDULER: u8 = 2;
@@ -87,355 +88,297 @@ const NO_PART: u8 = 0;
 const SLOTS: u8 = Slots::MAX as u8;
 
 // 2: an entry that the code leaves empty is filled, or the argument is not of its kind.
+#[tactic(auto, unfolding(crate::specs::Whys::form_cause))]
 fn form_cause(row: Row, s: Step) -> Cause
     ensures { result ≡ form_cause row s }
 {
-    if NO_PART < row.part {
-        return Cause::BadArgument(row.argument);
+    if row.part == NO_PART && 0 < s.what {
+        Cause::HasWhat
+    } else {
+        Cause::BadArgument(row.argument)
     }
-    if 0 < s.what {
-        return Cause::HasWhat;
-    }
-    Cause::BadArgument(row.argument)
 }
 
 // 2 of a slot's step: its entries, or a Number handed back by an instance that has failed.
+#[tactic(auto, unfolding(crate::specs::Whys::slot_cause))]
 fn slot_cause(row: Row, s: Step) -> Cause
     ensures { result ≡ slot_cause row s }
 {
     if refusals::formed(row, s.what, s.argument) {
-        return Cause::HandsNumber;
+        Cause::HandsNumber
+    } else {
+        form_cause(row, s)
     }
-    form_cause(row, s)
 }
 
+#[tactic(auto, unfolding(crate::specs::Whys::code_cause))]
 fn code_cause(row: Row, s: Step) -> Cause
     ensures { result ≡ code_cause row s }
 {
-    if row.who == A_SLOT {
-        return slot_cause(row, s);
+    match row.who {
+        A_SLOT => slot_cause(row, s),
+        SCHEDULER if s.who == 0 => form_cause(row, s),
+        SCHEDULER => Cause::HasWho,
+        _ => Cause::NoCode,
     }
-    if row.who == SCHEDULER {
-        if s.who == 0 {
-            return form_cause(row, s);
-        }
-        return Cause::HasWho;
-    }
-    Cause::NoCode
 }
 
 // 3 by an instance of the runnable r: the part is there, and so not in the runnable's list; else it is not there.
+#[tactic(auto, unfolding(crate::specs::Whys::part_cause))]
 fn part_cause(cfg: Config, r: u8, row: Row, n: u8) -> Cause
     ensures { result ≡ part_cause cfg r row n }
 {
     let most = entries::count_of(cfg, row.part);
     if n < most {
-        return Cause::NotListed(r, row.part, n);
+        Cause::NotListed(r, row.part, n)
+    } else {
+        Cause::NoPart(most)
     }
-    Cause::NoPart(most)
 }
 
 // 3: the slot or the part is not there, or the part is not listed.
+#[tactic(auto, unfolding(crate::specs::Whys::there_cause))]
 fn there_cause(cfg: Config, slots: Slots, row: Row, s: Step) -> Cause
     ensures { result ≡ there_cause cfg slots row s }
 {
-    if row.who == A_SLOT {
-        if SLOTS <= s.who {
-            return Cause::NoSlot;
-        }
-        let x = slots.get(s.who);
-        if x.used {
-            let l = x.life;
-            return part_cause(cfg, l.runnable, row, s.what);
-        }
-        return Cause::EmptySlot;
+    if row.who != A_SLOT {
+        return Cause::NoPart(entries::count_of(cfg, row.part));
     }
-    Cause::NoPart(entries::count_of(cfg, row.part))
+    if SLOTS <= s.who {
+        return Cause::NoSlot;
+    }
+    let x = slots.get(s.who);
+    if x.used {
+        part_cause(cfg, x.life.runnable, row, s.what)
+    } else {
+        Cause::EmptySlot
+    }
 }
 
 // 4: the part is another component's, or an element is queued that should not be, or the other way round.
+#[tactic(auto, unfolding(crate::specs::Whys::own_cause))]
 fn own_cause(cfg: Config, slots: Slots, row: Row, s: Step) -> Cause
     ensures { result ≡ own_cause cfg slots row s }
 {
-    let x = slots.get(s.who);
-    let l = x.life;
-    let t = cfg.runnables;
-    let c = t.get(l.runnable);
+    let own = cfg.runnables.get(slots.get(s.who).life.runnable).component;
     let e = entries::entry_of(cfg, row.part, s.what);
-    if e.first == c.component {
-        if 0 < e.second {
-            return Cause::IsQueued;
-        }
-        return Cause::NotQueued;
+    if e.first != own {
+        Cause::Foreign(e.first, own)
+    } else if 0 < e.second {
+        Cause::IsQueued
+    } else {
+        Cause::NotQueued
     }
-    Cause::Foreign(e.first, c.component)
 }
 
 // 5: the instance waits or is held, has failed, is finished, or does not wait.
+#[tactic(auto, unfolding(crate::specs::Whys::life_cause))]
 fn life_cause(l: Life, s: Step) -> Cause
     ensures { result ≡ life_cause l s }
 {
     if refusals::waiting_lets(l, s.code, s.what) {
-        if l.failed {
-            if l.finished {
-                return Cause::FailedBack;
-            }
-            return Cause::HasFailed;
+        match (l.failed, l.finished) {
+            (true, true) => Cause::FailedBack,
+            (true, false) => Cause::HasFailed,
+            (false, true) => Cause::IsFinished,
+            (false, false) => Cause::NotWaiting,
         }
-        if l.finished {
-            return Cause::IsFinished;
-        }
-        return Cause::NotWaiting;
+    } else if l.awaited.part == numbers::TAG_OPERATION {
+        Cause::WaitsOn(l.awaited.on)
+    } else {
+        Cause::HeldOn(l.awaited.on)
     }
-    let a = l.awaited;
-    if a.part == numbers::TAG_OPERATION {
-        return Cause::WaitsOn(a.on);
-    }
-    Cause::HeldOn(a.on)
 }
 
 fn area_at(s: Stack, j: u8) -> u8
     ensures { result ≡ get_or s.at j 0 }
 {
-    let k = j as usize;
-    if k < AreaConfs::MAX {
-        return s.at[k];
-    }
-    0
+    s.at.get(j as usize).copied().unwrap_or(0)
 }
 
 // The area a is in the stack.
 fn holds(a: u8, s: Stack) -> bool
     ensures { result ≡ holds_of a s }
 {
-    let m = s.held;
-    let mut j: u8 = 0;
-    while j < m {
-        if area_at(s, j) == a {
-            return true;
-        }
-        j = j + 1;
-    }
-    false
+    (0..s.held).any(|j| area_at(s, j) == a)
 }
 
 // The slot that holds the area a, or how many slots there are.
 fn holder(slots: Slots, a: u8) -> u8
     ensures { result ≡ holder_of slots a }
 {
-    let mut k: u8 = 0;
-    while k < SLOTS {
-        let x = slots.get(k);
-        if holds(a, x.stack) {
-            return k;
-        }
-        k = k + 1;
-    }
-    SLOTS
+    (0..SLOTS)
+        .find(|k| holds(a, slots.get(*k).stack))
+        .unwrap_or(SLOTS)
 }
 
 // 7: another area is on top, or none is held.
+#[tactic(auto, unfolding(crate::specs::Whys::top_cause))]
 fn top_cause(slots: Slots, i: u8) -> Cause
     ensures { result ≡ top_cause slots i }
 {
-    let x = slots.get(i);
-    let t = x.stack;
+    let t = slots.get(i).stack;
     if 0 < t.held {
-        return Cause::OnTop(t.top());
+        Cause::OnTop(t.top())
+    } else {
+        Cause::NoneHeld
     }
-    Cause::NoneHeld
 }
 
 // 8: the server's queue is full.
+#[tactic(auto, unfolding(crate::specs::Whys::full_cause))]
 fn full_cause(cfg: Config, o: u8) -> Cause
     ensures { result ≡ full_cause cfg o }
 {
-    let confs = cfg.operations;
-    let c = confs.get(o);
-    let servers = cfg.runnables;
-    let s = servers.get(c.server);
-    Cause::QueueFull(c.server, s.capacity)
+    let server = cfg.operations.get(o).server;
+    Cause::QueueFull(server, cfg.runnables.get(server).capacity)
 }
 
 // The instance has a client of the operation o with the number m.
+#[tactic(auto, unfolding(crate::specs::Whys::serves_as, rules::specs::Sound::is_client))]
 fn serves_as(o: u8, m: u16, w: Owed) -> bool
     ensures { result ≡ serves_as o m w }
 {
-    if w.serving {
-        let c = w.client;
-        if c.operation == o {
-            return c.number == m;
-        }
-        return false;
-    }
-    false
+    w.serving && w.client.operation == o && w.client.number == m
 }
 
-// The slot whose instance does, or how many slots there are.
-fn bearer(slots: Slots, o: u8, m: u16) -> u8
-    ensures { result ≡ bearer_of slots o m }
+// The slot whose instance does, if there is one.
+fn bearer(slots: Slots, o: u8, m: u16) -> Option<u8>
+    ensures { MatchOption result (bearer_of slots o m ≡ max_slots) (λ k. (k < max_slots) × (bearer_of slots o m ≡ k)) }
 {
-    let mut k: u8 = 0;
-    while k < SLOTS {
-        let x = slots.get(k);
-        if serves_as(o, m, x.owed) {
-            return k;
-        }
-        k = k + 1;
-    }
-    SLOTS
+    (0..SLOTS).find(|k| serves_as(o, m, slots.get(*k).owed))
 }
 
 // 28: the slot that serves the old client, or the server in whose queue it waits.
+#[tactic(auto, unfolding(crate::specs::Whys::borne_cause))]
 fn borne_cause(cfg: Config, st: State, o: u8) -> Cause
     ensures { result ≡ borne_cause cfg st o }
 {
-    let os = st.operations;
-    let x = os.get(o);
-    let slots = st.slots;
-    let i = bearer(slots, o, x.number);
-    if i < SLOTS {
-        return Cause::StillServed(i);
+    match bearer(st.slots, o, st.operations.get(o).number) {
+        Some(i) => Cause::StillServed(i),
+        None => Cause::StillQueued(cfg.operations.get(o).server),
     }
-    let confs = cfg.operations;
-    let c = confs.get(o);
-    Cause::StillQueued(c.server)
 }
 
 // 11: the first of the three needs that is missing.
+#[tactic(auto, unfolding(crate::specs::Whys::spawn_cause))]
 fn spawn_cause(c: RunnableConf, x: Runnable) -> Cause
     ensures { result ≡ spawn_cause c x }
 {
     if 0 < x.interval {
-        return Cause::InInterval(x.interval);
+        Cause::InInterval(x.interval)
+    } else if !c.concurrent && 0 < x.instances {
+        Cause::Runs(x.instances)
+    } else {
+        due_cause(c.capacity)
     }
-    if c.concurrent {
-        return due_cause(c.capacity);
-    }
-    if 0 < x.instances {
-        return Cause::Runs(x.instances);
-    }
-    due_cause(c.capacity)
 }
 
 // The third need: a plain runnable is not pending, a server has no request.
+#[tactic(auto, unfolding(crate::specs::Whys::due_cause))]
 fn due_cause(capacity: u8) -> Cause
     ensures { result ≡ due_cause capacity }
 {
     if capacity == 0 {
-        return Cause::NotPending;
+        Cause::NotPending
+    } else {
+        Cause::NoRequest
     }
-    Cause::NoRequest
 }
 
 // 13: the first part whose count lets no more than t pass.
+#[tactic(auto, unfolding(crate::specs::Whys::stop_cause))]
 fn stop_cause(cfg: Config, st: State, t: u32) -> Cause
     ensures { result ≡ stop_cause cfg st t }
 {
-    let os = st.operations;
-    let o = passing::operation_stop(cfg, os, t);
-    let operations = cfg.operations;
-    if o < operations.n {
+    let o = passing::operation_stop(cfg, st.operations, t);
+    if o < cfg.operations.n {
         return Cause::Stops(numbers::TAG_OPERATION, o, t);
     }
-    let ts = st.timers;
-    let k = passing::timer_stop(cfg, ts, t);
-    let timers = cfg.timers;
-    if k < timers.n {
+    let k = passing::timer_stop(cfg, st.timers, t);
+    if k < cfg.timers.n {
         return Cause::Stops(numbers::TAG_TIMER, k, t);
     }
-    let slots = st.slots;
-    Cause::HoldStops(passing::slot_stop(slots, t), t)
+    Cause::HoldStops(passing::slot_stop(st.slots, t), t)
 }
 
 // How long the instance in the slot i is held still.
 fn left_of(slots: Slots, i: u8) -> u32
     ensures { result ≡ (slot_in slots i).life.awaited.left }
 {
-    let x = slots.get(i);
-    let l = x.life;
-    let a = l.awaited;
-    a.left
+    slots.get(i).life.awaited.left
 }
 
 // 14: no call is open, or the count has not run out.
+#[tactic(auto, unfolding(crate::specs::Whys::early_cause))]
 fn early_cause(st: State, s: Step) -> Cause
     ensures { result ≡ early_cause st s }
 {
-    if s.code == numbers::CODE_TIMEOUT {
-        let os = st.operations;
-        let x = os.get(s.what);
-        if x.calling {
-            return Cause::CallRuns(x.count);
+    match s.code {
+        numbers::CODE_TIMEOUT => {
+            let x = st.operations.get(s.what);
+            if x.calling {
+                Cause::CallRuns(x.count)
+            } else {
+                Cause::NotOpen
+            }
         }
-        return Cause::NotOpen;
+        numbers::CODE_GIVE_UP => Cause::HoldRuns(left_of(st.slots, s.who)),
+        _ => Cause::TimerRuns(st.timers.get(s.what).count),
     }
-    if s.code == numbers::CODE_GIVE_UP {
-        let slots = st.slots;
-        return Cause::HoldRuns(left_of(slots, s.who));
-    }
-    let ts = st.timers;
-    let y = ts.get(s.what);
-    Cause::TimerRuns(y.count)
 }
 
 // 16: no client, or one that is still owed its answer.
+#[tactic(auto, unfolding(crate::specs::Whys::owed_cause))]
 fn owed_cause(slots: Slots, i: u8) -> Cause
     ensures { result ≡ owed_cause slots i }
 {
-    let x = slots.get(i);
-    let w = x.owed;
+    let w = slots.get(i).owed;
     if w.serving {
-        let c = w.client;
-        return Cause::HasClient(c.operation);
+        Cause::HasClient(w.client.operation)
+    } else {
+        Cause::NoClient
     }
-    Cause::NoClient
 }
 
 // 15: the area on top of those that are still held.
+#[tactic(auto, unfolding(crate::specs::Whys::still_cause))]
 fn still_cause(slots: Slots, i: u8) -> Cause
     ensures { result ≡ still_cause slots i }
 {
-    let x = slots.get(i);
-    let t = x.stack;
-    Cause::StillHeld(t.top())
+    Cause::StillHeld(slots.get(i).stack.top())
 }
 
 // 10: how long the open call may last still, or the instance is held still.
+#[tactic(auto, unfolding(crate::specs::Whys::open_cause))]
 fn open_cause(st: State, s: Step) -> Cause
     ensures { result ≡ open_cause st s }
 {
     if s.code == numbers::CODE_RECEIVE {
-        let slots = st.slots;
-        return Cause::QueueEmpty(left_of(slots, s.who));
+        Cause::QueueEmpty(left_of(st.slots, s.who))
+    } else {
+        Cause::CallOpen(st.operations.get(s.what).count)
     }
-    let os = st.operations;
-    let x = os.get(s.what);
-    Cause::CallOpen(x.count)
 }
 
 fn unspawned_cause(cfg: Config, st: State, r: u8) -> Cause
     ensures { result ≡ spawn_cause (runnable_conf_in cfg.runnables r) (runnable_in st.runnables r) }
 {
-    let confs = cfg.runnables;
-    let rs = st.runnables;
-    spawn_cause(confs.get(r), rs.get(r))
+    spawn_cause(cfg.runnables.get(r), st.runnables.get(r))
 }
 
 // The cause of a refusal with the number n.
+#[tactic(auto, unfolding(crate::specs::Whys::why_of))]
 pub fn why(cfg: Config, st: State, s: Step, n: u8) -> Cause
     ensures { result ≡ why_of cfg st s n }
 {
     let slots = st.slots;
-    let x = slots.get(s.who);
-    let l = x.life;
-    let v = s.argument;
     let row = refusals::row_of(s.code);
     match n {
         numbers::MALFORMED => code_cause(row, s),
         numbers::NOT_THERE => there_cause(cfg, slots, row, s),
         numbers::NOT_OWN => own_cause(cfg, slots, row, s),
-        numbers::BARRED => life_cause(l, s),
+        numbers::BARRED => life_cause(slots.get(s.who).life, s),
         numbers::AREA_TAKEN => Cause::HeldBy(holder(slots, s.what)),
         numbers::NOT_ON_TOP => top_cause(slots, s.who),
         numbers::QUEUE_FULL => full_cause(cfg, s.what),
@@ -443,7 +386,7 @@ pub fn why(cfg: Config, st: State, s: Step, n: u8) -> Cause
         numbers::STILL_WAITS => open_cause(st, s),
         numbers::NOT_DUE => unspawned_cause(cfg, st, s.what),
         numbers::NO_SLOT_FREE => Cause::NoRoom,
-        numbers::TOO_FAR => stop_cause(cfg, st, passing::passes(cfg, st, v.number)),
+        numbers::TOO_FAR => stop_cause(cfg, st, passing::passes(cfg, st, s.argument.number)),
         numbers::NOT_OVER => early_cause(st, s),
         numbers::AREAS_HELD => still_cause(slots, s.who),
         numbers::STEP_GONE => Cause::StepGone(cfg.edition),

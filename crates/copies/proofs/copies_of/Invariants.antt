@@ -1,6 +1,6 @@
 -- `copies::copies_of` meets its contract. The loop has been over the places below its counter (`each_below`), and takes one more by `each_more`.
 -- Assumes nothing.
-use Prim.Native.Nat.{ℕ, ◌-◌, ◌≤◌}
+use Prim.Native.Nat.{ℕ}
 use mathlib.Core.Path.{◌≡◌}
 use Rattle.laws.specs.Row.{each_below}
 use Rattle.values.specs.Values.{never_received_v}
@@ -10,7 +10,4 @@ use Rattle.effects.specs.Steps.{copy_of}
 use Rattle.copies.proofs.copies_of.Given as goal
 
 abbrev pub invariant-loop-j : goal.invariant-loop-j
-invariant-loop-j l = (l.j ≤ 4) × (◌≡◌ {A = Copies} l.c (record { at = each_below (λ (k : ℕ) (v : Value). copy_of l.t l.r l.es k) never_received_v l.j no_copies.at }))
-
-abbrev pub decreases-loop-j : goal.decreases-loop-j
-decreases-loop-j l = 4 - l.j
+invariant-loop-j l = ◌≡◌ {A = Copies} l.c (record { at = each_below (λ (k : ℕ) (v : Value). copy_of l.t l.r l.es k) never_received_v l.j no_copies.at })

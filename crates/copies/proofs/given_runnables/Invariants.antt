@@ -1,6 +1,6 @@
 -- `copies::given_runnables` meets its contract. The loop has been over the places below its counter (`each_below`), and takes one more by `each-put`.
 -- Assumes nothing.
-use Prim.Native.Nat.{◌-◌, ◌≤◌, ℕ}
+use Prim.Native.Nat.{ℕ}
 use mathlib.Core.Path.{◌≡◌}
 use Rattle.config.specs.Tables.{runnable_conf_in}
 use Rattle.laws.specs.Choice.{pick}
@@ -13,7 +13,4 @@ use Rattle.copies.proofs.given_runnables.Given as goal
 
 abbrev pub invariant-loop-k : goal.invariant-loop-k
 invariant-loop-k l =
-    (l.k ≤ l.n) × (l.u.at ≡ each_below (λ (j : ℕ) (x : Runnable). pick (is_given_by l.cfg l.rooms l.r l.c j) (woken (runnable_conf_in l.confs j) x) x) no_runnable l.k l.initial.u.at)
-
-abbrev pub decreases-loop-k : goal.decreases-loop-k
-decreases-loop-k l = l.n - l.k
+    l.u.at ≡ each_below (λ (j : ℕ) (x : Runnable). pick (is_given_by l.cfg l.rooms l.r l.c j) (woken (runnable_conf_in l.cfg.runnables j) x) x) no_runnable l.k l.initial.u.at

@@ -10,34 +10,16 @@ use Rattle.shared_steps.proofs.Stopping.{each-put, each_within, elements-made}
 use Rattle.copies.proofs.seen_elements.Goals as goal
 
 pub loop-q-init : goal.loop-q-init
-loop-q-init c = (search rules, rw each_none)
-
-pub offset_bounds-u-k : goal.offset_bounds-u-k
-offset_bounds-u-k c = omega (arith, c.within-n.ensures.0)
-
-pub bounds-u-k : goal.bounds-u-k
-bounds-u-k c = omega (arith, c.within-n.ensures.0)
-
-pub offset_bounds-u-k-in-loop-q : goal.offset_bounds-u-k-in-loop-q
-offset_bounds-u-k-in-loop-q c = omega (arith, c.within-n.ensures.0)
-
-pub bounds-u-k-in-loop-q : goal.bounds-u-k-in-loop-q
-bounds-u-k-in-loop-q c = omega (arith, c.within-n.ensures.0)
-
-pub overflow_add-q : goal.overflow_add-q
-overflow_add-q c = omega (arith, c.within-n.ensures.0)
-
-pub loop-q-smaller : goal.loop-q-smaller
-loop-q-smaller c = omega arith
+loop-q-init c = rw each_none
 
 pub loop-q-preserved : goal.loop-q-preserved
 loop-q-preserved c =
     let e : length c.args.es.at ≡ 16 = search (rules, length-mapped, c.well_formed.1) in
-    (omega arith, rw (c.seen_if-y.ensures, c.has.ensures) (each-put _ _ _ _ _ _ e (omega (arith, c.within-n.ensures.0)) c.loop-q.invariant.1))
+    rw (c.seen_if.ensures, c.has.ensures) (each-put _ _ _ _ _ _ e (omega (arith, c.within-n.ensures.0)) c.loop-q.invariant)
 
 pub returns : goal.returns
 unfolding seen_elements
 returns c =
     let e : length c.args.es.at ≡ 16 = search (rules, length-mapped, c.well_formed.1) in
     let k : c.loop-q.q ≡ c.within-n.result = omega arith in
-    elements-made (rw (k, c.within-n.ensures.1) at c.loop-q.invariant.1 ∙ each_within 16 _ _ c.args.cfg.required.n _ e)
+    elements-made (rw (k, c.within-n.ensures.1) at c.loop-q.invariant ∙ each_within 16 _ _ c.args.cfg.required.n _ e)

@@ -1,6 +1,6 @@
 -- `feeding::fed_runnables` meets its contract. The loop has been over the places below its counter (`each_below`), and takes one more by `each-put`.
 -- Assumes nothing.
-use Prim.Native.Nat.{◌-◌, ◌≤◌, ℕ}
+use Prim.Native.Nat.{ℕ}
 use mathlib.Core.Path.{◌≡◌}
 use Rattle.config.specs.Tables.{runnable_conf_in}
 use Rattle.laws.specs.Choice.{pick}
@@ -13,7 +13,4 @@ use Rattle.feeding.proofs.fed_runnables.Given as goal
 
 abbrev pub invariant-loop-r : goal.invariant-loop-r
 invariant-loop-r l =
-    (l.r ≤ l.n) × (l.u.at ≡ each_below (λ (j : ℕ) (x : Runnable). pick (is_fed_by l.cfg l.rooms l.p j) (woken (runnable_conf_in l.confs j) x) x) no_runnable l.r l.initial.u.at)
-
-abbrev pub decreases-loop-r : goal.decreases-loop-r
-decreases-loop-r l = l.n - l.r
+    l.u.at ≡ each_below (λ (j : ℕ) (x : Runnable). pick (is_fed_by l.cfg l.rooms l.p j) (woken (runnable_conf_in l.cfg.runnables j) x) x) no_runnable l.r l.initial.u.at

@@ -1,30 +1,19 @@
 -- `passing::slot_stop` meets its contract.
 -- Assumes nothing.
-use mathlib.Core.Path.{◌≡◌, sym, ◌∙◌}
-use native.Mathlib.Omega.{arith}
-use Rattle.laws.proofs.Looping.{first-none, first_more, first-here}
-use Rattle.passing.specs.Passing.{slot_stop}
-use borrow.Author.Rules.{rules}
+use Prim.Native.Nat.{ℕ}
+use mathlib.Core.Bool.{true, false}
+use mathlib.Core.Path.{◌≡◌, ◌∙◌}
+use Rattle.std.proofs.Common.{rules, tests}
+use Rattle.std.proofs.lemmas.Iterator.{first_from_Range}
+use Rattle.state.specs.Tables.{slot_in}
+use Rattle.passing.specs.Passing.{slot_stops, slot_stop}
+use Rattle.passing.proofs.Ranged.{found_first}
 use Rattle.passing.proofs.slot_stop.Goals as goal
-
-pub loop-i-init : goal.loop-i-init
-loop-i-init c = (search rules, first-none _)
-
-pub returns-then-slot_stops : goal.returns-then-slot_stops
-unfolding slot_stop
-returns-then-slot_stops c = sym (first-here _ _ c.loop-i.i c.loop-i.invariant.1 (rw (← c.get.ensures) (sym c.slot_stops.ensures ∙ c.if-slot_stops.true)) (omega arith))
-
-pub overflow_add-i : goal.overflow_add-i
-overflow_add-i c = omega arith
-
-pub loop-i-smaller : goal.loop-i-smaller
-loop-i-smaller c = omega arith
-
-pub loop-i-preserved : goal.loop-i-preserved
-loop-i-preserved c = (omega arith, first_more _ _ c.loop-i.invariant.1 (rw (← c.get.ensures) (sym c.slot_stops.ensures ∙ c.if-slot_stops.false)))
 
 pub returns : goal.returns
 unfolding slot_stop
 returns c =
-    let e : c.loop-i.i ≡ 32 = omega arith in
-    sym (rw e at c.loop-i.invariant.1)
+    let a = c.args in
+    let p = λ (k : ℕ). slot_stops a.t (slot_in a.ss k) in
+    let f = first_from_Range _ _ _ _ (λ k. p k ≡ true) (λ k. p k ≡ false) c.find.ensures.ran (λ x q k. search (rules, tests)) (λ x q k. search (rules, tests)) in
+    c.unwrap_or.ensures ∙ found_first p 32 _ f

@@ -3,24 +3,17 @@
 use mathlib.Core.Path.{◌≡◌, sym}
 use native.Mathlib.Omega.{arith}
 use Rattle.passing.specs.Passing.{slots_pass}
-use Rattle.passing.proofs.Passing.{least-none, least_more}
-use borrow.Author.Rules.{rules}
+use Rattle.passing.proofs.Passing.{least-none, least_more, min_least}
 use Rattle.passing.proofs.slots_pass.Goals as goal
 
 pub loop-i-init : goal.loop-i-init
-loop-i-init c = (search rules, sym (least-none _ _))
-
-pub overflow_add-i : goal.overflow_add-i
-overflow_add-i c = omega arith
-
-pub loop-i-smaller : goal.loop-i-smaller
-loop-i-smaller c = omega arith
+loop-i-init c = sym (least-none _ _)
 
 pub loop-i-preserved : goal.loop-i-preserved
-loop-i-preserved c = (omega arith, rw (c.less_of-u.ensures, c.slot_left.ensures, c.get.ensures, c.loop-i.invariant.1, least_more))
+loop-i-preserved c = rw (c.min-u.ensures, c.slot_left.ensures, c.get.ensures, c.loop-i.invariant, min_least, least_more)
 
 pub returns : goal.returns
 unfolding slots_pass
 returns c =
     let e : c.loop-i.i ≡ 32 = omega arith in
-    rw e at c.loop-i.invariant.1
+    rw e at c.loop-i.invariant

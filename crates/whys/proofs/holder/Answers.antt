@@ -1,30 +1,19 @@
 -- `whys::holder` meets its contract.
 -- Assumes nothing.
-use mathlib.Core.Path.{◌≡◌, sym, ◌∙◌}
-use native.Mathlib.Omega.{arith}
-use Rattle.laws.proofs.Looping.{first-none, first_more, first-here}
-use Rattle.whys.specs.Whys.{holder_of}
-use borrow.Author.Rules.{rules}
+use Prim.Native.Nat.{ℕ}
+use mathlib.Core.Bool.{true, false}
+use mathlib.Core.Path.{◌≡◌, ◌∙◌}
+use Rattle.std.proofs.Common.{rules, tests}
+use Rattle.std.proofs.lemmas.Iterator.{first_from_Range}
+use Rattle.state.specs.Tables.{slot_in}
+use Rattle.passing.proofs.Ranged.{found_first}
+use Rattle.whys.specs.Whys.{holds_of, holder_of}
 use Rattle.whys.proofs.holder.Goals as goal
-
-pub loop-k-init : goal.loop-k-init
-loop-k-init c = (search rules, first-none _)
-
-pub returns-then-holds : goal.returns-then-holds
-unfolding holder_of
-returns-then-holds c = sym (first-here _ _ c.loop-k.k c.loop-k.invariant.1 (rw (← c.get-x.ensures) (sym c.holds.ensures ∙ c.if-holds.true)) (omega arith))
-
-pub overflow_add-k : goal.overflow_add-k
-overflow_add-k c = omega arith
-
-pub loop-k-smaller : goal.loop-k-smaller
-loop-k-smaller c = omega arith
-
-pub loop-k-preserved : goal.loop-k-preserved
-loop-k-preserved c = (omega arith, first_more _ _ c.loop-k.invariant.1 (rw (← c.get-x.ensures) (sym c.holds.ensures ∙ c.if-holds.false)))
 
 pub returns : goal.returns
 unfolding holder_of
 returns c =
-    let e : c.loop-k.k ≡ 32 = omega arith in
-    sym (rw e at c.loop-k.invariant.1)
+    let a = c.args in
+    let p = λ (k : ℕ). holds_of a.a (slot_in a.slots k).stack in
+    let f = first_from_Range _ _ _ _ (λ k. p k ≡ true) (λ k. p k ≡ false) c.find.ensures.ran (λ x q k. search (rules, tests)) (λ x q k. search (rules, tests)) in
+    c.unwrap_or.ensures ∙ found_first p 32 _ f

@@ -1,31 +1,20 @@
 -- `whys::holds` meets its contract.
 -- Assumes nothing.
-use mathlib.Core.Path.{◌≡◌, sym}
+use Prim.Native.Nat.{ℕ}
+use lib.Dec.{eqb}
+use lib.ListN.{get_or}
+use mathlib.Core.Path.{◌∙◌, refl}
 use native.Mathlib.Omega.{arith}
-use borrow.Author.Tests.{eq-eqb, ne_eqb}
-use Rattle.laws.proofs.Looping.{any_none, any-more, any_here}
+use Rattle.std.proofs.Common.{rules, tests}
+use Rattle.std.proofs.lemmas.Iterator.{YieldsList-from_range}
+use Rattle.std.proofs.lemmas.Iterator.Search.{any_from_yields_List}
+use Rattle.passing.proofs.Ranged.{any_ranged}
 use Rattle.whys.specs.Whys.{holds_of}
-use borrow.Author.Rules.{rules}
 use Rattle.whys.proofs.holds.Goals as goal
-
-pub loop-j-init : goal.loop-j-init
-loop-j-init c = (search rules, any_none _)
-
-pub returns-then-area_at-a : goal.returns-then-area_at-a
-unfolding holds_of
-returns-then-area_at-a c = sym (any_here _ _ c.loop-j.j (omega arith) (rw (← c.area_at.ensures) (eq-eqb _ _ c.if-area_at-a.true)))
-
-pub overflow_add-j : goal.overflow_add-j
-overflow_add-j c = omega (arith, c.well_formed.1)
-
-pub loop-j-smaller : goal.loop-j-smaller
-loop-j-smaller c = omega arith
-
-pub loop-j-preserved : goal.loop-j-preserved
-loop-j-preserved c = (omega arith, any-more _ _ c.loop-j.invariant.1 (rw (← c.area_at.ensures) (ne_eqb _ _ c.if-area_at-a.false)))
 
 pub returns : goal.returns
 unfolding holds_of
 returns c =
-    let e : c.loop-j.j ≡ c.args.s.held = omega arith in
-    sym (rw e at c.loop-j.invariant.1)
+    let s = c.args.s in
+    let p = λ (k : ℕ). eqb (get_or s.at k 0) c.args.a in
+    any_from_yields_List p _ _ _ c.any.ensures.ran (YieldsList-from_range 0 s.held s.held refl (omega arith)) (λ x b q k. search (rules, tests)) ∙ any_ranged p s.held

@@ -1,7 +1,0 @@
-use Rattle.copies.proofs.seen_if.Goals as goal
-
-pub returns-then-listed : goal.returns-then-listed
-returns-then-listed c = rw c.if-listed.true
-
-pub returns : goal.returns
-returns c = rw c.if-listed.false
