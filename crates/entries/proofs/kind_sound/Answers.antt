@@ -14,33 +14,26 @@ returns-then-top-count_of c =
     sym (kind-over a.cfg a.tag (rw (← c.max_of-top.ensures, ← c.count_of.ensures) c.if-top-count_of.true))
 
 pub loop-i-init : goal.loop-i-init
-loop-i-init c = (omega arith, all_none _)
-
-pub overflow_add-i : goal.overflow_add-i
-overflow_add-i c = omega (arith, c.loop-i-test.true)
-
-pub loop-i-smaller : goal.loop-i-smaller
-loop-i-smaller c = omega (arith, c.loop-i-test.true)
+loop-i-init c = all_none _
 
 pub loop-i-preserved : goal.loop-i-preserved
-loop-i-preserved c =
-    (omega (arith, c.loop-i-test.true), all_more _ _ c.loop-i.invariant.1 (sym c.place_sound.ensures ∙ c.if-place_sound.true))
+loop-i-preserved c = all_more _ _ c.loop-i.invariant (sym c.place_sound.ensures ∙ c.if-not-place_sound.false)
 
-pub returns-else-place_sound : goal.returns-else-place_sound
-returns-else-place_sound c =
+pub returns-then-not-place_sound : goal.returns-then-not-place_sound
+returns-then-not-place_sound c =
     let a = c.args in
     sym
     (kind-fails a.cfg a.tag c.loop-i.i
-    (rw (← c.max_of-top.ensures) c.loop-i-test.true)
-    (sym c.place_sound.ensures ∙ c.if-place_sound.false))
+    (rw (← c.max_of-top.ensures) (omega arith))
+    (sym c.place_sound.ensures ∙ c.if-not-place_sound.true))
 
 pub returns : goal.returns
 returns c =
     let a = c.args in
     let m = c.max_of-top.ensures in
-    let e : c.loop-i.i ≡ c.max_of-top.result = omega (arith, c.loop-i-test.false, c.loop-i.invariant.0) in
+    let e : c.loop-i.i ≡ c.max_of-top.result = omega arith in
     let full : Full a.cfg = record { runnables = search (rules, length-mapped); variables = search (rules, length-mapped); areas = search (rules, length-mapped); required = search (rules, length-mapped); provided = search (rules, length-mapped); links = search (rules, length-mapped); operations = search (rules, length-mapped); timers = search (rules, length-mapped); devents = search (rules, length-mapped); revents = search (rules, length-mapped); incoming = search (rules, length-mapped); outgoing = search (rules, length-mapped) } in
     sym
     (kind-holds a.cfg a.tag full
     (rw (← m, ← c.count_of.ensures) c.if-top-count_of.false)
-    (rw (← m, ← e) c.loop-i.invariant.1))
+    (rw (← m, ← e) c.loop-i.invariant))

@@ -1,14 +1,10 @@
--- `entries::kind_sound` meets its contract. The loop has tested the places below its counter (`all_below`), and tests one more by `all_more`.
+-- `entries::kind_sound` meets its contract. The loop has tested the places below its counter (`all_below`).
 -- Assumes nothing.
 use mathlib.Core.Path.{◌≡◌}
 use mathlib.Core.Bool.{true}
-use Prim.Native.Nat.{◌≤◌, ◌-◌}
 use Rattle.laws.specs.Loop.{all_below}
 use Rattle.entries.specs.Faults.{place_sound}
 use Rattle.entries.proofs.kind_sound.Given as goal
 
 abbrev pub invariant-loop-i : goal.invariant-loop-i
-invariant-loop-i l = (l.i ≤ l.top) × (all_below (place_sound l.cfg l.tag) l.i ≡ true)
-
-abbrev pub decreases-loop-i : goal.decreases-loop-i
-decreases-loop-i l = l.top - l.i
+invariant-loop-i l = all_below (place_sound l.cfg l.tag) l.i ≡ true
