@@ -612,15 +612,7 @@ pub fn kind_sound(cfg: Config, tag: u8) -> bool
     ensures { result ≡ kind_sound cfg tag }
 {
     let top = max_of(tag);
-    if top < count_of(cfg, tag) {
-        return false;
-    }
-    for i in 0..top {
-        if !place_sound(cfg, tag, i) {
-            return false;
-        }
-    }
-    true
+    count_of(cfg, tag) <= top && (0..top).all(|i| place_sound(cfg, tag, i))
 }
 
 // Every place of all kinds.
@@ -628,12 +620,7 @@ pub fn kind_sound(cfg: Config, tag: u8) -> bool
 fn parts_sound(cfg: Config) -> bool
     ensures { result ≡ parts_sound cfg }
 {
-    for j in 0..numbers::PART_KINDS {
-        if !kind_sound(cfg, numbers::TAG_RUNNABLE + j) {
-            return false;
-        }
-    }
-    true
+    (0..numbers::PART_KINDS).all(|j| kind_sound(cfg, numbers::TAG_RUNNABLE + j))
 }
 
 // 1, of a configuration: its edition, and every place of all kinds.

@@ -1,18 +1,19 @@
 -- `entries::parts_sound` meets its contract.
 -- Assumes nothing.
-use mathlib.Core.Path.{sym, ◌∙◌}
+use Prim.Native.Nat.{ℕ, ◌+◌}
+use mathlib.Core.Path.{refl, ◌∙◌}
+use borrow.Author.Rules.{rules}
 use native.Mathlib.Omega.{arith}
-use Rattle.laws.proofs.Looping.{all_none, all_more, all-fails}
-use Rattle.entries.specs.Faults.{parts_sound}
+use Rattle.std.proofs.Common.{tests}
+use Rattle.std.proofs.lemmas.Iterator.{YieldsList-from_range}
+use Rattle.std.proofs.lemmas.Iterator.Search.{all_from_yields_List}
+use Rattle.entries.specs.Faults.{kind_sound, parts_sound}
+use Rattle.entries.proofs.Ranges.{list-below}
 use Rattle.entries.proofs.parts_sound.Goals as goal
 
-pub loop-j-init : goal.loop-j-init
-loop-j-init c = all_none _
-
-pub loop-j-preserved : goal.loop-j-preserved
-loop-j-preserved c = all_more _ _ c.loop-j.invariant (sym c.kind_sound.ensures ∙ c.if-not-kind_sound.false)
-
-pub returns-then-not-kind_sound : goal.returns-then-not-kind_sound
+pub returns : goal.returns
 unfolding parts_sound
-returns-then-not-kind_sound c =
-    sym (all-fails _ _ c.loop-j.j (omega arith) (sym c.kind_sound.ensures ∙ c.if-not-kind_sound.true))
+returns c =
+    let test = λ (j : ℕ). kind_sound c.args.cfg (0x10 + j) in
+    all_from_yields_List test _ _ _ c.all.ensures.ran (YieldsList-from_range 0 12 12 refl refl) (λ x b q k. search (rules, tests))
+    ∙ list-below test 12
