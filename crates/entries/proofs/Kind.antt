@@ -12,7 +12,7 @@ use Rattle.numbers.specs.Tags.{last_tag, part_kinds}
 use Rattle.laws.specs.Choice.{both}
 use Rattle.laws.specs.Loop.{all_below}
 use Rattle.laws.proofs.Choosing.{both_left, both_right, both-no, pick-on}
-use Rattle.laws.proofs.Looping.{all-at, all-of, all-fails}
+use Rattle.laws.proofs.Looping.{all-at, all-of}
 use Rattle.config.specs.declared.Config.{Config}
 use Rattle.config.specs.Editions.{is_edition, has_field}
 use Rattle.entries.specs.declared.Entry.{Entry}

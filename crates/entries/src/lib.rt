@@ -39,6 +39,7 @@ impl Entry {
 }
 
 // How many parts of a kind there may be.
+// Kept: a kind is the number of its tag, here and below, since these functions are public and the definitions go by that number.
 #[tactic(auto, unfolding(crate::specs::Entries::max_of))]
 pub fn max_of(tag: u8) -> u8
     ensures { result ≡ max_of tag }
@@ -566,6 +567,7 @@ pub fn pairs_well(cfg: Config, tag: u8, i: u8, e: Entry) -> bool
 }
 
 // The first fault of an entry at place i of its kind, or 0.
+// Kept: 0 for no fault, since entry_fault is public and its definition has it so.
 #[tactic(auto, unfolding(crate::specs::Faults::entry_fault))]
 pub fn entry_fault(cfg: Config, tag: u8, i: u8, e: Entry) -> u8
     ensures { result ≡ entry_fault cfg tag i e }

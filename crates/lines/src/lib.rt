@@ -52,6 +52,7 @@ fn put_tail(buf: &mut [u8], numbers: &[u64]) -> usize
 }
 
 // A line: a word and the first of the numbers, as many as count says. Where it does not fit: 27, and the buffer stays as it is.
+// Kept: numbers as an array and how many of it count, since put_line is public and its signature may not change.
 pub fn put_line(
     buf: &mut [u8],
     at: usize,

@@ -128,6 +128,7 @@ fn entry_read(tag: u8, t: &[u8]) -> Entry
 }
 
 // 22: the edition first and only there, then no tag below the one before; 0 stands for none before.
+// Kept: 0 for none before, since the definitions in_order and head_of have it so.
 #[tactic(auto, unfolding(crate::specs::Reading::in_order))]
 fn in_order(last: u8, tag: u8) -> bool
     ensures { result ≡ in_order last tag }
@@ -161,6 +162,7 @@ fn head_of(edition: u8, t: &[u8], last: u8) -> Head
 }
 
 // 24 for the edition, 23 to 26 for a part, or 0.
+// Kept: 0 for no fault, since the definition body_fault has it so.
 #[tactic(auto, unfolding(crate::specs::Reading::body_fault))]
 fn body_fault(cfg: Config, tag: u8, t: &[u8]) -> u8
     ensures { result ≡ body_fault cfg tag t.now }

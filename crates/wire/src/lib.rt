@@ -26,6 +26,7 @@ pub fn length_of(a: u8, b: u8) -> usize
 }
 
 // Bytes written from a place on. Where they do not fit: 27, and the buffer stays as it is.
+// Kept: a buffer and a place side by side, since write is public and its signature may not change.
 pub fn write(buf: &mut [u8], at: usize, bytes: &[u8]) -> Wrote
     ensures { Written buf.old at bytes.now result buf.new }
 {

@@ -17,12 +17,20 @@ fn write_entry(buf: &mut [u8], at: usize, tag: u8, e: Entry) -> Wrote
     let [a, b, c, d] = e.number.to_be_bytes();
     match tag {
         numbers::TAG_RUNNABLE => {
-            wire::write(buf, at, &[tag, 0, 7, e.first, e.second, a, b, c, d, e.third])
+            wire::write(
+                buf,
+                at,
+                &[tag, 0, 7, e.first, e.second, a, b, c, d, e.third],
+            )
         }
         numbers::TAG_VARIABLE => wire::write(buf, at, &[tag, 0, 6, e.first, e.second, a, b, c, d]),
         numbers::TAG_AREA => wire::write(buf, at, &[tag, 0, 1, e.first]),
         numbers::TAG_OPERATION => {
-            wire::write(buf, at, &[tag, 0, 7, e.first, e.second, e.third, a, b, c, d])
+            wire::write(
+                buf,
+                at,
+                &[tag, 0, 7, e.first, e.second, e.third, a, b, c, d],
+            )
         }
         numbers::TAG_TIMER => wire::write(buf, at, &[tag, 0, 5, e.first, a, b, c, d]),
         _ => wire::write(buf, at, &[tag, 0, 2, e.first, e.second]),

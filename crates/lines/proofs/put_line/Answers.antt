@@ -19,9 +19,9 @@ returns-then-room-long c =
     let made : take p.result p.new.buf ≡ tail_of (take a.count a.numbers) = rw (← taken-all a.numbers a.count five, ← c.min.ensures) p.ensures.buf_after in
     let short : length a.buf.now < a.at + (length a.word.now + p.result) =
     elim c.then-room-long.branch [
-        then-room-long-via-then-room-long w ↦ omega arith
-        | then-room-long-via-else-room-long+then-room-long-2 w ↦ omega arith
-        | then-room-long-via-else-room-long+else-room-long-2+then-room-long-3 w ↦ omega arith
+      | then-room-long-via-then-room-long w ↦ omega arith
+      | then-room-long-via-else-room-long+then-room-long-2 w ↦ omega arith
+      | then-room-long-via-else-room-long+else-room-long-2+then-room-long-3 w ↦ omega arith
     ] in
     line-short a.buf.now a.word.now _ p.new.buf a.at p.result (omega (arith, p.ensures.upper_bound)) made short
 
