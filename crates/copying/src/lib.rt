@@ -13,18 +13,12 @@ use wire::Wrote;
 pub fn is_sound(s: &[u8]) -> bool
     ensures { result ≡ is_sound s.now }
 {
-    let mut at: usize = 0;
+    let mut at = 0;
     loop {
         match recording::read_field(s, at) {
-            Field::Step(_, size) => {
-                at = at + size;
-            }
-            Field::End => {
-                return true;
-            }
-            Field::Refused(_, _) => {
-                return false;
-            }
+            Field::Step(_, size) => at += size,
+            Field::End => return true,
+            Field::Refused(_, _) => return false,
         }
     }
 }
@@ -34,26 +28,21 @@ pub fn rewrite(s: &[u8], buf: &mut [u8]) -> Wrote
     ensures value { result ≡ rewrite_to s.now buf.old }
     ensures buf_after { buf.new ≡ rewrite_written s.now buf.old }
 {
-    if is_sound(s) {
-        if buf.len() < s.len() {
-            return Wrote::Refused(numbers::NO_ROOM);
-        }
-    } else {
+    if !is_sound(s) {
         return Wrote::Refused(numbers::BAD_FIELD);
     }
-    let mut at: usize = 0;
+    if buf.len() < s.len() {
+        return Wrote::Refused(numbers::NO_ROOM);
+    }
+    let mut at = 0;
     loop {
         match recording::read_field(s, at) {
             Field::Step(step, size) => {
                 recording::write_step(buf, at, step);
-                at = at + size;
+                at += size;
             }
-            Field::End => {
-                return recording::write_end(buf, at);
-            }
-            Field::Refused(_, r) => {
-                return Wrote::Refused(r);
-            }
+            Field::End => return recording::write_end(buf, at),
+            Field::Refused(_, r) => return Wrote::Refused(r),
         }
     }
 }

@@ -12,7 +12,7 @@ use Rattle.numbers.specs.Tags.{last_tag, part_kinds}
 use Rattle.laws.specs.Choice.{both}
 use Rattle.laws.specs.Loop.{all_below}
 use Rattle.laws.proofs.Choosing.{both_left, both_right, both-no, pick-on}
-use Rattle.laws.proofs.Looping.{all-at, all-of, all-fails}
+use Rattle.laws.proofs.Looping.{all-at, all-of}
 use Rattle.config.specs.declared.Config.{Config}
 use Rattle.config.specs.Editions.{is_edition, has_field}
 use Rattle.entries.specs.declared.Entry.{Entry}
@@ -136,12 +136,7 @@ module _ (cfg : Config) (tag : ℕ) where
       both-no (eqb (places_of cfg tag) (max_of tag)) (both (leb (count_of cfg tag) (max_of tag)) (all_below (place_sound cfg tag) (max_of tag)))
       (rw (lt-leb (count_of cfg tag) (max_of tag) h))
 
-  pub kind-fails : (i : ℕ) → i < max_of tag → place_sound cfg tag i ≡ false → kind_sound cfg tag ≡ false
+  -- where there are no more than there may be, the places decide
+  pub kind-places : Full cfg → count_of cfg tag ≤ max_of tag → kind_sound cfg tag ≡ all_below (place_sound cfg tag) (max_of tag)
   unfolding kind_sound
-  kind-fails i l h =
-      both-no (eqb (places_of cfg tag) (max_of tag)) (both (leb (count_of cfg tag) (max_of tag)) (all_below (place_sound cfg tag) (max_of tag)))
-      (both-no (leb (count_of cfg tag) (max_of tag)) (all_below (place_sound cfg tag) (max_of tag)) (all-fails (place_sound cfg tag) (max_of tag) i l h))
-
-  pub kind-holds : Full cfg → count_of cfg tag ≤ max_of tag → all_below (place_sound cfg tag) (max_of tag) ≡ true → kind_sound cfg tag ≡ true
-  unfolding kind_sound
-  kind-holds f l h = rw (eq-eqb (places_of cfg tag) (max_of tag) (places-full cfg tag f), le-leb (count_of cfg tag) (max_of tag) l, h)
+  kind-places f l = rw (eq-eqb (places_of cfg tag) (max_of tag) (places-full cfg tag f), le-leb (count_of cfg tag) (max_of tag) l)

@@ -1,6 +1,6 @@
 -- Laws of lines: the digits that `io::decimal` makes are those of `decimal_of`, and a line is put into a buffer piece by piece.
 -- Assumes nothing.
-use Prim.Native.Nat.{ℕ, zero, suc, ◌+◌, ◌-◌, ◌*◌, ◌/◌, ◌%◌, ◌^◌, ◌<◌, ◌≤◌}
+use Prim.Native.Nat.{ℕ, zero, suc, ◌+◌, ◌-◌, ◌*◌, ◌/◌, ◌%◌, ◌^◌, ◌<◌, ◌≤◌, min}
 use mathlib.Core.Bool.{Bool, true, false}
 use mathlib.Core.List.{List, [], ◌∷◌, ◌++◌, append_assoc}
 use mathlib.Core.Path.{◌≡◌, refl, sym, ap, ◌∙◌}
@@ -9,10 +9,10 @@ use native.Mathlib.Numerals.{add-one}
 use native.Mathlib.Omega.{arith}
 use lib.Dec.{ltb, leb}
 use lib.ListN.{length, take, drop, get_or, length-append}
-use lib.Seq.{drop-cons, drop-length, take_at, take_all, length-take-le}
-use borrow.Author.Tests.{lt-ltb, le-ltb, le-leb, ltb-true, ltb-false, leb-true, leb-false}
+use lib.Seq.{drop-cons, drop-length, take_at, length-take-le}
+use borrow.Author.Tests.{lt-ltb, le-ltb, le-leb, leb-true, leb-false}
+use Rattle.std.proofs.lemmas.List.{take_min}
 use Rattle.io.specs.Digits.{last_digits, IsDigitCount}
-use Rattle.laws.specs.Choice.{pick}
 use Rattle.wire.specs.Bytes.{put_at, Written}
 use Rattle.wire.specs.declared.Wrote.{Wrote}
 use Rattle.wire.specs.declared.Wrote.TheVariants.{To, Refused}
@@ -146,34 +146,23 @@ module _ {b₀ ns b : List ℕ} {at i : ℕ} (a : Ahead b₀ ns b at i) where
 
 -- ---- the whole line
 
--- a count of numbers that a line has, and counts past it take all of them
-pub few : (count : ℕ) → pick (ltb 5 count) 5 count ≤ 5
-few count = go (ltb 5 count) refl
-  where
-    go : (b : Bool) → ltb 5 count ≡ b → pick b 5 count ≤ 5
-    go true t = omega arith
-    go false t = omega (arith, ltb-false 5 count t)
+-- of so many numbers, those that a line has room for: all that there are
+pub taken-all : (ns : List ℕ) (count : ℕ) → length ns ≡ 5 → take (min count 5) ns ≡ take count ns
+taken-all ns count e = rw (← e) (take_min count ns)
 
-taken-all : (ns : List ℕ) (count : ℕ) → length ns ≡ 5 → take (pick (ltb 5 count) 5 count) ns ≡ take count ns
-taken-all ns count e = go (ltb 5 count) refl
-  where
-    go : (b : Bool) → ltb 5 count ≡ b → take (pick b 5 count) ns ≡ take count ns
-    go true t = take_all 5 ns (omega arith) ∙ sym (take_all count ns (omega (arith, ltb-true 5 count t)))
-    go false t = refl
-
-module _ (b word ns tail : List ℕ) (at count size : ℕ) (five : length ns ≡ 5) (room : size ≤ length tail) (made : take size tail ≡ tail_of (take (pick (ltb 5 count) 5 count) ns)) where
-  line-is : line_bytes word (take count ns) ≡ word ++ take size tail
+module _ (b word ns tail : List ℕ) (at size : ℕ) (room : size ≤ length tail) (made : take size tail ≡ tail_of ns) where
+  line-is : line_bytes word ns ≡ word ++ take size tail
   unfolding line_bytes
-  line-is = ap (λ (l : List ℕ). word ++ l) (sym (made ∙ ap tail_of (taken-all ns count five)))
+  line-is = ap (λ (l : List ℕ). word ++ l) (sym made)
 
   line-size : length (word ++ take size tail) ≡ length word + size
   line-size = length-append word (take size tail) ∙ ap (λ (k : ℕ). length word + k) (length-take-le size tail room)
 
   -- a line that has no room, and one that is put in two pieces
-  pub line-short : length b < at + (length word + size) → Written b at (line_bytes word (take count ns)) (Refused 27) b
+  pub line-short : length b < at + (length word + size) → Written b at (line_bytes word ns) (Refused 27) b
   line-short h = rw line-is (short-written b (word ++ take size tail) at (omega (arith, line-size)))
 
-  pub line-put : (b₁ b₂ : List ℕ) (r₁ r₂ : Wrote) → at + (length word + size) ≤ length b → Written b at word r₁ b₁ → Written b₁ (at + length word) (take size tail) r₂ b₂ → Written b at (line_bytes word (take count ns)) r₂ b₂
+  pub line-put : (b₁ b₂ : List ℕ) (r₁ r₂ : Wrote) → at + (length word + size) ≤ length b → Written b at word r₁ b₁ → Written b₁ (at + length word) (take size tail) r₂ b₂ → Written b at (line_bytes word ns) r₂ b₂
   line-put b₁ b₂ r₁ r₂ h w₁ w₂ =
       let fits : at + length (word ++ take size tail) ≤ length b = omega (arith, line-size) in
       let k = both-pieces b b₁ b₂ word (take size tail) at (at + length word) r₁ r₂ w₁ w₂ refl fits in

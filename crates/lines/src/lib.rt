@@ -1,8 +1,7 @@
 // Lines of text put into a lent buffer: a word, then numbers in decimal behind a space each, then a line feed.
 #![tactic(auto)]
 
-ghost use Rattle.std.specs.Prelude.{◌≡◌, ◌+◌, ◌≤◌, ltb, length, take};
-ghost use Rattle.laws.specs.Choice.{pick};
+ghost use Rattle.std.specs.Prelude.{◌≡◌, ◌+◌, ◌≤◌, length, take};
 ghost use Rattle.wire.specs.Bytes.{put_at, Written};
 ghost use Rattle.lines.specs.Lines.{decimal_of, number_bytes, tail_of, line_bytes};
 
@@ -31,41 +30,29 @@ fn put_number(buf: &mut [u8], at: usize, n: u64) -> usize
     ensures upper_bound { result ≤ at + 21 }
 {
     wire::write(buf, at, b" ");
-    let w = put_decimal(buf, at + 1, n);
-    match w {
+    match put_decimal(buf, at + 1, n) {
         Wrote::To(next) => next,
         Wrote::Refused(_) => at,
     }
 }
 
 // What stands behind the word, put at the start of a buffer that has room for it; how many bytes these are.
-fn put_tail(buf: &mut [u8], numbers: [u64; NUMBERS], count: usize) -> usize
+fn put_tail(buf: &mut [u8], numbers: &[u64]) -> usize
     requires in_bounds { 106 ≤ length buf.old }
-    requires count_bound { count ≤ 5 }
+    requires count_bound { length numbers.now ≤ 5 }
     ensures upper_bound { result ≤ 106 }
-    ensures buf_after { take result buf.new ≡ tail_of (take count numbers) }
+    ensures buf_after { take result buf.new ≡ tail_of numbers.now }
 {
-    let mut at: usize = 0;
-    let mut i: usize = 0;
-    while i < count {
-        at = put_number(buf, at, numbers[i]);
-        i = i + 1;
+    let mut at = 0;
+    for n in numbers {
+        at = put_number(buf, at, *n);
     }
     wire::write(buf, at, b"\n");
     at + 1
 }
 
-// A count of numbers that a line has.
-fn at_most(count: usize) -> usize
-    ensures { result ≡ pick (ltb 5 count) 5 count }
-{
-    if NUMBERS < count {
-        return NUMBERS;
-    }
-    count
-}
-
 // A line: a word and the first of the numbers, as many as count says. Where it does not fit: 27, and the buffer stays as it is.
+// Kept: numbers as an array and how many of it count, since put_line is public and its signature may not change.
 pub fn put_line(
     buf: &mut [u8],
     at: usize,
@@ -76,16 +63,10 @@ pub fn put_line(
     ensures { Written buf.old at (line_bytes word.now (take count numbers)) result buf.new }
 {
     let mut tail = [0u8; TAIL];
-    let size = put_tail(&mut tail, numbers, at_most(count));
+    let size = put_tail(&mut tail, &numbers[..count.min(NUMBERS)]);
     let room = buf.len();
     let long = word.len();
-    if room < long {
-        return Wrote::Refused(numbers::NO_ROOM);
-    }
-    if room - long < size {
-        return Wrote::Refused(numbers::NO_ROOM);
-    }
-    if room - long - size < at {
+    if room < long || room - long < size || room - long - size < at {
         return Wrote::Refused(numbers::NO_ROOM);
     }
     wire::write(buf, at, word);

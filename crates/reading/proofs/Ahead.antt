@@ -1,12 +1,11 @@
 -- What a field's frame tells, and what a turn of the reading does to what is left of it.
 -- Assumes nothing.
 use Prim.Native.Nat.{ℕ, suc, ◌+◌, ◌-◌, ◌≤◌}
-use mathlib.Core.Path.{◌≡◌, sym, ap, ap₂, ◌∙◌}
+use mathlib.Core.Path.{◌≡◌, sym, ap, ◌∙◌}
 use mathlib.Core.Bool.{true, false}
 use mathlib.Core.List.{List}
 use native.Mathlib.Omega.{arith}
 use lib.ListN.{length, get_or, drop, length-drop}
-use lib.Seq.{drop-drop}
 use lib.Dec.{ltb, leb, eqb}
 use borrow.Author.Tests.{eqb-true, leb-true, ltb-false, eq-eqb, ne_eqb}
 use Rattle.laws.proofs.Choosing.{pick-on, pick-off}
@@ -67,30 +66,28 @@ field-frame v t last {tag} {size} e =
 
 -- ---- the loop
 
--- before at everything was read, into cfg; what is left of the text begins at at, with the field whose place is place
-pub record Ahead (s : List ℕ) (cfg : Config) (at last place : ℕ) : Type 0 where
-  pub inside : at ≤ length s
+-- what was read stands in cfg; t is left of the text, and its first field has this place
+pub record Ahead (s t : List ℕ) (cfg : Config) (last place : ℕ) : Type 0 where
   pub from_one : 1 ≤ place
-  pub count : place ≤ at + 1
-  pub read : config_of s ≡ read_from (length s + 2 - place) (drop at s) cfg last place
+  pub count : place + length t ≤ length s + 1
+  pub read : config_of s ≡ read_from (length s + 2 - place) t cfg last place
 
-pub ahead-starts : (s : List ℕ) → Ahead s no_config 0 0 1
+pub ahead-starts : (s : List ℕ) → Ahead s s no_config 0 1
 unfolding config_of
 ahead-starts s =
     let e : suc (length s) ≡ length s + 2 - 1 = omega arith in
-    record { inside = omega arith; from_one = omega arith; count = omega arith; read = ap (λ (k : ℕ). read_from k s no_config 0 1) e }
+    record { from_one = omega arith; count = omega arith; read = ap (λ (k : ℕ). read_from k s no_config 0 1) e }
 
-module _ (s : List ℕ) (cfg : Config) (at last place : ℕ) (a : Ahead s cfg at last place) (t : List ℕ) (et : t ≡ drop at s) where
+module _ (s t : List ℕ) (cfg : Config) (last place : ℕ) (a : Ahead s t cfg last place) where
   next : ℕ → ℕ → Reading
   next tag size = read_from (length s + 2 - (place + 1)) (drop (3 + size) t) (placed cfg tag (entry_read tag t)) tag (place + 1)
 
   turn : (h : Head) → head_of cfg.edition t last ≡ h → config_of s ≡ on_head h t cfg place next
   unfolding read_from next
   turn h e =
-      let i = a.inside in
       let j = a.count in
       let f : length s + 2 - place ≡ suc (length s + 2 - (place + 1)) = omega arith in
-      a.read ∙ ap₂ (λ (k : ℕ) (l : List ℕ). read_from k l cfg last place) f (sym et) ∙ ap (λ (x : Head). on_head x t cfg place next) e
+      a.read ∙ ap (λ (k : ℕ). read_from k t cfg last place) f ∙ ap (λ (x : Head). on_head x t cfg place next) e
 
   pub turn-bad : {number : ℕ} → head_of cfg.edition t last ≡ Bad number → refused_at place number ≡ config_of s
   turn-bad {number} e = sym (turn (Bad number) e)
@@ -105,20 +102,19 @@ module _ (s : List ℕ) (cfg : Config) (at last place : ℕ) (a : Ahead s cfg at
     pub turn-fault : (body_fault cfg tag t ≡ 0 → ⊥) → refused_at place (body_fault cfg tag t) ≡ config_of s
     turn-fault n = sym (rw (ne_eqb (body_fault cfg tag t) 0 n) at (turn (Field tag size) e))
 
-    pub turn-room : at + 3 + size ≤ length s
-    turn-room = let f = (field-frame cfg.edition t last e).room in let l = ap length et ∙ length-drop at s in omega arith
+    pub turn-room : 3 + size ≤ length t
+    turn-room = (field-frame cfg.edition t last e).room
 
-    pub turn_on : body_fault cfg tag t ≡ 0 → Ahead s (placed cfg tag (entry_read tag t)) (at + 3 + size) tag (place + 1)
+    pub turn_on : body_fault cfg tag t ≡ 0 → (rest : List ℕ) → rest ≡ drop (3 + size) t → Ahead s rest (placed cfg tag (entry_read tag t)) tag (place + 1)
     unfolding next
-    turn_on z =
+    turn_on z rest er =
+        let r = turn-room in
+        let l : length rest + (3 + size) ≡ length t = omega (arith, ap length er, length-drop (3 + size) t) in
         let i = a.count in
-        let q : at + (3 + size) ≡ at + 3 + size = omega arith in
         record {
-          inside = turn-room;
           from_one = omega arith;
           count = omega arith;
           read =
               (rw (eq-eqb (body_fault cfg tag t) 0 z) at (turn (Field tag size) e))
-              ∙ ap (λ (l : List ℕ). read_from (length s + 2 - (place + 1)) l (placed cfg tag (entry_read tag t)) tag (place + 1))
-              (ap (drop (3 + size)) et ∙ drop-drop (3 + size) at s ∙ ap (λ (k : ℕ). drop k s) q);
+              ∙ ap (λ (x : List ℕ). read_from (length s + 2 - (place + 1)) x (placed cfg tag (entry_read tag t)) tag (place + 1)) (sym er);
         }

@@ -2,7 +2,7 @@
 #![tactic(auto)]
 
 ghost use Rattle.std.specs.Prelude.{◌≡◌, get_or};
-ghost use Rattle.reading.specs.Reading.{size_of, size_in, number_at, runnable_read, variable_read, area_read, operation_read, timer_read, pair_read, entry_read, in_order, head_with, head_of, body_fault, refused_at, config_of};
+ghost use Rattle.reading.specs.Reading.{size_of, size_in, number_at, entry_read, in_order, head_of, body_fault, refused_at, config_of};
 
 use config::Config;
 use entries::Entry;
@@ -33,10 +33,7 @@ pub enum Head {
 fn byte_at(t: &[u8], i: usize) -> u8
     ensures { result ≡ get_or t.now i 0 }
 {
-    if i < t.len() {
-        return t[i];
-    }
-    0
+    t.get(i).copied().unwrap_or(0)
 }
 
 // The number of the four bytes from place i on.
@@ -53,6 +50,7 @@ fn number_at(t: &[u8], i: u8) -> u32
 }
 
 // The length of a body by its tag; none fits an unknown tag.
+#[tactic(auto, unfolding(crate::specs::Reading::size_of))]
 fn size_of(tag: u8) -> usize
     ensures { result ≡ size_of tag }
 {
@@ -68,164 +66,118 @@ fn size_of(tag: u8) -> usize
         numbers::TAG_TIMER => numbers::LENGTH_TIMER,
         numbers::TAG_DATA_EVENT => numbers::LENGTH_DATA_EVENT,
         numbers::TAG_RETURN_EVENT => numbers::LENGTH_RETURN_EVENT,
-        numbers::TAG_INCOMING => numbers::LENGTH_LISTED,
-        numbers::TAG_OUTGOING => numbers::LENGTH_LISTED,
+        numbers::TAG_INCOMING | numbers::TAG_OUTGOING => numbers::LENGTH_LISTED,
         numbers::TAG_END => numbers::LENGTH_END,
         _ => numbers::NO_LENGTH,
     }
 }
 
 // The same in an edition, which may not have fields with the tag.
+#[tactic(auto, unfolding(crate::specs::Reading::size_in))]
 fn size_in(edition: u8, tag: u8) -> usize
     ensures { result ≡ size_in edition tag }
 {
     if config::has_field(edition, tag) {
-        return size_of(tag);
-    }
-    numbers::NO_LENGTH
-}
-
-// The bodies of the kinds, as entries.
-fn runnable_read(t: &[u8]) -> Entry
-    ensures { result ≡ runnable_read t.now }
-{
-    Entry {
-        first: byte_at(t, 3),
-        second: byte_at(t, 4),
-        third: byte_at(t, 9),
-        number: number_at(t, 5),
+        size_of(tag)
+    } else {
+        numbers::NO_LENGTH
     }
 }
 
-fn variable_read(t: &[u8]) -> Entry
-    ensures { result ≡ variable_read t.now }
-{
-    Entry {
-        first: byte_at(t, 3),
-        second: byte_at(t, 4),
-        third: 0,
-        number: number_at(t, 5),
-    }
-}
-
-fn area_read(t: &[u8]) -> Entry
-    ensures { result ≡ area_read t.now }
-{
-    Entry {
-        first: byte_at(t, 3),
-        second: 0,
-        third: 0,
-        number: 0,
-    }
-}
-
-fn operation_read(t: &[u8]) -> Entry
-    ensures { result ≡ operation_read t.now }
-{
-    Entry {
-        first: byte_at(t, 3),
-        second: byte_at(t, 4),
-        third: byte_at(t, 5),
-        number: number_at(t, 6),
-    }
-}
-
-fn timer_read(t: &[u8]) -> Entry
-    ensures { result ≡ timer_read t.now }
-{
-    Entry {
-        first: byte_at(t, 3),
-        second: 0,
-        third: 0,
-        number: number_at(t, 4),
-    }
-}
-
-fn pair_read(t: &[u8]) -> Entry
-    ensures { result ≡ pair_read t.now }
-{
-    Entry {
-        first: byte_at(t, 3),
-        second: byte_at(t, 4),
-        third: 0,
-        number: 0,
-    }
-}
-
+// The entry that the body of a field says, three bytes into the text.
+#[tactic(auto, unfolding(crate::specs::Reading::entry_read))]
 fn entry_read(tag: u8, t: &[u8]) -> Entry
     ensures { result ≡ entry_read tag t.now }
 {
+    let first = byte_at(t, 3);
+    let second = byte_at(t, 4);
     match tag {
-        numbers::TAG_RUNNABLE => runnable_read(t),
-        numbers::TAG_VARIABLE => variable_read(t),
-        numbers::TAG_AREA => area_read(t),
-        numbers::TAG_OPERATION => operation_read(t),
-        numbers::TAG_TIMER => timer_read(t),
-        _ => pair_read(t),
+        numbers::TAG_RUNNABLE => Entry {
+            first,
+            second,
+            third: byte_at(t, 9),
+            number: number_at(t, 5),
+        },
+        numbers::TAG_VARIABLE => Entry {
+            first,
+            second,
+            third: 0,
+            number: number_at(t, 5),
+        },
+        numbers::TAG_AREA => Entry {
+            first,
+            ..Entry::BLANK
+        },
+        numbers::TAG_OPERATION => Entry {
+            first,
+            second,
+            third: byte_at(t, 5),
+            number: number_at(t, 6),
+        },
+        numbers::TAG_TIMER => Entry {
+            first,
+            number: number_at(t, 4),
+            ..Entry::BLANK
+        },
+        _ => Entry {
+            first,
+            second,
+            ..Entry::BLANK
+        },
     }
 }
 
 // 22: the edition first and only there, then no tag below the one before; 0 stands for none before.
+// Kept: 0 for none before, since the definitions in_order and head_of have it so.
+#[tactic(auto, unfolding(crate::specs::Reading::in_order))]
 fn in_order(last: u8, tag: u8) -> bool
     ensures { result ≡ in_order last tag }
 {
     if last == 0 {
-        return tag == numbers::TAG_EDITION;
+        tag == numbers::TAG_EDITION
+    } else {
+        last <= tag && tag != numbers::TAG_EDITION
     }
-    if last <= tag {
-        return tag != numbers::TAG_EDITION;
-    }
-    false
 }
 
-// 21 and 22, of the numbers that a frame has.
-fn head_with(tag: u8, said: usize, size: usize, left: usize, ordered: bool) -> Head
-    ensures { result ≡ head_with tag said size left ordered }
-{
-    if said == size {
-        if size <= left {
-            if ordered {
-                if tag == numbers::TAG_END {
-                    return Head::End;
-                }
-                return Head::Field(tag, size);
-            }
-            return Head::Bad(numbers::BAD_ORDER);
-        }
-        return Head::Bad(numbers::BAD_FRAME);
-    }
-    Head::Bad(numbers::BAD_FRAME)
-}
-
+// The field at the front of a text, behind one with the tag last: 21, then 22.
+#[tactic(auto, unfolding(crate::specs::Reading::head_of))]
 fn head_of(edition: u8, t: &[u8], last: u8) -> Head
     ensures { result ≡ head_of edition t.now last }
 {
-    if t.len() < 3 {
+    let [tag, high, low, body @ ..] = t else {
+        return Head::Bad(numbers::BAD_FRAME);
+    };
+    let size = size_in(edition, *tag);
+    if wire::length_of(*high, *low) != size || body.len() < size {
         return Head::Bad(numbers::BAD_FRAME);
     }
-    let tag = t[0];
-    head_with(
-        tag,
-        wire::length_of(t[1], t[2]),
-        size_in(edition, tag),
-        t.len() - 3,
-        in_order(last, tag),
-    )
+    if !in_order(last, *tag) {
+        return Head::Bad(numbers::BAD_ORDER);
+    }
+    if *tag == numbers::TAG_END {
+        return Head::End;
+    }
+    Head::Field(*tag, size)
 }
 
 // 24 for the edition, 23 to 26 for a part, or 0.
+// Kept: 0 for no fault, since the definition body_fault has it so.
+#[tactic(auto, unfolding(crate::specs::Reading::body_fault))]
 fn body_fault(cfg: Config, tag: u8, t: &[u8]) -> u8
     ensures { result ≡ body_fault cfg tag t.now }
 {
-    if tag == numbers::TAG_EDITION {
-        if config::is_edition(byte_at(t, 3)) {
-            return 0;
-        }
-        return numbers::OUT_OF_RANGE;
+    if tag != numbers::TAG_EDITION {
+        return entries::entry_fault(cfg, tag, entries::count_of(cfg, tag), entry_read(tag, t));
     }
-    entries::entry_fault(cfg, tag, entries::count_of(cfg, tag), entry_read(tag, t))
+    if config::is_edition(byte_at(t, 3)) {
+        0
+    } else {
+        numbers::OUT_OF_RANGE
+    }
 }
 
+#[tactic(auto, unfolding(crate::specs::Reading::refused_at))]
 fn refused_at(place: usize, number: u8) -> Reading
     ensures { result ≡ refused_at place number }
 {
@@ -240,15 +192,12 @@ pub fn read_config(s: &[u8]) -> Reading
     ensures { result ≡ config_of s.now }
 {
     let mut cfg = Config::none();
-    let mut at: usize = 0;
-    let mut last: u8 = 0;
+    let mut t = s;
+    let mut last = 0;
     let mut place: usize = 1;
     loop {
-        let t = &s[at..];
         match head_of(cfg.edition, t, last) {
-            Head::Bad(number) => {
-                return refused_at(place, number);
-            }
+            Head::Bad(number) => return refused_at(place, number),
             Head::End => {
                 if t.len() == 3 {
                     return Reading {
@@ -264,9 +213,9 @@ pub fn read_config(s: &[u8]) -> Reading
                     return refused_at(place, fault);
                 }
                 cfg = entries::placed(cfg, tag, entry_read(tag, t));
+                t = &t[3 + size..];
                 last = tag;
-                at = at + 3 + size;
-                place = place + 1;
+                place += 1;
             }
         }
     }

@@ -1,9 +1,9 @@
 // Recordings: their fields and whole texts, read and written, and both round trips.
 #![tactic(auto)]
 
-ghost use Rattle.std.specs.Prelude.{◌≡◌, drop};
+ghost use Rattle.std.specs.Prelude.{◌≡◌, ◌+◌, ◌≤◌, drop, length};
 ghost use Rattle.wire.specs.Bytes.{end_bytes, Written};
-ghost use Rattle.recording.specs.Recording.{values_good, tested, step_in, end_in, field_of, step_to, step_written};
+ghost use Rattle.recording.specs.Recording.{values_good, tested, value_at, step_in, end_in, field_of, step_to, step_written};
 
 use values::{Step, Value};
 use wire::Wrote;
@@ -17,18 +17,15 @@ pub enum Field {
 }
 
 // Neither the argument nor the claim is a bad value.
+#[tactic(auto, unfolding(crate::specs::Recording::values_good))]
 fn values_good(s: Step) -> bool
     ensures { result ≡ values_good s }
 {
-    let argument = s.argument;
-    if argument.is_good() {
-        let claim = s.claim;
-        return claim.is_good();
-    }
-    false
+    s.argument.is_good() && s.claim.is_good()
 }
 
 // The field of a step whose bytes are all there.
+#[tactic(auto, unfolding(crate::specs::Recording::tested))]
 fn tested(s: Step) -> Field
     ensures { result ≡ tested s }
 {
@@ -38,31 +35,36 @@ fn tested(s: Step) -> Field
     Field::Refused(0, numbers::BAD_FIELD)
 }
 
+// The value whose five bytes stand at a place: its kind, then its number.
+fn value_at(t: &[u8], i: usize) -> Value
+    requires { i + 5 ≤ length t.now }
+    ensures { result ≡ value_at t.now i }
+{
+    Value {
+        kind: t[i],
+        number: wire::number(t[i + 1], t[i + 2], t[i + 3], t[i + 4]),
+    }
+}
+
 // The step field at the front of a text.
+#[tactic(auto, unfolding(crate::specs::Recording::step_in))]
 fn step_in(t: &[u8]) -> Field
     ensures { result ≡ step_in t.now }
 {
     if t.len() < numbers::SIZE_STEP {
         return Field::Refused(0, numbers::BAD_FIELD);
     }
-    let argument = Value {
-        kind: t[6],
-        number: wire::number(t[7], t[8], t[9], t[10]),
-    };
-    let claim = Value {
-        kind: t[11],
-        number: wire::number(t[12], t[13], t[14], t[15]),
-    };
     tested(Step {
         code: t[3],
         who: t[4],
         what: t[5],
-        argument,
-        claim,
+        argument: value_at(t, 6),
+        claim: value_at(t, 11),
     })
 }
 
 // The end field at the front of a text: nothing follows it.
+#[tactic(auto, unfolding(crate::specs::Recording::end_in))]
 fn end_in(t: &[u8]) -> Field
     ensures { result ≡ end_in t.now }
 {
@@ -73,37 +75,29 @@ fn end_in(t: &[u8]) -> Field
 }
 
 // The field at the front of a text.
+#[tactic(auto, unfolding(crate::specs::Recording::field_of))]
 fn field_of(t: &[u8]) -> Field
     ensures { result ≡ field_of t.now }
 {
     if t.len() < numbers::HEAD {
         return Field::Refused(0, numbers::BAD_FIELD);
     }
-    let tag = t[0];
     let size = wire::length_of(t[1], t[2]);
-    if tag == numbers::TAG_STEP {
-        if size == numbers::LENGTH_STEP {
-            return step_in(t);
-        }
-        return Field::Refused(0, numbers::BAD_FIELD);
+    match t[0] {
+        numbers::TAG_STEP if size == numbers::LENGTH_STEP => step_in(t),
+        numbers::TAG_END if size == numbers::LENGTH_END => end_in(t),
+        _ => Field::Refused(0, numbers::BAD_FIELD),
     }
-    if tag == numbers::TAG_END {
-        if size == numbers::LENGTH_END {
-            return end_in(t);
-        }
-        return Field::Refused(0, numbers::BAD_FIELD);
-    }
-    Field::Refused(0, numbers::BAD_FIELD)
 }
 
 // The field at a place of a text.
 pub fn read_field(s: &[u8], at: usize) -> Field
     ensures { result ≡ field_of (drop at s.now) }
 {
-    if s.len() < at {
-        return Field::Refused(0, numbers::BAD_FIELD);
+    match s.get(at..) {
+        Some(t) => field_of(t),
+        None => Field::Refused(0, numbers::BAD_FIELD),
     }
-    field_of(&s[at..])
 }
 
 // A step's field written from a place on: 18 for a bad value, then 27 where it does not fit.
@@ -111,32 +105,30 @@ pub fn write_step(buf: &mut [u8], at: usize, s: Step) -> Wrote
     ensures value { result ≡ step_to buf.old at s }
     ensures buf_after { buf.new ≡ step_written buf.old at s }
 {
-    if values_good(s) {
-        let argument = s.argument;
-        let claim = s.claim;
-        let m = argument.number;
-        let n = claim.number;
-        let bytes = [
-            numbers::TAG_STEP,
-            0,
-            13,
-            s.code,
-            s.who,
-            s.what,
-            argument.kind,
-            (m / 256 / 256 / 256 % 256) as u8,
-            (m / 256 / 256 % 256) as u8,
-            (m / 256 % 256) as u8,
-            (m % 256) as u8,
-            claim.kind,
-            (n / 256 / 256 / 256 % 256) as u8,
-            (n / 256 / 256 % 256) as u8,
-            (n / 256 % 256) as u8,
-            (n % 256) as u8,
-        ];
-        return wire::write(buf, at, &bytes);
+    if !values_good(s) {
+        return Wrote::Refused(numbers::BAD_FIELD);
     }
-    Wrote::Refused(numbers::BAD_FIELD)
+    let [a, b, c, d] = s.argument.number.to_be_bytes();
+    let [e, f, g, h] = s.claim.number.to_be_bytes();
+    let bytes = [
+        numbers::TAG_STEP,
+        0,
+        13,
+        s.code,
+        s.who,
+        s.what,
+        s.argument.kind,
+        a,
+        b,
+        c,
+        d,
+        s.claim.kind,
+        e,
+        f,
+        g,
+        h,
+    ];
+    wire::write(buf, at, &bytes)
 }
 
 // The end field written from a place on.

@@ -16,8 +16,7 @@ pub fn rewrite_config(s: &[u8], buf: &mut [u8]) -> Wrote
     ensures buf_after { buf.new ≡ rewrite_written (config_of s.now).outcome s.now buf.old }
 {
     let read = reading::read_config(s);
-    let outcome = read.outcome;
-    match outcome {
+    match read.outcome {
         Outcome::Whole => writing::write_config(buf, read.config),
         Outcome::Refused(_, number) => Wrote::Refused(number),
     }

@@ -1,14 +1,13 @@
 -- The text of a configuration: how long it is, and how it is put into a buffer field by field.
 -- Assumes nothing.
-use Prim.Native.Nat.{ℕ, ◌+◌, ◌*◌, ◌-◌, ◌<◌, ◌≤◌}
+use Prim.Native.Nat.{ℕ, ◌+◌, ◌<◌, ◌≤◌}
 use mathlib.Core.Bool.{Bool, true, false}
 use mathlib.Core.List.{List, [], ◌++◌}
 use mathlib.Core.Path.{◌≡◌, refl, sym, ap, subst, ◌∙◌}
-use native.Mathlib.Nat.{mul-le-mul}
 use native.Mathlib.Omega.{arith}
 use lib.ListN.{length, length-append}
 use lib.Dec.{leb, eqb}
-use borrow.Author.Tests.{le-leb, lt-leb, leb-true, leb-false}
+use borrow.Author.Tests.{le-leb, leb-true, leb-false}
 use Rattle.numbers.specs.Tags.{part_kinds}
 use Rattle.laws.specs.Choice.{pick}
 use Rattle.laws.proofs.Looping.{sum_same}
@@ -64,20 +63,7 @@ pub text-size : (cfg : Config) → length (text_of cfg) ≡ parts_size cfg + 7
 unfolding text_of
 text-size cfg = omega (arith, parts-size cfg, length-append (edition_bytes cfg.edition ++ parts_bytes cfg) end_bytes, length-append (edition_bytes cfg.edition) (parts_bytes cfg))
 
-pub small_product : (a b : ℕ) → a < 256 → b < 256 → a * b < 65536
-small_product a b h k = let m : a * b ≤ 255 * 255 = mul-le-mul {n₂ = 255} {m₂ = 255} (omega arith) (omega arith) in omega arith
-
 -- ---- whether a run of pieces fits, as the code tests it
-
-pub fits-inside : (room at size : ℕ) → at ≤ room → leb size (room - at) ≡ leb (at + size) room
-fits-inside room at size h = go (leb size (room - at)) refl
-  where
-    go : (x : Bool) → leb size (room - at) ≡ x → leb size (room - at) ≡ leb (at + size) room
-    go true e = e ∙ sym (le-leb (at + size) room (omega (arith, leb-true size (room - at) e)))
-    go false e = e ∙ sym (lt-leb (at + size) room (omega (arith, leb-false size (room - at) e)))
-
-pub fits-past : (room at size : ℕ) → room < at → false ≡ leb (at + size) room
-fits-past room at size h = sym (lt-leb (at + size) room (omega arith))
 
 module _ (b xs : List ℕ) (at k : ℕ) (size : length xs ≡ k) where
   pub run_short : leb (at + k) (length b) ≡ false → Written b at xs (Refused 27) b

@@ -9,17 +9,17 @@ use Rattle.copying.proofs.rewrite.Goals as goal
 
 pub returns-then-buf-s : goal.returns-then-buf-s
 returns-then-buf-s c =
-    let p = again-short c.args.s.now c.args.buf.now (sym c.is_sound.ensures ∙ c.if-is_sound.true) c.if-buf-s.true in
+    let p = again-short c.args.s.now c.args.buf.now (sym c.is_sound.ensures ∙ c.if-not-is_sound.false) c.if-buf-s.true in
     record { value = p.0; buf_after = p.1 }
 
-pub returns-else-is_sound : goal.returns-else-is_sound
-returns-else-is_sound c =
-    let g : is_sound c.args.s.now ≡ false = sym c.is_sound.ensures ∙ c.if-is_sound.false in
+pub returns-then-not-is_sound : goal.returns-then-not-is_sound
+returns-then-not-is_sound c =
+    let g : is_sound c.args.s.now ≡ false = sym c.is_sound.ensures ∙ c.if-not-is_sound.true in
     record { value = rw g; buf_after = rw g }
 
 pub loop-step-init : goal.loop-step-init
 loop-step-init c =
-    copying-starts c.args.s.now c.args.buf.now (sym c.is_sound.ensures ∙ c.if-is_sound.true)
+    copying-starts c.args.s.now c.args.buf.now (sym c.is_sound.ensures ∙ c.if-not-is_sound.false)
 
 pub overflow_add-at : goal.overflow_add-at
 overflow_add-at c =
@@ -48,9 +48,9 @@ returns-in-End c =
     let loop = c.loop-step in
     let if2 = c.if-buf-s in
     let is-sound = c.is_sound in
-    let if1 = c.if-is_sound in
+    let if1 = c.if-not-is_sound in
     let p = copying-end c.args.s.now c.args.buf.now loop.buf c.write_end.new.buf loop.at loop.invariant if2.false c.write_end.result (sym c.in-End.ensures) c.write_end.ensures in
-    let q = again-whole c.args.s.now c.args.buf.now (sym is-sound.ensures ∙ if1.true) if2.false in
+    let q = again-whole c.args.s.now c.args.buf.now (sym is-sound.ensures ∙ if1.false) if2.false in
     record { value = p.0 ∙ q.0; buf_after = p.1 ∙ q.1 }
 
 pub shape_of-buf-in-Refused : goal.shape_of-buf-in-Refused

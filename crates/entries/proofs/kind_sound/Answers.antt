@@ -1,46 +1,32 @@
--- `entries::kind_sound` meets its contract. The loop has tested the places below its counter (`all_below`), and tests one more by `all_more`.
+-- `entries::kind_sound` meets its contract.
 -- Assumes nothing.
-use mathlib.Core.Path.{◌≡◌, sym, ◌∙◌}
+use mathlib.Core.Path.{◌≡◌, refl, sym, ◌∙◌}
 use native.Mathlib.Omega.{arith}
-use Rattle.laws.proofs.Looping.{all_none, all_more}
 use borrow.Author.Rules.{rules}
+use borrow.Author.Tests.{lt-leb}
+use Rattle.std.specs.List.{list_all, range_with_len}
+use Rattle.std.proofs.Common.{tests}
+use Rattle.std.proofs.lemmas.Iterator.{YieldsList-from_range}
+use Rattle.std.proofs.lemmas.Iterator.Search.{all_from_yields_List}
 use Rattle.laws.proofs.Places.{length-mapped}
-use Rattle.entries.proofs.Kind.{Full, kind-over, kind-fails, kind-holds}
+use Rattle.entries.specs.Faults.{place_sound}
+use Rattle.entries.proofs.Kind.{Full, kind-over, kind-places}
+use Rattle.entries.proofs.Ranges.{list-below}
 use Rattle.entries.proofs.kind_sound.Goals as goal
 
-pub returns-then-top-count_of : goal.returns-then-top-count_of
-returns-then-top-count_of c =
+pub returns-then-count_of-top : goal.returns-then-count_of-top
+returns-then-count_of-top c =
     let a = c.args in
-    sym (kind-over a.cfg a.tag (rw (← c.max_of-top.ensures, ← c.count_of.ensures) c.if-top-count_of.true))
-
-pub loop-i-init : goal.loop-i-init
-loop-i-init c = (omega arith, all_none _)
-
-pub overflow_add-i : goal.overflow_add-i
-overflow_add-i c = omega (arith, c.loop-i-test.true)
-
-pub loop-i-smaller : goal.loop-i-smaller
-loop-i-smaller c = omega (arith, c.loop-i-test.true)
-
-pub loop-i-preserved : goal.loop-i-preserved
-loop-i-preserved c =
-    (omega (arith, c.loop-i-test.true), all_more _ _ c.loop-i.invariant.1 (sym c.place_sound.ensures ∙ c.if-place_sound.true))
-
-pub returns-else-place_sound : goal.returns-else-place_sound
-returns-else-place_sound c =
-    let a = c.args in
-    sym
-    (kind-fails a.cfg a.tag c.loop-i.i
-    (rw (← c.max_of-top.ensures) c.loop-i-test.true)
-    (sym c.place_sound.ensures ∙ c.if-place_sound.false))
-
-pub returns : goal.returns
-returns c =
-    let a = c.args in
+    let top = c.max_of-top.result in
     let m = c.max_of-top.ensures in
-    let e : c.loop-i.i ≡ c.max_of-top.result = omega (arith, c.loop-i-test.false, c.loop-i.invariant.0) in
+    let each : c.all.result ≡ list_all (place_sound a.cfg a.tag) (range_with_len 0 top) =
+    all_from_yields_List (place_sound a.cfg a.tag) _ _ _ c.all.ensures.ran (YieldsList-from_range 0 top top refl (omega arith)) (λ x b q k. search (rules, tests)) in
     let full : Full a.cfg = record { runnables = search (rules, length-mapped); variables = search (rules, length-mapped); areas = search (rules, length-mapped); required = search (rules, length-mapped); provided = search (rules, length-mapped); links = search (rules, length-mapped); operations = search (rules, length-mapped); timers = search (rules, length-mapped); devents = search (rules, length-mapped); revents = search (rules, length-mapped); incoming = search (rules, length-mapped); outgoing = search (rules, length-mapped) } in
-    sym
-    (kind-holds a.cfg a.tag full
-    (rw (← m, ← c.count_of.ensures) c.if-top-count_of.false)
-    (rw (← m, ← e) c.loop-i.invariant.1))
+    each ∙ list-below (place_sound a.cfg a.tag) top
+    ∙ rw m (sym (kind-places a.cfg a.tag full (rw (← m, ← c.count_of.ensures) c.if-count_of-top.true)))
+
+pub returns-else-count_of-top : goal.returns-else-count_of-top
+returns-else-count_of-top c =
+    let a = c.args in
+    lt-leb _ _ c.if-count_of-top.false
+    ∙ sym (kind-over a.cfg a.tag (rw (← c.max_of-top.ensures, ← c.count_of.ensures) c.if-count_of-top.false))

@@ -1,53 +1,37 @@
 -- `lines::put_line` meets its contract.
 -- Assumes nothing.
-use mathlib.Core.Path.{◌≡◌, sym}
+use Prim.Native.Nat.{◌+◌, ◌<◌}
+use mathlib.Core.Path.{◌≡◌}
 use native.Mathlib.Omega.{arith}
-use lib.ListN.{length}
-use lib.Seq.{length-take-le}
+use lib.ListN.{length, take}
 use borrow.Author.Rules.{rules}
-use Rattle.lines.proofs.Laws.{few, line-short, line-put}
+use Rattle.lines.specs.Lines.{tail_of}
+use Rattle.lines.proofs.Laws.{taken-all, line-short, line-put}
 use Rattle.lines.proofs.put_line.Goals as goal
-
-pub put_tail-size-requires : goal.put_tail-size-requires
-put_tail-size-requires c = record { in_bounds = omega arith; count_bound = rw c.at_most.ensures (few c.args.count) }
+use Rattle.lines.proofs.put_line.Goals.{then-room-long-via-then-room-long, then-room-long-via-else-room-long+then-room-long-2, then-room-long-via-else-room-long+else-room-long-2+then-room-long-3}
 
 pub returns-then-room-long : goal.returns-then-room-long
 returns-then-room-long c =
     let a = c.args in
     let p = c.put_tail-size in
-    let len : length a.numbers ≡ 5 = search rules in
+    let five : length a.numbers ≡ 5 = search rules in
     let room : length p.new.buf ≡ 106 = search rules in
-    let made = rw c.at_most.ensures at p.ensures.buf_after in
-    line-short a.buf.now a.word.now a.numbers p.new.buf a.at a.count p.result len (omega (arith, p.ensures.upper_bound)) made (omega arith)
-
-pub returns-then-room-long-2 : goal.returns-then-room-long-2
-returns-then-room-long-2 c =
-    let a = c.args in
-    let p = c.put_tail-size in
-    let len : length a.numbers ≡ 5 = search rules in
-    let room : length p.new.buf ≡ 106 = search rules in
-    let made = rw c.at_most.ensures at p.ensures.buf_after in
-    line-short a.buf.now a.word.now a.numbers p.new.buf a.at a.count p.result len (omega (arith, p.ensures.upper_bound)) made (omega arith)
-
-pub returns-then-room-long-3 : goal.returns-then-room-long-3
-returns-then-room-long-3 c =
-    let a = c.args in
-    let p = c.put_tail-size in
-    let len : length a.numbers ≡ 5 = search rules in
-    let room : length p.new.buf ≡ 106 = search rules in
-    let made = rw c.at_most.ensures at p.ensures.buf_after in
-    line-short a.buf.now a.word.now a.numbers p.new.buf a.at a.count p.result len (omega (arith, p.ensures.upper_bound)) made (omega arith)
-
-pub slice_bounds-write-end : goal.slice_bounds-write-end
-slice_bounds-write-end c = sym (length-take-le _ _ (let room : length c.put_tail-size.new.buf ≡ 106 = search rules in omega (arith, c.put_tail-size.ensures.upper_bound)))
+    let made : take p.result p.new.buf ≡ tail_of (take a.count a.numbers) = rw (← taken-all a.numbers a.count five, ← c.min.ensures) p.ensures.buf_after in
+    let short : length a.buf.now < a.at + (length a.word.now + p.result) =
+    elim c.then-room-long.branch [
+      | then-room-long-via-then-room-long w ↦ omega arith
+      | then-room-long-via-else-room-long+then-room-long-2 w ↦ omega arith
+      | then-room-long-via-else-room-long+else-room-long-2+then-room-long-3 w ↦ omega arith
+    ] in
+    line-short a.buf.now a.word.now _ p.new.buf a.at p.result (omega (arith, p.ensures.upper_bound)) made short
 
 pub returns : goal.returns
 returns c =
     let a = c.args in
     let p = c.put_tail-size in
-    let len : length a.numbers ≡ 5 = search rules in
-    let room : length p.new.buf ≡ 106 = search rules in
-    let made = rw c.at_most.ensures at p.ensures.buf_after in
     let w = c.write in
     let v = c.write-2 in
-    line-put a.buf.now a.word.now a.numbers p.new.buf a.at a.count p.result len (omega (arith, p.ensures.upper_bound)) made w.new.buf v.new.buf w.result v.result (omega (arith, c.if-room-long-3.false, c.if-room-long-2.false, c.if-room-long.false)) w.ensures v.ensures
+    let five : length a.numbers ≡ 5 = search rules in
+    let room : length p.new.buf ≡ 106 = search rules in
+    let made : take p.result p.new.buf ≡ tail_of (take a.count a.numbers) = rw (← taken-all a.numbers a.count five, ← c.min.ensures) p.ensures.buf_after in
+    line-put a.buf.now a.word.now _ p.new.buf a.at p.result (omega (arith, p.ensures.upper_bound)) made w.new.buf v.new.buf w.result v.result (omega arith) w.ensures v.ensures

@@ -13,7 +13,7 @@ pub returns-in-To : goal.returns-in-To
 returns-in-To c =
     let a = c.args in
     let w = c.write in
-    let d = c.put_decimal-w in
+    let d = c.put_decimal in
     let short = d.ensures.n_len_bound in
     let room : a.at + length (32 ∷ decimal_of a.n) ≤ length a.buf.now = omega (arith, c.requires) in
     let k = both-pieces a.buf.now w.new.buf d.new.buf (32 ∷ []) (decimal_of a.n) a.at (a.at + 1) w.result d.result w.ensures d.ensures.written refl room in
@@ -24,7 +24,7 @@ pub returns-in-Refused : goal.returns-in-Refused
 returns-in-Refused c =
     let a = c.args in
     let w = c.write in
-    let d = c.put_decimal-w in
+    let d = c.put_decimal in
     let short = d.ensures.n_len_bound in
     let room : a.at + length (32 ∷ decimal_of a.n) ≤ length a.buf.now = omega (arith, c.requires) in
     let k = both-pieces a.buf.now w.new.buf d.new.buf (32 ∷ []) (decimal_of a.n) a.at (a.at + 1) w.result d.result w.ensures d.ensures.written refl room in

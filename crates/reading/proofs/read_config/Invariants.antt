@@ -2,11 +2,10 @@
 -- Assumes nothing.
 use Rattle.reading.proofs.Ahead.{Ahead}
 use lib.ListN.{length}
-use Prim.Native.Nat.{◌-◌}
 use Rattle.reading.proofs.read_config.Given as goal
 
 abbrev pub invariant-loop-number : goal.invariant-loop-number
-invariant-loop-number l = Ahead l.s l.cfg l.at l.last l.place
+invariant-loop-number l = Ahead l.s l.t l.cfg l.last l.place
 
 abbrev pub decreases-loop-number : goal.decreases-loop-number
-decreases-loop-number l = length l.s - l.at
+decreases-loop-number l = length l.t
