@@ -1,6 +1,6 @@
--- What a call of `all` or `count` comes to, in the words of laws: tests and counts over the places of a list, and over the numbers below n.
+-- What a call of `all` or of `count` comes to, in the words of laws: over the numbers below n, and over a row whose first n places are in use.
 -- Assumes nothing.
-use Rattle.std.proofs.Common.{◌≡◌, ℕ, zero, suc, ◌<◌, Bool, true, false, ◌&&◌, ltb, List, [], ◌∷◌, Option, refl, ap, sym, ◌∙◌, arith, length, get_or, take, drop, le-ltb, lt-ltb, eq-eqb}
+use Rattle.std.proofs.Common.{◌≡◌, ℕ, zero, suc, ◌<◌, Bool, true, false, ltb, List, [], ◌∷◌, Option, refl, ap, sym, ◌∙◌, arith, length, get_or, take, drop, le-ltb, lt-ltb, eq-eqb}
 use denote.Ref.{Bor}
 use denote.Param.Members.{Mut}
 use Rattle.std.specs.declared.ops.Range.{Range}
@@ -26,9 +26,13 @@ both-joined : (a b c : Bool) → both (both a b) c ≡ both a (both b c)
 both-joined true b c = refl
 both-joined false b c = refl
 
-pub and_both : (a b c : Bool) → b ≡ c → (a && b) ≡ both a c
-and_both true b c e = e
-and_both false b c e = refl
+-- the first element of a list apart
+list-more : {A : Type 0} (p : A → Bool) (x : A) (l : List A) → list_all p (x ∷ l) ≡ both (p x) (list_all p l)
+list-more p x l = go (p x) refl
+  where
+    go : (b : Bool) → p x ≡ b → list_all p (x ∷ l) ≡ both b (list_all p l)
+    go true e = rw e
+    go false e = rw e
 
 -- the first place apart
 all_first : (p : ℕ → Bool) (n : ℕ) → all_below p (suc n) ≡ both (p 0) (all_below (λ (k : ℕ). p (suc k)) n)
@@ -40,10 +44,10 @@ all_first p (suc n) = ap (λ (b : Bool). both b (p (suc n))) (all_first p n) ∙
 all_list : {A : Type 0} (p : A → Bool) (d : A) (l : List A) → list_all p l ≡ all_below (λ (k : ℕ). p (get_or l k d)) (length l)
 unfolding all_below
 all_list p d [] = refl
-all_list p d (x ∷ l) = and_both (p x) _ _ (all_list p d l) ∙ sym (all_first (λ (k : ℕ). p (get_or (x ∷ l) k d)) (length l))
+all_list p d (x ∷ l) = list-more p x l ∙ ap (both (p x)) (all_list p d l) ∙ sym (all_first (λ (k : ℕ). p (get_or (x ∷ l) k d)) (length l))
 
 -- the numbers below n, each tested
-pub all_numbers : (p : ℕ → Bool) (n : ℕ) → list_all p (range_with_len 0 n) ≡ all_below p n
+all_numbers : (p : ℕ → Bool) (n : ℕ) → list_all p (range_with_len 0 n) ≡ all_below p n
 all_numbers p n =
     all_list p 0 (range_with_len 0 n)
     ∙ ap (all_below (λ (k : ℕ). p (get_or (range_with_len 0 n) k 0))) (length-range_with_len 0 n)
@@ -53,10 +57,6 @@ all_numbers p n =
 pub all_in : {F : Type 0} {g : Mut F (ℕ × Unit {0}) Bool} {s : Range ℕ} (p : ℕ → Bool) (n : ℕ) (u : Range ℕ) (f : F) (r : Bool) → (xs : List ℕ) × (o : Option ℕ) × (j : F) × YieldsThen nat_range_steps s xs o u × FoldsTo (λ p x q. Called g p (x, tt) true q) f xs j × MatchOption o (r ≡ true) (λ x. (r ≡ false) × ((h : F) × Called g j (x, tt) false h)) → s ≡ record { start = 0; end = n } → ((x : ℕ) (b : Bool) (q : F) → Called g f (x, tt) b q → (q ≡ f) × (b ≡ p x)) → r ≡ all_below p n
 all_in p n u f r ran e closure = all_from_yields_List p u f r ran (YieldsList-from_range 0 n n e (omega arith)) closure ∙ all_numbers p n
 
-and-joined : (a b c : Bool) → ((a && b) && c) ≡ (a && (b && c))
-and-joined true b c = refl
-and-joined false b c = refl
-
 ltb-suc : (k n : ℕ) → ltb (suc k) (suc n) ≡ ltb k n
 ltb-suc k n = go (dec_lt k n)
   where
@@ -65,20 +65,21 @@ ltb-suc k n = go (dec_lt k n)
     go (no h) = rw (le-ltb k n (omega arith), le-ltb (suc k) (suc n) (omega arith))
 
 -- a row whose first n places are in use, split behind them
-pub row_split : {A : Type 0} (p q : A → Bool) (d : A) (n : ℕ) (l : List A) → (list_all p (take n l) && list_all q (drop n l)) ≡ all_below (place_filled p q d n l) (length l)
+row_split : {A : Type 0} (p q : A → Bool) (d : A) (n : ℕ) (l : List A) → both (list_all p (take n l)) (list_all q (drop n l)) ≡ all_below (place_filled p q d n l) (length l)
 unfolding all_below place_filled
 row_split p q d zero l = all_list q d l ∙ all_same _ _ (length l) (λ k b. rw (le-ltb k 0 (omega arith)))
 row_split p q d (suc n) [] = all_list p d []
 row_split p q d (suc n) (x ∷ l) =
     let first : place_filled p q d (suc n) (x ∷ l) 0 ≡ p x = rw (lt-ltb 0 (suc n) (omega arith)) in
     let rest : all_below (λ (k : ℕ). place_filled p q d (suc n) (x ∷ l) (suc k)) (length l) ≡ all_below (place_filled p q d n l) (length l) = all_same _ _ (length l) (λ k b. rw (ltb-suc k n)) in
-    and-joined (p x) _ _
-    ∙ and_both (p x) _ _ (row_split p q d n l ∙ sym rest)
+    ap (λ (b : Bool). both b (list_all q (drop n l))) (list-more p x (take n l))
+    ∙ both-joined (p x) _ _
+    ∙ ap (both (p x)) (row_split p q d n l ∙ sym rest)
     ∙ ap (λ (b : Bool). both b (all_below (λ (k : ℕ). place_filled p q d (suc n) (x ∷ l) (suc k)) (length l))) (sym first)
     ∙ sym (all_first (place_filled p q d (suc n) (x ∷ l)) (length l))
 
 -- the same in a row of m places
-pub row_filled : {A : Type 0} (p q : A → Bool) (d : A) (m n : ℕ) (l : List A) → length l ≡ m → (list_all p (take n l) && list_all q (drop n l)) ≡ filled p q d m n l
+pub row_filled : {A : Type 0} (p q : A → Bool) (d : A) (m n : ℕ) (l : List A) → length l ≡ m → both (list_all p (take n l)) (list_all q (drop n l)) ≡ filled p q d m n l
 unfolding filled
 row_filled p q d m n l e =
     row_split p q d n l ∙ ap (all_below (place_filled p q d n l)) e ∙ rw (eq-eqb (length l) m e)

@@ -5,13 +5,12 @@
 
 ghost use Rattle.std.specs.Prelude.{◌≡◌, not, ◌==◌, nat_le, nat_lt, length, slice_index, Bool};
 ghost use Rattle.std.specs.Fn.{FnReturnsAt};
-ghost use Rattle.laws.specs.Choice.{pick, both, either, bit, all_of};
-ghost use Rattle.laws.specs.Row.{place_filled, filled};
-ghost use Rattle.values.specs.Values.{void_v, timeout_v, server_err_v, is_void, is_payload};
-ghost use Rattle.config.specs.Tables.{max_area_confs, required_conf_in};
+ghost use Rattle.laws.specs.Choice.{pick, both, either, all_of};
+ghost use Rattle.laws.specs.Row.{filled};
+ghost use Rattle.values.specs.Values.{timeout_v, server_err_v, is_void, is_payload};
+ghost use Rattle.config.specs.Tables.{required_conf_in};
 ghost use Rattle.entries.specs.Faults.{is_server};
-ghost use Rattle.state.specs.Parts.{no_client, max_requests, max_values};
-ghost use Rattle.rules.specs.Sound.{is_no_client, client_fits, requests_sound, values_sound, most_pending, runnable_sound, variable_sound, is_stored, element_sound, is_outcome, calling_sound, done_sound, operation_sound, timer_sound, waits_well, life_sound, owed_sound, area_fits, is_zero, stack_sound, is_no_slot, slot_sound, has_copy, is_no_copy, copy_sound, copies_sound, is_client, queued_as, variables_sound, elements_sound, timers_sound, sound_of, is_no_awaited, awaits_well, is_no_life, is_no_owed, is_no_stack, held_well};
+ghost use Rattle.rules.specs.Sound.{is_no_client, client_fits, requests_sound, values_sound, most_pending, runnable_sound, variable_sound, is_stored, element_sound, is_outcome, calling_sound, done_sound, operation_sound, timer_sound, waits_well, life_sound, owed_sound, area_fits, stack_sound, is_no_slot, slot_sound, has_copy, is_no_copy, copy_sound, copies_sound, is_client, queued_as, variables_sound, elements_sound, timers_sound, sound_of, is_no_awaited, awaits_well, is_no_life, is_no_owed, is_no_stack, held_well};
 ghost use Rattle.sound.specs.Only.{only_variables, only_areas, only_required, only_operations, only_timers};
 ghost use Rattle.sound.specs.Tally.{counted, entered, held_below, noting, tallied, noted_at, noted_as};
 ghost use Rattle.sound.specs.Walk.{clients_with, client_alone, queue_alone, queue_of, noted_alone, runnable_tallied, waiter_tallied, operation_tallied, area_tallied, runnables_tallied, operations_tallied, areas_tallied, rest_tests, slot_walked, walk_of};
@@ -427,6 +426,7 @@ fn slot_walked(cfg: Config, x: Slot, i: Copies, o: Copies) -> bool
 // ---- the tally of the slots
 
 // The clients that instances serve, by operation and number, in the order of the slots; the first `n` places are in use.
+// Kept: two arrays and a count, since the definitions no_tally, noting and noted_at (specs/Tally.antt) name these three fields.
 #[derive(Clone, Copy)]
 struct Noted {
     n: u8,
@@ -465,6 +465,7 @@ impl Tally {
 }
 
 // What the walk comes to: whether every slot is sound, with its copies, and if so the tally of all.
+// Kept: no Option of a tally, since the definition walk_of (specs/Walk.antt) and the lemmas rest-is and slot-fails (proofs/Test.antt) are of a Walked.
 #[derive(Clone, Copy)]
 struct Walked {
     sound: bool,
@@ -484,6 +485,7 @@ fn counted<const N: usize>(l: [u8; N], more: bool, i: u8) -> [u8; N]
 }
 
 // The area a once more.
+// Kept: not one function with counted, since its counts are wider and the definition entered (specs/Tally.antt) is of a Held; it would take a trait of numbers that wrap.
 fn entered(l: Held, a: u8) -> Held
     ensures { result ≡ entered l a }
 {
