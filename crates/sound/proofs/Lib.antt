@@ -1,5 +1,5 @@
 -- Laws that the proofs of this crate cite.
-pub mod Rows
+pub mod Ranges
 pub mod Whole
 pub mod Tallying
 pub mod Test

@@ -6,7 +6,7 @@ use lib.ListN.{get_or-replicate}
 use Rattle.laws.specs.Choice.{pick, both, either, bit, all_of}
 use Rattle.laws.specs.Loop.{all_below, sum_below, count_below}
 use Rattle.laws.proofs.Choosing.{both_left, both_true, all_told}
-use Rattle.laws.proofs.Looping.{all-at, sum_more, sum_same, sum_bound, count_most}
+use Rattle.laws.proofs.Looping.{all-at, all_same, sum_more, sum_same, sum_bound, count_most}
 use Rattle.faces.specs.Types.{Config, Client, Owed, Stack, Slot, Slots}
 use Rattle.state.specs.Tables.{slot_in}
 use Rattle.rules.specs.Sound.{is_caller, slot_sound, life_sound, owed_sound, stack_sound, is_no_stack, is_no_slot, of_runnable, times_in, is_client, served_as, waits_on}
@@ -57,12 +57,6 @@ held_at s (suc n) l i b h =
     entered_at (held_below s n l) (get_or s.at n 0) i (omega (arith, b, held-long s n l)) (omega (arith, e, m, h)) ∙ omega (arith, e)
 
 -- ---- the clients noted
-
--- tests that agree place by place agree together
-pub all_same : (p q : ℕ → Bool) (n : ℕ) → ((k : ℕ) → k < n → p k ≡ q k) → all_below p n ≡ all_below q n
-unfolding all_below
-all_same p q zero h = refl
-all_same p q (suc n) h = rw (all_same p q n (λ k b. h k (omega arith)), h n (omega arith))
 
 -- one client more, behind the others
 abbrev grown : Noted → Client → Noted

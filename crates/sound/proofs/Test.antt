@@ -4,7 +4,7 @@ use Rattle.std.proofs.Common.{◌≡◌, ℕ, zero, suc, ◌+◌, ◌<◌, ◌�
 use Rattle.laws.specs.Choice.{pick, both, either, alike, bit, all_of}
 use Rattle.laws.specs.Loop.{all_below, sum_below}
 use Rattle.laws.proofs.Choosing.{clash, both_left, both_right, both-make, all_told, all_made}
-use Rattle.laws.proofs.Looping.{all-at, all-of, all_both, sum-zero, sum-term, sum-find}
+use Rattle.laws.proofs.Looping.{all-at, all-of, all_same, all_both, sum-zero, sum-term, sum-find}
 use Rattle.laws.proofs.Places.{filled-good}
 use Rattle.values.specs.Values.{void_v}
 use Rattle.faces.specs.Types.{Config, Client, Owed, Slot, Slots, Copied, State}
@@ -18,7 +18,7 @@ use Rattle.sound.specs.declared.Tally.{Tally}
 use Rattle.sound.specs.declared.Walked.{Walked}
 use Rattle.sound.specs.Tally.{no_tally, tally_of, noted_as, Tallies}
 use Rattle.sound.specs.Walk.{clients_with, client_alone, queue_alone, queue_of, noted_alone, runnable_tallied, waiter_tallied, operation_tallied, area_tallied, runnables_tallied, operations_tallied, areas_tallied, rest_tests, slot_walked, slots_walked, walk_of, whole_test}
-use Rattle.sound.proofs.Tallying.{all_same, tally-tallies, tally-all}
+use Rattle.sound.proofs.Tallying.{tally-tallies, tally-all}
 
 -- a sum of which one term counts
 sum_one : (f : ℕ → ℕ) (i n : ℕ) → i < n → ((k : ℕ) → k < n → (k ≡ i → ⊥) → f k ≡ 0) → sum_below f n ≡ f i

@@ -22,3 +22,5 @@ operations-only cfg rs y t = refl
 pub timers-only : (cfg : Config) (t : Timers) → timers_sound (only_timers cfg.timers) t ≡ timers_sound cfg t
 unfolding timers_sound timer_sound only_timers
 timers-only cfg t = refl
+
+pub ruleset only = (variables-only, elements-only, operations-only, timers-only)

@@ -3,14 +3,14 @@
 // Where a test reads one table of the configuration its function is handed that table alone, and promises the test of a configuration with that table.
 #![tactic(auto)]
 
-ghost use Rattle.std.specs.Prelude.{◌≡◌, not, ◌==◌, nat_le, nat_lt, slice_index};
-ghost use Rattle.laws.specs.Choice.{pick, both, either, bit, all_of};
-ghost use Rattle.laws.specs.Row.{place_filled, filled};
-ghost use Rattle.values.specs.Values.{void_v, timeout_v, server_err_v, is_void, is_payload};
-ghost use Rattle.config.specs.Tables.{max_area_confs, required_conf_in};
+ghost use Rattle.std.specs.Prelude.{◌≡◌, not, ◌==◌, nat_le, nat_lt, length, slice_index, Bool};
+ghost use Rattle.std.specs.Fn.{FnReturnsAt};
+ghost use Rattle.laws.specs.Choice.{pick, both, either, all_of};
+ghost use Rattle.laws.specs.Row.{filled};
+ghost use Rattle.values.specs.Values.{timeout_v, server_err_v, is_void, is_payload};
+ghost use Rattle.config.specs.Tables.{required_conf_in};
 ghost use Rattle.entries.specs.Faults.{is_server};
-ghost use Rattle.state.specs.Parts.{no_client, max_requests, max_values};
-ghost use Rattle.rules.specs.Sound.{is_no_client, client_fits, requests_sound, values_sound, most_pending, runnable_sound, variable_sound, is_stored, element_sound, is_outcome, calling_sound, done_sound, operation_sound, timer_sound, waits_well, life_sound, owed_sound, area_fits, is_zero, stack_sound, is_no_slot, slot_sound, has_copy, is_no_copy, copy_sound, copies_sound, is_client, queued_as, variables_sound, elements_sound, timers_sound, sound_of, is_no_awaited, awaits_well, is_no_life, is_no_owed, is_no_stack, held_well};
+ghost use Rattle.rules.specs.Sound.{is_no_client, client_fits, requests_sound, values_sound, most_pending, runnable_sound, variable_sound, is_stored, element_sound, is_outcome, calling_sound, done_sound, operation_sound, timer_sound, waits_well, life_sound, owed_sound, area_fits, stack_sound, is_no_slot, slot_sound, has_copy, is_no_copy, copy_sound, copies_sound, is_client, queued_as, variables_sound, elements_sound, timers_sound, sound_of, is_no_awaited, awaits_well, is_no_life, is_no_owed, is_no_stack, held_well};
 ghost use Rattle.sound.specs.Only.{only_variables, only_areas, only_required, only_operations, only_timers};
 ghost use Rattle.sound.specs.Tally.{counted, entered, held_below, noting, tallied, noted_at, noted_as};
 ghost use Rattle.sound.specs.Walk.{clients_with, client_alone, queue_alone, queue_of, noted_alone, runnable_tallied, waiter_tallied, operation_tallied, area_tallied, runnables_tallied, operations_tallied, areas_tallied, rest_tests, slot_walked, walk_of};
@@ -28,124 +28,67 @@ use state::{
 use values::Value;
 
 // The sizes of the tables, as numbers of parts.
+const RUNNABLES: u8 = RunnableConfs::MAX as u8;
+
 const VARIABLES: u8 = VariableConfs::MAX as u8;
 
 const AREAS: u8 = AreaConfs::MAX as u8;
 
+const ELEMENTS: u8 = RequiredConfs::MAX as u8;
+
+const OPERATIONS: u8 = OperationConfs::MAX as u8;
+
 const TIMERS: u8 = TimerConfs::MAX as u8;
 
-// A test as a number.
-fn bit(b: bool) -> u8
-    ensures { result ≡ bit b }
+// ---- rows
+
+// A row whose first n places are in use: each of them passes the one test, and each behind them the other.
+fn filled<T, G: Fn(&T) -> bool, B: Fn(&T) -> bool>(row: &[T], n: u8, good: G, blank: B) -> bool
+    requires good { G.IsAlwaysCallable good }
+    requires blank { B.IsAlwaysCallable blank }
+    ensures { (p q : T → Bool) (d : T) → ((x : T) (b : Bool) → FnReturnsAt G.Fn good x b → b ≡ p x) → ((x : T) (b : Bool) → FnReturnsAt B.Fn blank x b → b ≡ q x) → result ≡ filled p q d (length row.now) n row.now }
 {
-    if b { 1 } else { 0 }
+    let used = n as usize;
+    row.iter().take(used).all(good) && row.iter().skip(used).all(blank)
 }
 
 // ---- clients and queues
 
 // What stands where there is no client.
+#[tactic(auto, using(laws::proofs::Choosing::tests), unfolding(rules::specs::Sound::is_no_client))]
 fn is_no_client(c: Client) -> bool
     ensures { result ≡ is_no_client c }
 {
-    if c.operation != 0 {
-        return false;
-    }
-    if c.number != 0 {
-        return false;
-    }
-    let v = c.argument;
-    v.is_void()
+    c.operation == 0 && c.number == 0 && c.argument.is_void()
 }
 
 // A client names an operation of its server r, and hands over a payload.
+#[tactic(auto, using(laws::proofs::Choosing::tests), unfolding(rules::specs::Sound::client_fits, crate::specs::Only::only_operations))]
 fn client_fits(t: OperationConfs, r: u8, c: Client) -> bool
     ensures { result ≡ client_fits (only_operations t) r c }
 {
     let o = c.operation;
-    if o < t.n {
-        let x = t.get(o);
-        if x.server == r {
-            let v = c.argument;
-            return v.is_payload();
-        }
-        return false;
-    }
-    false
-}
-
-// One place of a queue of requests, in use or not: a fitting client, or blank.
-fn request_filled(t: OperationConfs, r: u8, used: bool, c: Client) -> bool
-    ensures { result ≡ pick used (client_fits (only_operations t) r c) (is_no_client c) }
-{
-    if used {
-        return client_fits(t, r, c);
-    }
-    is_no_client(c)
-}
-
-fn requests_filled(t: OperationConfs, r: u8, q: Requests) -> bool
-    ensures { result ≡ filled (client_fits (only_operations t) r) is_no_client no_client max_requests q.queued q.at }
-{
-    let n = q.queued as usize;
-    let mut j: usize = 0;
-    while j < Requests::MAX {
-        let c = q.at[j];
-        if request_filled(t, r, j < n, c) {
-            j = j + 1;
-        } else {
-            return false;
-        }
-    }
-    true
+    o < t.n && t.get(o).server == r && c.argument.is_payload()
 }
 
 // A queue of requests keeps to the capacity of its server r.
 fn requests_sound(cfg: Config, r: u8, q: Requests) -> bool
     ensures { result ≡ requests_sound cfg r q }
 {
-    let confs = cfg.runnables;
-    let x = confs.get(r);
-    if q.queued <= x.capacity {
-        let t = cfg.operations;
-        return requests_filled(t, r, q);
-    }
-    false
-}
-
-// One place of a queue of values, in use or not: a payload, or blank.
-fn value_filled(used: bool, v: Value) -> bool
-    ensures { result ≡ pick used (is_payload v) (is_void v) }
-{
-    if used {
-        return v.is_payload();
-    }
-    v.is_void()
-}
-
-fn values_filled(q: Values) -> bool
-    ensures { result ≡ filled is_payload is_void void_v max_values q.queued q.at }
-{
-    let n = q.queued as usize;
-    let mut j: usize = 0;
-    while j < Values::MAX {
-        let v = q.at[j];
-        if value_filled(j < n, v) {
-            j = j + 1;
-        } else {
-            return false;
-        }
-    }
-    true
+    q.queued <= cfg.runnables.get(r).capacity
+        && filled(
+            &q.at,
+            q.queued,
+            |c| client_fits(cfg.operations, r, *c),
+            |c| is_no_client(*c),
+        )
 }
 
 // A queue of values keeps to its capacity.
 fn values_sound(capacity: u8, q: Values) -> bool
     ensures { result ≡ values_sound capacity q.queued q.at }
 {
-    if q.queued <= capacity {
-        return values_filled(q);
-    }
-    false
+    q.queued <= capacity && filled(&q.at, q.queued, |v| v.is_payload(), |v| v.is_void())
 }
 
 // ---- one part at a time
@@ -154,107 +97,77 @@ fn values_sound(capacity: u8, q: Values) -> bool
 fn instances_fit(concurrent: bool, instances: u8) -> bool
     ensures { result ≡ either concurrent (nat_le instances 1) }
 {
-    if concurrent {
-        return true;
-    }
-    instances <= 1
+    concurrent || instances <= 1
 }
 
 // Only a plain runnable that is there has activations pending, up to its top.
+#[tactic(auto, using(laws::proofs::Choosing::tests), unfolding(rules::specs::Sound::most_pending))]
 fn most_pending(cfg: Config, r: u8) -> u8
     ensures { result ≡ most_pending cfg r }
 {
-    let t = cfg.runnables;
-    if r < t.n {
-        if !entries::is_server(cfg, r) {
-            let conf = t.get(r);
-            return conf.top();
-        }
+    if r < cfg.runnables.n && !entries::is_server(cfg, r) {
+        cfg.runnables.get(r).top()
+    } else {
+        0
     }
-    0
 }
 
+#[tactic(auto, using(laws::proofs::Choosing::tests), unfolding(rules::specs::Sound::runnable_sound, laws::specs::Choice::all_of))]
 fn runnable_sound(cfg: Config, r: u8, x: Runnable) -> bool
     ensures { result ≡ runnable_sound cfg r x }
 {
-    let t = cfg.runnables;
-    let conf = t.get(r);
-    if x.interval > conf.interval {
-        return false;
-    }
-    if !instances_fit(conf.concurrent, x.instances) {
-        return false;
-    }
-    if x.pending > most_pending(cfg, r) {
-        return false;
-    }
-    let q = x.requests;
-    requests_sound(cfg, r, q)
+    let conf = cfg.runnables.get(r);
+    x.interval <= conf.interval
+        && instances_fit(conf.concurrent, x.instances)
+        && x.pending <= most_pending(cfg, r)
+        && requests_sound(cfg, r, x.requests)
 }
 
 // A variable holds a payload, an unused one Void.
+#[tactic(auto, using(laws::proofs::Choosing::tests), unfolding(rules::specs::Sound::variable_sound, crate::specs::Only::only_variables))]
 fn variable_sound(t: VariableConfs, v: u8, x: Variable) -> bool
     ensures { result ≡ variable_sound (only_variables t) v x }
 {
-    let w = x.value;
     if v < t.n {
-        return w.is_payload();
+        x.value.is_payload()
+    } else {
+        x.value.is_void()
     }
-    w.is_void()
 }
 
 // A payload, NeverReceived, or Invalid where the edition marks so.
+#[tactic(auto, using(laws::proofs::Choosing::tests), unfolding(rules::specs::Sound::is_stored))]
 fn is_stored(e: u8, v: Value) -> bool
     ensures { result ≡ is_stored e v }
 {
-    if v.is_payload() {
-        return true;
-    }
-    if v.kind == 6 {
-        return v.number == 0;
-    }
-    if config::marks_invalid(e) {
-        if v.kind == 7 {
-            return v.number == 0;
-        }
-        return false;
-    }
-    false
+    v.is_payload()
+        || (v.kind == Value::NEVER_RECEIVED.kind
+            || (config::marks_invalid(e) && v.kind == Value::INVALID.kind))
+            && v.number == 0
 }
 
 fn is_unqueued(t: RequiredConfs, q: u8) -> bool
     ensures { result ≡ both (nat_lt q t.n) ((required_conf_in t q).capacity == 0) }
 {
-    if q < t.n {
-        let conf = t.get(q);
-        return conf.capacity == 0;
-    }
-    false
+    q < t.n && t.get(q).capacity == 0
 }
 
 // What an element holds beside its queue.
 fn element_holds(e: u8, t: RequiredConfs, q: u8, x: Element) -> bool
     ensures { result ≡ pick (both (nat_lt q t.n) ((required_conf_in t q).capacity == 0)) (is_stored e x.value) (both (is_void x.value) (not x.updated)) }
 {
-    let v = x.value;
     if is_unqueued(t, q) {
-        return is_stored(e, v);
+        is_stored(e, x.value)
+    } else {
+        x.value.is_void() && !x.updated
     }
-    if v.is_void() {
-        return !x.updated;
-    }
-    false
 }
 
+#[tactic(auto, using(laws::proofs::Choosing::tests), unfolding(rules::specs::Sound::element_sound, crate::specs::Only::only_required))]
 fn element_sound(e: u8, t: RequiredConfs, q: u8, x: Element) -> bool
     ensures { result ≡ element_sound (only_required e t) q x }
 {
-    if element_holds(e, t, q, x) {
-        let conf = t.get(q);
-        let queue = x.queue;
-        return values_sound(conf.capacity, queue);
-    }
-    false
+    element_holds(e, t, q, x) && values_sound(t.get(q).capacity, x.queue)
 }
 
 // How a call ends without an answer: Timeout or ServerErr.
@@ -265,334 +178,215 @@ fn is_unanswered(kind: u8) -> bool
 }
 
 // A payload, Timeout or ServerErr.
+#[tactic(auto, using(laws::proofs::Choosing::tests), unfolding(rules::specs::Sound::is_outcome))]
 fn is_outcome(v: Value) -> bool
     ensures { result ≡ is_outcome v }
 {
-    if v.is_payload() {
-        return true;
-    }
-    if is_unanswered(v.kind) {
-        return v.number == 0;
-    }
-    false
+    v.is_payload() || (is_unanswered(v.kind) && v.number == 0)
 }
 
 // A Calling operation is there.
+#[tactic(auto, using(laws::proofs::Choosing::tests), unfolding(rules::specs::Sound::calling_sound, laws::specs::Choice::all_of, crate::specs::Only::only_operations))]
 fn calling_sound(t: OperationConfs, o: u8, x: Operation) -> bool
     ensures { result ≡ calling_sound (only_operations t) o x }
 {
-    if o >= t.n {
-        return false;
-    }
-    let conf = t.get(o);
-    if x.count > conf.timeout {
-        return false;
-    }
-    let v = x.done;
-    v.is_void()
+    o < t.n && x.count <= t.get(o).timeout && x.done.is_void()
 }
 
 // A Done operation; one that isn't there is blank.
+#[tactic(auto, using(laws::proofs::Choosing::tests), unfolding(rules::specs::Sound::done_sound, crate::specs::Only::only_operations))]
 fn done_sound(t: OperationConfs, o: u8, x: Operation) -> bool
     ensures { result ≡ done_sound (only_operations t) o x }
 {
-    let v = x.done;
-    if x.count != 0 {
-        return false;
-    }
     if o < t.n {
-        return is_outcome(v);
+        x.count == 0 && is_outcome(x.done)
+    } else {
+        x.count == 0 && x.number == 0 && x.done.is_void()
     }
-    if x.number == 0 {
-        return v.is_void();
-    }
-    false
 }
 
+#[tactic(auto, using(laws::proofs::Choosing::tests), unfolding(rules::specs::Sound::operation_sound, rules::specs::Sound::calling_sound, rules::specs::Sound::done_sound, crate::specs::Only::only_operations))]
 fn operation_sound(t: OperationConfs, o: u8, x: Operation) -> bool
     ensures { result ≡ operation_sound (only_operations t) o x }
 {
     if x.calling {
-        return calling_sound(t, o, x);
+        calling_sound(t, o, x)
+    } else {
+        done_sound(t, o, x)
     }
-    done_sound(t, o, x)
 }
 
+#[tactic(auto, using(laws::proofs::Choosing::tests), unfolding(rules::specs::Sound::timer_sound, crate::specs::Only::only_timers))]
 fn timer_sound(t: TimerConfs, k: u8, x: Timer) -> bool
     ensures { result ≡ timer_sound (only_timers t) k x }
 {
-    let conf = t.get(k);
-    x.count <= conf.period
+    x.count <= t.get(k).period
 }
 
 // ---- one slot at a time
 
 // Nothing to wait for.
+#[tactic(auto, using(laws::proofs::Choosing::tests), unfolding(rules::specs::Sound::is_no_awaited, laws::specs::Choice::all_of))]
 fn is_no_awaited(a: Awaited) -> bool
     ensures { result ≡ is_no_awaited a }
 {
-    a.part == 0 && (a.on == 0 && a.left == 0)
+    a.part == 0 && a.on == 0 && a.left == 0
 }
 
 // A waiter's operation is there, is synchronous, and belongs to the waiter's component; its count is the call's, and none is here.
+#[tactic(auto, using(laws::proofs::Choosing::tests), unfolding(rules::specs::Sound::waits_well, laws::specs::Choice::all_of))]
 fn waits_well(cfg: Config, l: Life) -> bool
     ensures { result ≡ waits_well cfg l }
 {
-    let t = cfg.operations;
     let a = l.awaited;
-    let o = a.on;
-    if o >= t.n {
-        return false;
-    }
-    let x = t.get(o);
-    if x.asynchronous {
-        return false;
-    }
-    let rs = cfg.runnables;
-    let r = rs.get(l.runnable);
-    if x.component != r.component {
-        return false;
-    }
-    a.left == 0
+    let x = cfg.operations.get(a.on);
+    a.on < cfg.operations.n
+        && !x.asynchronous
+        && x.component == cfg.runnables.get(l.runnable).component
+        && a.left == 0
 }
 
 // The element that holds an instance is there, is queued, and belongs to its component; its count is an hour at most.
+#[tactic(auto, using(laws::proofs::Choosing::tests), unfolding(rules::specs::Sound::held_well, laws::specs::Choice::all_of))]
 fn held_well(cfg: Config, l: Life) -> bool
     ensures { result ≡ held_well cfg l }
 {
-    let t = cfg.required;
     let a = l.awaited;
-    let q = a.on;
-    if q >= t.n {
-        return false;
-    }
-    if !entries::is_queued(cfg, q) {
-        return false;
-    }
-    let x = t.get(q);
-    let rs = cfg.runnables;
-    let r = rs.get(l.runnable);
-    if x.component != r.component {
-        return false;
-    }
-    a.left <= Entry::MAX_TIME
+    a.on < cfg.required.n
+        && entries::is_queued(cfg, a.on)
+        && cfg.required.get(a.on).component == cfg.runnables.get(l.runnable).component
+        && a.left <= Entry::MAX_TIME
 }
 
 // An instance waits well on an operation, or is held well on an element, or waits for nothing.
+#[tactic(auto, using(laws::proofs::Choosing::tests), unfolding(rules::specs::Sound::awaits_well))]
 fn awaits_well(cfg: Config, l: Life) -> bool
     ensures { result ≡ awaits_well cfg l }
 {
-    let a = l.awaited;
-    if a.part == numbers::TAG_OPERATION {
-        return waits_well(cfg, l);
+    match l.awaited.part {
+        numbers::TAG_OPERATION => waits_well(cfg, l),
+        numbers::TAG_REQUIRED => held_well(cfg, l),
+        _ => is_no_awaited(l.awaited),
     }
-    if a.part == numbers::TAG_REQUIRED {
-        return held_well(cfg, l);
-    }
-    is_no_awaited(a)
 }
 
 // A plain instance is never finished.
 fn finishes_well(cfg: Config, l: Life) -> bool
     ensures { result ≡ either (not l.finished) (is_server cfg l.runnable) }
 {
-    if l.finished {
-        return entries::is_server(cfg, l.runnable);
-    }
-    true
+    !l.finished || entries::is_server(cfg, l.runnable)
 }
 
+#[tactic(auto, using(laws::proofs::Choosing::tests), unfolding(rules::specs::Sound::life_sound, laws::specs::Choice::all_of))]
 fn life_sound(cfg: Config, l: Life) -> bool
     ensures { result ≡ life_sound cfg l }
 {
-    let t = cfg.runnables;
-    if l.runnable >= t.n {
-        return false;
-    }
-    if !finishes_well(cfg, l) {
-        return false;
-    }
-    awaits_well(cfg, l)
+    l.runnable < cfg.runnables.n && finishes_well(cfg, l) && awaits_well(cfg, l)
 }
 
 // A server's instance has a client until it is finished.
 fn owes(cfg: Config, l: Life) -> bool
     ensures { result ≡ both (is_server cfg l.runnable) (not l.finished) }
 {
-    if entries::is_server(cfg, l.runnable) {
-        return !l.finished;
-    }
-    false
+    entries::is_server(cfg, l.runnable) && !l.finished
 }
 
+#[tactic(auto, using(laws::proofs::Choosing::tests), unfolding(rules::specs::Sound::owed_sound, rules::specs::Sound::client_fits, crate::specs::Only::only_operations))]
 fn owed_sound(cfg: Config, l: Life, w: Owed) -> bool
     ensures { result ≡ owed_sound cfg l w }
 {
-    let c = w.client;
     if w.serving {
-        if owes(cfg, l) {
-            let t = cfg.operations;
-            return client_fits(t, l.runnable, c);
-        }
-        return false;
+        owes(cfg, l) && client_fits(cfg.operations, l.runnable, w.client)
+    } else {
+        !owes(cfg, l) && is_no_client(w.client)
     }
-    if owes(cfg, l) {
-        return false;
-    }
-    is_no_client(c)
 }
 
 // An area in a stack is there, and of the instance's component.
+#[tactic(auto, using(laws::proofs::Choosing::tests), unfolding(rules::specs::Sound::area_fits, crate::specs::Only::only_areas))]
 fn area_fits(t: AreaConfs, component: u8, a: u8) -> bool
     ensures { result ≡ area_fits (only_areas t) component a }
 {
-    if a < t.n {
-        let x = t.get(a);
-        return x.component == component;
-    }
-    false
+    a < t.n && t.get(a).component == component
 }
 
 // The area at place j of a stack, or 0 past the last place.
 fn area_at(s: Stack, j: u8) -> u8
     ensures { result ≡ slice_index s.at j }
 {
-    let k = j as usize;
-    if k < AreaConfs::MAX {
-        return s.at[k];
-    }
-    0
+    s.at.get(j as usize).copied().unwrap_or(0)
 }
 
-// One place of a stack: a fitting area, or blank above the top.
-fn area_filled(t: AreaConfs, component: u8, s: Stack, j: u8) -> bool
-    ensures { result ≡ place_filled (area_fits (only_areas t) component) is_zero 0 s.held s.at j }
-{
-    let a = area_at(s, j);
-    if j < s.held {
-        return area_fits(t, component, a);
-    }
-    a == 0
-}
-
-fn stack_filled(t: AreaConfs, component: u8, s: Stack) -> bool
-    ensures { result ≡ filled (area_fits (only_areas t) component) is_zero 0 max_area_confs s.held s.at }
-{
-    let mut j: u8 = 0;
-    while j < AREAS {
-        if area_filled(t, component, s, j) {
-            j = j + 1;
-        } else {
-            return false;
-        }
-    }
-    true
-}
-
+// The areas of a stack fit, and the places above its top are blank.
 fn stack_sound(cfg: Config, l: Life, s: Stack) -> bool
     ensures { result ≡ stack_sound cfg l s }
 {
-    if s.held <= AREAS {
-        let rs = cfg.runnables;
-        let r = rs.get(l.runnable);
-        let t = cfg.areas;
-        return stack_filled(t, r.component, s);
-    }
-    false
-}
-
-// Every place of a stack is blank.
-fn stack_blank(s: Stack) -> bool
-    ensures { result ≡ filled is_zero is_zero 0 max_area_confs 0 s.at }
-{
-    let mut j: u8 = 0;
-    while j < AREAS {
-        if area_at(s, j) == 0 {
-            j = j + 1;
-        } else {
-            return false;
-        }
-    }
-    true
+    let component = cfg.runnables.get(l.runnable).component;
+    s.held <= AREAS
+        && filled(
+            &s.at,
+            s.held,
+            |a| area_fits(cfg.areas, component, *a),
+            |a| *a == 0,
+        )
 }
 
 // The life of no instance.
+#[tactic(auto, using(laws::proofs::Choosing::tests), unfolding(rules::specs::Sound::is_no_life, laws::specs::Choice::all_of))]
 fn is_no_life(l: Life) -> bool
     ensures { result ≡ is_no_life l }
 {
-    if l.runnable != 0 {
-        return false;
-    }
-    let a = l.awaited;
-    if !is_no_awaited(a) {
-        return false;
-    }
-    if l.finished {
-        return false;
-    }
-    !l.failed
+    l.runnable == 0 && is_no_awaited(l.awaited) && !l.finished && !l.failed
 }
 
 // Nobody is owed.
+#[tactic(auto, using(laws::proofs::Choosing::tests), unfolding(rules::specs::Sound::is_no_owed))]
 fn is_no_owed(w: Owed) -> bool
     ensures { result ≡ is_no_owed w }
 {
-    if w.serving {
-        return false;
-    }
-    let c = w.client;
-    is_no_client(c)
+    !w.serving && is_no_client(w.client)
 }
 
 // No area is held.
 fn is_no_stack(s: Stack) -> bool
     ensures { result ≡ is_no_stack s }
 {
-    s.held == 0 && stack_blank(s)
+    s.held == 0 && s.at.iter().all(|a| *a == 0)
 }
 
 // An empty slot is blank.
+#[tactic(auto, using(laws::proofs::Choosing::tests), unfolding(rules::specs::Sound::is_no_slot, laws::specs::Choice::all_of))]
 fn is_no_slot(x: Slot) -> bool
     ensures { result ≡ is_no_slot x }
 {
-    let l = x.life;
-    let w = x.owed;
-    let s = x.stack;
-    is_no_life(l) && (is_no_owed(w) && is_no_stack(s))
+    is_no_life(x.life) && is_no_owed(x.owed) && is_no_stack(x.stack)
 }
 
+#[tactic(auto, using(laws::proofs::Choosing::tests), unfolding(rules::specs::Sound::slot_sound, laws::specs::Choice::all_of))]
 fn slot_sound(cfg: Config, x: Slot) -> bool
     ensures { result ≡ slot_sound cfg x }
 {
     if x.used {
-        let l = x.life;
-        if !life_sound(cfg, l) {
-            return false;
-        }
-        let w = x.owed;
-        if !owed_sound(cfg, l, w) {
-            return false;
-        }
-        let s = x.stack;
-        return stack_sound(cfg, l, s);
+        life_sound(cfg, x.life)
+            && owed_sound(cfg, x.life, x.owed)
+            && stack_sound(cfg, x.life, x.stack)
+    } else {
+        is_no_slot(x)
     }
-    is_no_slot(x)
 }
 
 // ---- the copies of one slot
 
 // The instance of a slot has a copy at place j: its runnable lists an element there.
+#[tactic(auto, using(laws::proofs::Choosing::tests), unfolding(rules::specs::Sound::has_copy))]
 fn has_copy(t: Lists, x: Slot, j: u8) -> bool
     ensures { result ≡ has_copy t x j }
 {
-    if x.used {
-        let l = x.life;
-        return t.lists_at(l.runnable, j);
-    }
-    false
+    x.used && t.lists_at(x.life.runnable, j)
 }
 
 // Nothing came, and nothing was set.
+#[tactic(auto, using(laws::proofs::Choosing::tests), unfolding(rules::specs::Sound::is_no_copy))]
 fn is_no_copy(v: Value) -> bool
     ensures { result ≡ is_no_copy v }
 {
@@ -600,47 +394,39 @@ fn is_no_copy(v: Value) -> bool
 }
 
 // A place for a copy holds what an unqueued element may hold, or is blank if the instance has no copy there.
+#[tactic(auto, using(laws::proofs::Choosing::tests), unfolding(rules::specs::Sound::copy_sound))]
 fn copy_sound(e: u8, t: Lists, x: Slot, c: Copies, j: u8) -> bool
     ensures { result ≡ copy_sound e t x c j }
 {
     let v = c.get(j);
     if has_copy(t, x, j) {
-        return is_stored(e, v);
+        is_stored(e, v)
+    } else {
+        is_no_copy(v)
     }
-    is_no_copy(v)
 }
 
 // Every place for a copy of a slot, by one list.
 fn copies_sound(e: u8, t: Lists, x: Slot, c: Copies) -> bool
     ensures { result ≡ copies_sound e t x c }
 {
-    let mut j: u8 = 0;
-    while j < Lists::MAX_LISTED {
-        if copy_sound(e, t, x, c, j) {
-            j = j + 1;
-        } else {
-            return false;
-        }
-    }
-    true
+    (0..Lists::MAX_LISTED).all(|j| copy_sound(e, t, x, c, j))
 }
 
 // One slot of the walk: it by itself, and the copies of its instance, by the one list and the other.
+#[tactic(auto, using(laws::proofs::Choosing::tests), unfolding(crate::specs::Walk::slot_walked))]
 fn slot_walked(cfg: Config, x: Slot, i: Copies, o: Copies) -> bool
     ensures { result ≡ slot_walked cfg x i o }
 {
-    if !slot_sound(cfg, x) {
-        return false;
-    }
-    if !copies_sound(cfg.edition, cfg.incoming, x, i) {
-        return false;
-    }
-    copies_sound(cfg.edition, cfg.outgoing, x, o)
+    slot_sound(cfg, x)
+        && copies_sound(cfg.edition, cfg.incoming, x, i)
+        && copies_sound(cfg.edition, cfg.outgoing, x, o)
 }
 
 // ---- the tally of the slots
 
 // The clients that instances serve, by operation and number, in the order of the slots; the first `n` places are in use.
+// Kept: two arrays and a count, since the definitions no_tally, noting and noted_at (specs/Tally.antt) name these three fields.
 #[derive(Clone, Copy)]
 struct Noted {
     n: u8,
@@ -679,172 +465,133 @@ impl Tally {
 }
 
 // What the walk comes to: whether every slot is sound, with its copies, and if so the tally of all.
+// Kept: no Option of a tally, since the definition walk_of (specs/Walk.antt) and the lemmas rest-is and slot-fails (proofs/Test.antt) are of a Walked.
 #[derive(Clone, Copy)]
 struct Walked {
     sound: bool,
     tally: Tally,
 }
 
-// One instance more of the runnable r, if the slot is in use.
-fn counted(l: [u8; RunnableConfs::MAX], used: bool, r: u8) -> [u8; RunnableConfs::MAX]
-    ensures { result ≡ counted l used r }
+// One more at place i, if so: an instance of a runnable, or a waiter of an operation.
+fn counted<const N: usize>(l: [u8; N], more: bool, i: u8) -> [u8; N]
+    ensures { result ≡ counted l.entry more i }
 {
-    let k = r as usize;
-    if used {
-        if k < RunnableConfs::MAX {
-            let mut t = l;
-            t[k] = state::up_one(l[k]);
-            return t;
-        }
-        return l;
+    let k = i as usize;
+    let mut t = l;
+    if more && k < N {
+        t[k] = state::up_one(l[k]);
     }
-    l
-}
-
-// One waiter more of the operation o, if the instance waits.
-fn counted_waiter(l: [u8; OperationConfs::MAX], waiting: bool, o: u8) -> [u8; OperationConfs::MAX]
-    ensures { result ≡ counted l waiting o }
-{
-    let k = o as usize;
-    if waiting {
-        if k < OperationConfs::MAX {
-            let mut t = l;
-            t[k] = state::up_one(l[k]);
-            return t;
-        }
-        return l;
-    }
-    l
+    t
 }
 
 // The area a once more.
+// Kept: not one function with counted, since its counts are wider and the definition entered (specs/Tally.antt) is of a Held; it would take a trait of numbers that wrap.
 fn entered(l: Held, a: u8) -> Held
     ensures { result ≡ entered l a }
 {
     let k = a as usize;
+    let mut t = l;
     if k < AreaConfs::MAX {
-        let mut t = l;
-        t.at[k] = std::num::wrapping_add_u16(l.at[k], 1);
-        return t;
+        t.at[k] = l.at[k].wrapping_add(1);
     }
-    l
+    t
 }
 
 // Every area of a stack once more.
 fn held_by(l: Held, s: Stack) -> Held
     ensures { result ≡ held_below s s.held l }
 {
-    let n = s.held;
     let mut t = l;
-    let mut j: u8 = 0;
-    while j < n {
+    for j in 0..s.held {
         t = entered(t, area_at(s, j));
-        j = j + 1;
     }
     t
 }
 
 // The client of an instance, if it serves one.
+#[tactic(auto, using(laws::proofs::Choosing::tests), unfolding(crate::specs::Tally::noting))]
 fn noting(l: Noted, w: Owed) -> Noted
     ensures { result ≡ noting l w }
 {
-    if w.serving {
-        let c = w.client;
-        let k = l.n as usize;
-        let mut t = l;
-        t.n = state::up_one(l.n);
-        if k < Slots::MAX {
-            t.operations[k] = c.operation;
-            t.numbers[k] = c.number;
-            return t;
-        }
-        return t;
+    if !w.serving {
+        return l;
     }
-    l
+    let k = l.n as usize;
+    let mut t = Noted {
+        n: state::up_one(l.n),
+        ..l
+    };
+    if k < Slots::MAX {
+        t.operations[k] = w.client.operation;
+        t.numbers[k] = w.client.number;
+    }
+    t
 }
 
 // The tally with one slot more.
 fn tallied(t: Tally, x: Slot) -> Tally
     ensures { result ≡ tallied t x }
 {
-    let instances = t.instances;
-    let waiters = t.waiters;
-    let held = t.held;
-    let clients = t.noted;
-    let l = x.life;
-    let a = l.awaited;
-    let w = x.owed;
-    let s = x.stack;
+    let a = x.life.awaited;
     Tally {
-        instances: counted(instances, x.used, l.runnable),
-        waiters: counted_waiter(waiters, a.part == numbers::TAG_OPERATION, a.on),
-        held: held_by(held, s),
-        noted: noting(clients, w),
+        instances: counted(t.instances, x.used, x.life.runnable),
+        waiters: counted(t.waiters, a.part == numbers::TAG_OPERATION, a.on),
+        held: held_by(t.held, x.stack),
+        noted: noting(t.noted, x.owed),
     }
 }
 
 // ---- clients
 
+#[tactic(auto, using(laws::proofs::Choosing::tests), unfolding(rules::specs::Sound::is_client))]
 fn is_client(o: u8, m: u16, c: Client) -> bool
     ensures { result ≡ is_client o m c }
 {
-    if c.operation == o {
-        return c.number == m;
-    }
-    false
+    c.operation == o && c.number == m
 }
 
 // How many requests of a queue have the operation o and the number m.
-fn queued_as(o: u8, m: u16, q: Requests) -> u8
+fn queued_as(o: u8, m: u16, q: Requests) -> usize
     ensures { result ≡ queued_as o m q }
 {
-    let l = q.queued;
-    let mut n: u8 = 0;
-    let mut j: u8 = 0;
-    while j < l {
-        n = n + bit(is_client(o, m, q.get(j)));
-        j = j + 1;
-    }
-    n
+    (0..q.queued).filter(|j| is_client(o, m, q.get(*j))).count()
 }
 
 // The client noted at place j, without its argument.
+#[tactic(auto, using(laws::proofs::Choosing::tests), unfolding(crate::specs::Tally::noted_at))]
 fn noted_at(l: Noted, j: u8) -> Client
     ensures { result ≡ noted_at l j }
 {
     let k = j as usize;
     if k < Slots::MAX {
-        return Client {
+        Client {
             operation: l.operations[k],
             number: l.numbers[k],
             argument: Value::VOID,
-        };
+        }
+    } else {
+        Client::BLANK
     }
-    Client::BLANK
 }
 
 // How many of the clients noted do.
-fn noted_as(o: u8, m: u16, l: Noted) -> u8
+fn noted_as(o: u8, m: u16, l: Noted) -> usize
     ensures { result ≡ noted_as o m l }
 {
-    let k = l.n;
-    let mut n: u8 = 0;
-    let mut j: u8 = 0;
-    while j < k {
-        n = n + bit(is_client(o, m, noted_at(l, j)));
-        j = j + 1;
-    }
-    n
+    (0..l.n)
+        .filter(|j| is_client(o, m, noted_at(l, *j)))
+        .count()
 }
 
 // How many do in a queue and among the clients noted.
-fn clients_with(q: Requests, l: Noted, o: u8, m: u16) -> u16
+fn clients_with(q: Requests, l: Noted, o: u8, m: u16) -> usize
     ensures { result ≡ clients_with q l o m }
 {
-    queued_as(o, m, q) as u16 + noted_as(o, m, l) as u16
+    queued_as(o, m, q) + noted_as(o, m, l)
 }
 
 // A client shares operation and number with no other of a queue and of those noted.
+#[tactic(auto, using(laws::proofs::Choosing::tests), unfolding(crate::specs::Walk::client_alone))]
 fn client_alone(q: Requests, l: Noted, c: Client) -> bool
     ensures { result ≡ client_alone q l c }
 {
@@ -855,91 +602,56 @@ fn client_alone(q: Requests, l: Noted, c: Client) -> bool
 fn queue_alone(q: Requests, l: Noted) -> bool
     ensures { result ≡ queue_alone q l }
 {
-    let n = q.queued;
-    let mut j: u8 = 0;
-    while j < n {
-        if client_alone(q, l, q.get(j)) {
-            j = j + 1;
-        } else {
-            return false;
-        }
-    }
-    true
+    (0..q.queued).all(|j| client_alone(q, l, q.get(j)))
 }
 
 // The queue that the clients of the operation o wait in.
+#[tactic(auto, using(laws::proofs::Choosing::tests), unfolding(crate::specs::Walk::queue_of, crate::specs::Only::only_operations))]
 fn queue_of(confs: OperationConfs, rs: Runnables, o: u8) -> Requests
     ensures { result ≡ queue_of (only_operations confs) rs o }
 {
-    let conf = confs.get(o);
-    let k = conf.server as usize;
-    if k < RunnableConfs::MAX {
-        let x = rs.at[k];
-        return x.requests;
-    }
-    Requests::BLANK
+    rs.get(confs.get(o).server).requests
 }
 
 // Every client noted, against those noted: one that waits in a queue too is found there.
 fn noted_alone(l: Noted) -> bool
     ensures { result ≡ noted_alone l }
 {
-    let n = l.n;
-    let mut j: u8 = 0;
-    while j < n {
-        if client_alone(Requests::BLANK, l, noted_at(l, j)) {
-            j = j + 1;
-        } else {
-            return false;
-        }
-    }
-    true
+    (0..l.n).all(|j| client_alone(Requests::BLANK, l, noted_at(l, j)))
 }
 
 // ---- one part against the tally
 
 // A runnable by itself; it counts n instances, as many as it has slots; and each of its clients is alone.
+#[tactic(auto, using(laws::proofs::Choosing::tests), unfolding(crate::specs::Walk::runnable_tallied))]
 fn runnable_tallied(cfg: Config, l: Noted, n: u8, r: u8, x: Runnable) -> bool
     ensures { result ≡ runnable_tallied cfg l n r x }
 {
-    if !runnable_sound(cfg, r, x) {
-        return false;
-    }
-    if x.instances == n {
-        let q = x.requests;
-        return queue_alone(q, l);
-    }
-    false
+    runnable_sound(cfg, r, x) && x.instances == n && queue_alone(x.requests, l)
 }
 
 // A taken area is there and stands in all stacks together once, a free one not at all.
+#[tactic(auto, using(laws::proofs::Choosing::tests), unfolding(crate::specs::Walk::area_tallied))]
 fn area_tallied(n: u8, held: u16, a: u8, x: Area) -> bool
     ensures { result ≡ area_tallied n held a x }
 {
     if x.taken {
-        if a < n {
-            return held == 1;
-        }
-        return false;
+        a < n && held == 1
+    } else {
+        held == 0
     }
-    held == 0
 }
 
 // The n waiters of an operation: one at most, and one while a synchronous call is open.
+#[tactic(auto, using(laws::proofs::Choosing::tests), unfolding(crate::specs::Walk::waiter_tallied, crate::specs::Only::only_operations))]
 fn waiter_tallied(confs: OperationConfs, n: u8, o: u8, x: Operation) -> bool
     ensures { result ≡ waiter_tallied (only_operations confs) n o x }
 {
-    if n > 1 {
-        return false;
-    }
-    if x.calling {
-        let conf = confs.get(o);
-        return conf.asynchronous || 0 < n;
-    }
-    true
+    n <= 1 && (!x.calling || confs.get(o).asynchronous || 0 < n)
 }
 
 // An operation by itself; it has n waiters; while it is Calling, one client has its number, neither more nor fewer.
+#[tactic(auto, using(laws::proofs::Choosing::tests), unfolding(crate::specs::Walk::operation_tallied))]
 fn operation_tallied(
     confs: OperationConfs,
     rs: Runnables,
@@ -950,17 +662,9 @@ fn operation_tallied(
 ) -> bool
     ensures { result ≡ operation_tallied (only_operations confs) rs l n o x }
 {
-    if !operation_sound(confs, o, x) {
-        return false;
-    }
-    if !waiter_tallied(confs, n, o, x) {
-        return false;
-    }
-    if x.calling {
-        let q = queue_of(confs, rs, o);
-        return clients_with(q, l, o, x.number) == 1;
-    }
-    true
+    operation_sound(confs, o, x)
+        && waiter_tallied(confs, n, o, x)
+        && (!x.calling || clients_with(queue_of(confs, rs, o), l, o, x.number) == 1)
 }
 
 // ---- whole tables, each once
@@ -968,128 +672,60 @@ fn operation_tallied(
 fn runnables_tallied(cfg: Config, y: Tally, t: Runnables) -> bool
     ensures { result ≡ runnables_tallied cfg y t }
 {
-    let l = y.noted;
-    let mut k: usize = 0;
-    while k < RunnableConfs::MAX {
-        let x = t.at[k];
-        if runnable_tallied(cfg, l, y.instances[k], k as u8, x) {
-            k = k + 1;
-        } else {
-            return false;
-        }
-    }
-    true
+    (0..RUNNABLES).all(|k| runnable_tallied(cfg, y.noted, y.instances[k as usize], k, t.get(k)))
 }
 
 fn variables_sound(confs: VariableConfs, t: Variables) -> bool
     ensures { result ≡ variables_sound (only_variables confs) t }
 {
-    let mut k: u8 = 0;
-    while k < VARIABLES {
-        let x = t.get(k);
-        if variable_sound(confs, k, x) {
-            k = k + 1;
-        } else {
-            return false;
-        }
-    }
-    true
+    (0..VARIABLES).all(|k| variable_sound(confs, k, t.get(k)))
 }
 
 fn elements_sound(e: u8, confs: RequiredConfs, t: Elements) -> bool
     ensures { result ≡ elements_sound (only_required e confs) t }
 {
-    let mut k: usize = 0;
-    while k < RequiredConfs::MAX {
-        let x = t.at[k];
-        if element_sound(e, confs, k as u8, x) {
-            k = k + 1;
-        } else {
-            return false;
-        }
-    }
-    true
+    (0..ELEMENTS).all(|k| element_sound(e, confs, k, t.get(k)))
 }
 
 fn operations_tallied(confs: OperationConfs, rs: Runnables, y: Tally, t: Operations) -> bool
     ensures { result ≡ operations_tallied (only_operations confs) rs y t }
 {
-    let l = y.noted;
-    let mut k: usize = 0;
-    while k < OperationConfs::MAX {
-        let x = t.at[k];
-        if operation_tallied(confs, rs, l, y.waiters[k], k as u8, x) {
-            k = k + 1;
-        } else {
-            return false;
-        }
-    }
-    true
+    (0..OPERATIONS).all(|k| operation_tallied(
+        confs,
+        rs,
+        y.noted,
+        y.waiters[k as usize],
+        k,
+        t.get(k),
+    ))
 }
 
 fn timers_sound(confs: TimerConfs, t: Timers) -> bool
     ensures { result ≡ timers_sound (only_timers confs) t }
 {
-    let mut k: u8 = 0;
-    while k < TIMERS {
-        let x = t.get(k);
-        if timer_sound(confs, k, x) {
-            k = k + 1;
-        } else {
-            return false;
-        }
-    }
-    true
+    (0..TIMERS).all(|k| timer_sound(confs, k, t.get(k)))
 }
 
 fn areas_tallied(n: u8, held: Held, t: Areas) -> bool
     ensures { result ≡ areas_tallied n held t }
 {
-    let mut k: usize = 0;
-    while k < AreaConfs::MAX {
-        let x = t.at[k];
-        if area_tallied(n, held.at[k], k as u8, x) {
-            k = k + 1;
-        } else {
-            return false;
-        }
-    }
-    true
+    (0..AREAS).all(|k| area_tallied(n, held.at[k as usize], k, t.get(k)))
 }
 
 // ---- the whole state
 
 // What is left to test when the slots are: each part by itself and against the tally.
+#[tactic(auto, using(crate::proofs::Whole::only), unfolding(laws::specs::Choice::all_of))]
 fn rest_sound(cfg: Config, st: State, y: Tally) -> bool
     ensures { result ≡ all_of (rest_tests cfg st y) }
 {
-    let runnables = st.runnables;
-    let operations = st.operations;
-    if !runnables_tallied(cfg, y, runnables) {
-        return false;
-    }
-    let variables = st.variables;
-    if !variables_sound(cfg.variables, variables) {
-        return false;
-    }
-    let elements = st.elements;
-    if !elements_sound(cfg.edition, cfg.required, elements) {
-        return false;
-    }
-    if !operations_tallied(cfg.operations, runnables, y, operations) {
-        return false;
-    }
-    let timers = st.timers;
-    if !timers_sound(cfg.timers, timers) {
-        return false;
-    }
-    let areas = st.areas;
-    let held = y.held;
-    if !areas_tallied(cfg.areas.n, held, areas) {
-        return false;
-    }
-    let l = y.noted;
-    noted_alone(l)
+    runnables_tallied(cfg, y, st.runnables)
+        && variables_sound(cfg.variables, st.variables)
+        && elements_sound(cfg.edition, cfg.required, st.elements)
+        && operations_tallied(cfg.operations, st.runnables, y, st.operations)
+        && timers_sound(cfg.timers, st.timers)
+        && areas_tallied(cfg.areas.n, y.held, st.areas)
+        && noted_alone(y.noted)
 }
 
 // The one walk over the slots: each by itself with its copies, and its part of the tally.
@@ -1097,20 +733,15 @@ fn walk(cfg: Config, slots: Slots, incoming: Copied, outgoing: Copied) -> Walked
     ensures { result ≡ walk_of cfg slots incoming outgoing }
 {
     let mut t = Tally::BLANK;
-    let mut k: usize = 0;
-    while k < Slots::MAX {
+    for k in 0..Slots::MAX {
         let x = slots.at[k];
-        let i = incoming.at[k];
-        let o = outgoing.at[k];
-        if slot_walked(cfg, x, i, o) {
-            t = tallied(t, x);
-            k = k + 1;
-        } else {
+        if !slot_walked(cfg, x, incoming.at[k], outgoing.at[k]) {
             return Walked {
                 sound: false,
                 tally: Tally::BLANK,
             };
         }
+        t = tallied(t, x);
     }
     Walked {
         sound: true,
@@ -1125,11 +756,6 @@ pub fn is_sound(cfg: Config, st: State) -> bool
     if !entries::config_sound(cfg) {
         return false;
     }
-    let slots = st.slots;
-    let w = walk(cfg, slots, st.incoming, st.outgoing);
-    if w.sound {
-        let y = w.tally;
-        return rest_sound(cfg, st, y);
-    }
-    false
+    let w = walk(cfg, st.slots, st.incoming, st.outgoing);
+    w.sound && rest_sound(cfg, st, w.tally)
 }

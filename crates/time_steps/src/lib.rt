@@ -99,10 +99,10 @@ fn found_empty(t: Slots) -> Option<u8>
     'search: {
         for k in 0..SLOTS {
             if !t.get(k).used {
-                break 'search Found::At(k);
+                break 'search Some(k);
             }
         }
-        Found::Nothing
+        None
     }
 }
 
@@ -115,7 +115,7 @@ pub fn spawn(cfg: Config, st: State, r: u8) -> Stepped
     if !may_spawn(c, x) {
         return shared_steps::refuse(numbers::NOT_DUE, st);
     }
-    let Found::At(k) = found_empty(st.slots) else {
+    let Some(k) = found_empty(st.slots) else {
         return shared_steps::refuse(numbers::NO_SLOT_FREE, st);
     };
     let next = State {

@@ -1,55 +1,11 @@
 -- `sound::areas_tallied` meets its contract.
 -- Assumes nothing.
-use Rattle.std.proofs.Common.{◌≡◌, length, sym, ◌∙◌, arith, rules}
-use Rattle.laws.proofs.Looping.{all_none, all_more, all-fails}
-use Rattle.laws.proofs.Places.{inside, length-mapped}
-use Rattle.state.specs.Parts.{no_area}
+use Rattle.std.proofs.Common.{ℕ, get_or, rules, tests}
 use Rattle.state.specs.Tables.{area_in}
-use Rattle.sound.specs.Walk.{areas_tallied}
-use Rattle.state.specs.Places.{place_in}
+use Rattle.sound.specs.Walk.{area_tallied, areas_tallied}
+use Rattle.sound.proofs.Ranges.{all_in}
 use Rattle.sound.proofs.areas_tallied.Goals as goal
-
-pub loop-k-init : goal.loop-k-init
-loop-k-init c = (search rules, all_none _)
-
-pub bounds-t-k : goal.bounds-t-k
-bounds-t-k c = c.loop-k-test.true
-
-pub offset_bounds-held-k : goal.offset_bounds-held-k
-offset_bounds-held-k c = omega (arith, c.loop-k-test.true)
-
-pub bounds-held-k : goal.bounds-held-k
-bounds-held-k c = c.loop-k-test.true
-
-pub overflow_cast-k : goal.overflow_cast-k
-overflow_cast-k c = omega (arith, c.loop-k-test.true)
-
-pub overflow_add-k : goal.overflow_add-k
-overflow_add-k c = omega (arith, c.loop-k-test.true)
-
-pub loop-k-smaller : goal.loop-k-smaller
-loop-k-smaller c = omega (arith, c.loop-k-test.true)
-
-pub loop-k-preserved : goal.loop-k-preserved
-unfolding place_in
-loop-k-preserved c =
-    let a = c.args in
-    let e : length a.t.at ≡ 16 = search (rules, length-mapped) in
-    let k = c.loop-k.k in
-    let b = c.loop-k-test.true in
-    (omega (arith, b), all_more _ _ c.loop-k.invariant.1 (rw (inside a.t.at k 16 _ no_area e b) at (sym c.area_tallied.ensures ∙ c.if-area_tallied.true)))
-
-pub returns-else-area_tallied : goal.returns-else-area_tallied
-unfolding areas_tallied place_in
-returns-else-area_tallied c =
-    let a = c.args in
-    let e : length a.t.at ≡ 16 = search (rules, length-mapped) in
-    let k = c.loop-k.k in
-    let b = c.loop-k-test.true in
-    sym (all-fails _ _ k b (rw (inside a.t.at k 16 _ no_area e b) at (sym c.area_tallied.ensures ∙ c.if-area_tallied.false)))
 
 pub returns : goal.returns
 unfolding areas_tallied
-returns c =
-    let e : c.loop-k.k ≡ 16 = omega (arith, c.loop-k-test.false, c.loop-k.invariant.0) in
-    sym (rw e at c.loop-k.invariant.1)
+returns c = all_in (λ (k : ℕ). area_tallied c.args.n (get_or c.args.held.at k 0) k (area_in c.args.t k)) 16 _ _ _ c.all.ensures.ran (cc) (λ x b q k. search (rules, tests))

@@ -1,12 +1,9 @@
 -- `sound::held_by` meets its contract.
 -- Assumes nothing.
-use Rattle.std.proofs.Common.{◌≡◌, ◌-◌, ◌≤◌}
+use Rattle.std.proofs.Common.{◌≡◌}
 use Rattle.sound.specs.Tally.{held_below}
 use Rattle.sound.specs.declared.Held.{Held}
 use Rattle.sound.proofs.held_by.Given as goal
 
 abbrev pub invariant-loop-j : goal.invariant-loop-j
-invariant-loop-j l = (l.j ≤ l.n) × (◌≡◌ {A = Held} l.t (held_below l.s l.j l.initial.t))
-
-abbrev pub decreases-loop-j : goal.decreases-loop-j
-decreases-loop-j l = l.n - l.j
+invariant-loop-j l = ◌≡◌ {A = Held} l.t (held_below l.s l.j l.initial.t)

@@ -31,8 +31,8 @@ returns-then-w c =
     let outgoing : length c.args.st.outgoing.at ≡ 32 = search (rules, length-mapped) in
     c.rest_sound.ensures ∙ rest-is c.args.cfg c.args.st (sym c.config_sound.ensures ∙ c.if-not-config_sound.false) (shape c.args.st runnables variables areas elements operations timers slots incoming outgoing) c.walk-w.result c.walk-w.ensures c.if-w.true
 
-pub returns : goal.returns
-returns c =
+pub returns-else-w : goal.returns-else-w
+returns-else-w c =
     let runnables : length c.args.st.runnables.at ≡ 16 = search (rules, length-mapped) in
     let variables : length c.args.st.variables.at ≡ 16 = search (rules, length-mapped) in
     let areas : length c.args.st.areas.at ≡ 16 = search (rules, length-mapped) in
@@ -42,4 +42,4 @@ returns c =
     let slots : length c.args.st.slots.at ≡ 32 = search (rules, length-mapped) in
     let incoming : length c.args.st.incoming.at ≡ 32 = search (rules, length-mapped) in
     let outgoing : length c.args.st.outgoing.at ≡ 32 = search (rules, length-mapped) in
-    sym (slot-fails c.args.cfg c.args.st (sym c.config_sound.ensures ∙ c.if-not-config_sound.false) (shape c.args.st runnables variables areas elements operations timers slots incoming outgoing) c.walk-w.result c.walk-w.ensures c.if-w.false)
+    c.if-w.false ∙ sym (slot-fails c.args.cfg c.args.st (sym c.config_sound.ensures ∙ c.if-not-config_sound.false) (shape c.args.st runnables variables areas elements operations timers slots incoming outgoing) c.walk-w.result c.walk-w.ensures c.if-w.false)

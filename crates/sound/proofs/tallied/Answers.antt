@@ -5,4 +5,4 @@ use Rattle.sound.proofs.tallied.Goals as goal
 
 pub returns : goal.returns
 unfolding tallied
-returns c = rw (c.counted.ensures, c.counted_waiter.ensures, c.held_by.ensures, c.noting.ensures)
+returns c = rw (c.counted.ensures, c.counted-2.ensures, c.held_by.ensures, c.noting.ensures)

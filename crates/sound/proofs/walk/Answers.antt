@@ -12,31 +12,7 @@ use Rattle.sound.proofs.walk.Goals as goal
 
 pub loop-k-init : goal.loop-k-init
 unfolding tally_of no_tally
-loop-k-init c = (search rules, all_none _, refl)
-
-pub offset_bounds-slots-k : goal.offset_bounds-slots-k
-offset_bounds-slots-k c = omega (arith, c.loop-k-test.true)
-
-pub bounds-slots-k : goal.bounds-slots-k
-bounds-slots-k c = c.loop-k-test.true
-
-pub offset_bounds-incoming-k : goal.offset_bounds-incoming-k
-offset_bounds-incoming-k c = omega (arith, c.loop-k-test.true)
-
-pub bounds-incoming-k : goal.bounds-incoming-k
-bounds-incoming-k c = c.loop-k-test.true
-
-pub offset_bounds-outgoing-k : goal.offset_bounds-outgoing-k
-offset_bounds-outgoing-k c = omega (arith, c.loop-k-test.true)
-
-pub bounds-outgoing-k : goal.bounds-outgoing-k
-bounds-outgoing-k c = c.loop-k-test.true
-
-pub overflow_add-k : goal.overflow_add-k
-overflow_add-k c = omega (arith, c.loop-k-test.true)
-
-pub loop-k-smaller : goal.loop-k-smaller
-loop-k-smaller c = omega (arith, c.loop-k-test.true)
+loop-k-init c = (all_none _, refl)
 
 pub loop-k-preserved : goal.loop-k-preserved
 unfolding place_in no_slot no_stack no_copies tally_of
@@ -47,21 +23,21 @@ loop-k-preserved c =
     let e2 : length a.outgoing.at ≡ 32 = search (rules, length-mapped) in
     let k = c.loop-k.k in
     let b = c.loop-k-test.true in
-    (omega (arith, b), all_more _ _ c.loop-k.invariant.1 (rw (inside a.slots.at k 32 _ no_slot e0 b, inside a.incoming.at k 32 _ no_copies e1 b, inside a.outgoing.at k 32 _ no_copies e2 b) at (sym c.slot_walked.ensures ∙ c.if-slot_walked.true)), rw (c.tallied-t.ensures, inside a.slots.at k 32 _ no_slot e0 b, c.loop-k.invariant.2, add-one))
+    (all_more _ _ c.loop-k.invariant.0 (rw (inside a.slots.at k 32 _ no_slot e0 b, inside a.incoming.at k 32 _ no_copies e1 b, inside a.outgoing.at k 32 _ no_copies e2 b) at (sym c.slot_walked.ensures ∙ c.if-not-slot_walked.false)), rw (c.tallied-t.ensures, inside a.slots.at k 32 _ no_slot e0 b, c.loop-k.invariant.1, add-one))
 
-pub returns-else-slot_walked : goal.returns-else-slot_walked
+pub returns-then-not-slot_walked : goal.returns-then-not-slot_walked
 unfolding walk_of slots_walked place_in no_slot no_stack no_copies no_tally
-returns-else-slot_walked c =
+returns-then-not-slot_walked c =
     let a = c.args in
     let e0 : length a.slots.at ≡ 32 = search (rules, length-mapped) in
     let e1 : length a.incoming.at ≡ 32 = search (rules, length-mapped) in
     let e2 : length a.outgoing.at ≡ 32 = search (rules, length-mapped) in
     let k = c.loop-k.k in
     let b = c.loop-k-test.true in
-    rw (all-fails (λ (i : ℕ). slot_walked a.cfg (slot_in a.slots i) (copies_in a.incoming i) (copies_in a.outgoing i)) 32 k b (rw (inside a.slots.at k 32 _ no_slot e0 b, inside a.incoming.at k 32 _ no_copies e1 b, inside a.outgoing.at k 32 _ no_copies e2 b) at (sym c.slot_walked.ensures ∙ c.if-slot_walked.false)))
+    rw (all-fails (λ (i : ℕ). slot_walked a.cfg (slot_in a.slots i) (copies_in a.incoming i) (copies_in a.outgoing i)) 32 k b (rw (inside a.slots.at k 32 _ no_slot e0 b, inside a.incoming.at k 32 _ no_copies e1 b, inside a.outgoing.at k 32 _ no_copies e2 b) at (sym c.slot_walked.ensures ∙ c.if-not-slot_walked.true)))
 
 pub returns : goal.returns
 unfolding walk_of slots_walked
 returns c =
-    let e : c.loop-k.k ≡ 32 = omega (arith, c.loop-k-test.false, c.loop-k.invariant.0) in
-    rw (c.loop-k.invariant.2, rw e at c.loop-k.invariant.1, e)
+    let e : c.loop-k.k ≡ 32 = omega arith in
+    rw (c.loop-k.invariant.1, rw e at c.loop-k.invariant.0, e)

@@ -12,7 +12,7 @@ pub loop-o-init : goal.loop-o-init
 loop-o-init c = rw each_none
 
 pub loop-o-preserved : goal.loop-o-preserved
-unfolding with_operation operation_in
+unfolding with_place place_in
 loop-o-preserved c = rw (c.with-u.ensures, c.operation_after.ensures, c.get.ensures, c.loop-o.invariant, each_more)
 
 pub returns : goal.returns

@@ -24,17 +24,17 @@ pub returns-then-lists_some : goal.returns-then-lists_some
 unfolding spawned
 returns-then-lists_some c =
     let a = c.args in
-    let k = c.in-At.k in
+    let k = c.in-Some.k in
     let m : may_spawn (runnable_conf_in a.cfg.runnables a.r) (runnable_in a.st.runnables a.r) ≡ true = rw (c.get-c.ensures, c.get-x.ensures) at (sym c.may_spawn.ensures ∙ c.if-not-may_spawn.false) in
     rw (c.take.ensures, c.of-slot.ensures, c.from.ensures, c.copied_to.ensures, c.with-2.ensures, c.with.ensures, c.starting.ensures, c.instance_of.ensures, c.get-x.ensures, c.get-c.ensures)
-    (sym (spawn-taken a.cfg a.st a.r k m (sym c.found_empty.ensures ∙ c.in-At.is)))
+    (sym (spawn-taken a.cfg a.st a.r k m (sym c.found_empty.ensures ∙ c.in-Some.is)))
 
 pub returns : goal.returns
 unfolding spawned
 returns c =
     let a = c.args in
-    let k = c.in-At.k in
+    let k = c.in-Some.k in
     let m : may_spawn (runnable_conf_in a.cfg.runnables a.r) (runnable_in a.st.runnables a.r) ≡ true = rw (c.get-c.ensures, c.get-x.ensures) at (sym c.may_spawn.ensures ∙ c.if-not-may_spawn.false) in
     let l : lists_some a.cfg.incoming a.r ≡ false = sym c.lists_some.ensures ∙ c.if-lists_some.false in
     rw (c.take-2.ensures, c.of-slot.ensures, c.from.ensures, c.with-2.ensures, c.with.ensures, c.starting.ensures, c.instance_of.ensures, c.get-x.ensures, c.get-c.ensures)
-    (ap (λ (s : State). took (number_v k) s) (sym (begun-unlisted a.cfg a.st a.r k l)) ∙ sym (spawn-taken a.cfg a.st a.r k m (sym c.found_empty.ensures ∙ c.in-At.is)))
+    (ap (λ (s : State). took (number_v k) s) (sym (begun-unlisted a.cfg a.st a.r k l)) ∙ sym (spawn-taken a.cfg a.st a.r k m (sym c.found_empty.ensures ∙ c.in-Some.is)))

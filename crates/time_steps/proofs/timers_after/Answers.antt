@@ -12,7 +12,7 @@ pub loop-k-init : goal.loop-k-init
 loop-k-init c = rw each_none
 
 pub loop-k-preserved : goal.loop-k-preserved
-unfolding with_timer timer_in
+unfolding with_place place_in
 loop-k-preserved c = rw (c.with-u.ensures, c.timer_after.ensures, c.get.ensures, c.loop-k.invariant, each_more)
 
 pub returns : goal.returns
