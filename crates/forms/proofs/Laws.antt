@@ -1,23 +1,21 @@
 -- Laws of the short form: how long its parts are, what the tests of a field come to, and parts put one behind another.
 -- Assumes nothing.
-use Prim.Native.Nat.{ℕ, ◌+◌, ◌<◌, ◌≤◌}
+use Prim.Native.Nat.{ℕ, ◌+◌, ◌≤◌}
 use mathlib.Core.Bool.{Bool, true, false}
 use mathlib.Core.List.{List, [], ◌∷◌, ◌++◌}
 use mathlib.Core.Path.{◌≡◌, refl, sym, ap, subst, ◌∙◌}
 use native.Mathlib.Omega.{arith}
 use lib.Dec.{leb}
 use lib.ListN.{length, get_or, length-append}
-use borrow.Author.Tests.{lt-ltb, le-ltb, le-leb, lt-leb, eq-eqb, ne_eqb}
-use Rattle.laws.specs.Choice.{pick, all_of}
+use borrow.Author.Tests.{le-leb}
+use Rattle.laws.specs.Choice.{pick}
 use Rattle.laws.proofs.Choosing.{bit-most}
 use Rattle.values.specs.declared.Value.{Value}
 use Rattle.values.specs.declared.Step.{Step}
 use Rattle.rules.specs.declared.Row.{Row}
-use Rattle.wire.specs.Bytes.{length_of, bytes32, put_at}
+use Rattle.wire.specs.Bytes.{bytes32, put_at}
 use Rattle.wire.proofs.Pieces.{Put, put-more, put_same}
-use Rattle.recording.specs.declared.Field.TheVariants.{Step as IsStep, Refused}
-use Rattle.recording.specs.Recording.{values_good}
-use Rattle.forms.specs.Short.{uses_who, uses_what, uses_argument, short_value, if_used, keeps_number, body_of, value_size, end_at, short_step_at, short_step_by, what_at, argument_at, claim_at}
+use Rattle.forms.specs.Short.{uses_who, uses_what, uses_argument, short_value, if_used, keeps_number, body_of, value_size, what_at, argument_at, claim_at}
 
 -- ---- how far a field's places are
 
@@ -67,29 +65,6 @@ body-length r s =
 pub body-most : (r : Row) (s : Step) → length (body_of r s) ≤ 13
 body-most r s =
     omega (arith, body-length r s, used-most (uses_who r) 1 1 (omega arith), used-most (uses_what r) 1 1 (omega arith), used-most (uses_argument r) (value_size s.argument.kind) 5 (value-size-most s.argument.kind), value-size-most s.claim.kind)
-
--- ---- a field by the row of its code: what its tests come to
-
-module _ (r : Row) (t : List ℕ) {n : ℕ} (e : end_at r t ≡ n) where
-  pub step-good : {s : Step} → short_step_at r t ≡ s → 0 < r.who → n ≡ 3 + length_of (get_or t 1 0) (get_or t 2 0) → n ≤ length t → values_good s ≡ true → IsStep s n ≡ short_step_by r t
-  unfolding all_of
-  step-good f a b c d = rw (e, f, lt-ltb _ _ a, eq-eqb _ _ b, le-leb _ _ c, d)
-
-  pub step-bad : {s : Step} → short_step_at r t ≡ s → 0 < r.who → n ≡ 3 + length_of (get_or t 1 0) (get_or t 2 0) → n ≤ length t → values_good s ≡ false → Refused 0 18 ≡ short_step_by r t
-  unfolding all_of
-  step-bad f a b c d = rw (e, f, lt-ltb _ _ a, eq-eqb _ _ b, le-leb _ _ c, d)
-
-  pub step_cut : 0 < r.who → n ≡ 3 + length_of (get_or t 1 0) (get_or t 2 0) → length t < n → Refused 0 18 ≡ short_step_by r t
-  unfolding all_of
-  step_cut a b c = rw (e, lt-ltb _ _ a, eq-eqb _ _ b, lt-leb _ _ c)
-
-  pub step-long : 0 < r.who → (n ≡ 3 + length_of (get_or t 1 0) (get_or t 2 0) → ⊥) → Refused 0 18 ≡ short_step_by r t
-  unfolding all_of
-  step-long a b = rw (e, lt-ltb _ _ a, ne_eqb _ _ b)
-
-pub step-none : (r : Row) (t : List ℕ) → r.who ≤ 0 → Refused 0 18 ≡ short_step_by r t
-unfolding all_of
-step-none r t a = rw (le-ltb _ _ a)
 
 -- ---- parts put one behind another
 

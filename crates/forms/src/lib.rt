@@ -1,9 +1,8 @@
 // The two forms of a recording: fields of the short form read and written, and the header.
 #![tactic(auto)]
 
-ghost use Rattle.std.specs.Prelude.{[], ◌∷◌, ◌≡◌, ◌+◌, ◌≤◌, length, get_or, drop, eqb};
-ghost use Rattle.laws.specs.Choice.{pick, either};
-ghost use Rattle.values.specs.Values.{void_v, is_void};
+ghost use Rattle.std.specs.Prelude.{[], ◌∷◌, ◌≡◌, ◌+◌, ◌≤◌, length, get_or, drop, take};
+ghost use Rattle.laws.specs.Choice.{pick};
 ghost use Rattle.wire.specs.Bytes.{put_at, Written};
 ghost use Rattle.recording.specs.Recording.{values_good, end_in};
 ghost use Rattle.forms.specs.Short.{uses_who, uses_what, uses_argument, is_sparing, has_short, keeps_number, short_value, if_used, body_of, short_bytes, short_to, short_written, value_size, short_value_at, what_at, argument_at, claim_at, short_step_at, short_step_by, short_field_of, header_bytes, is_short, is_headed};
@@ -31,10 +30,7 @@ pub const SHORT_EDITION: u8 = 2;
 fn byte_at(t: &[u8], i: usize) -> u8
     ensures { result ≡ get_or t.now i 0 }
 {
-    if i < t.len() {
-        return t[i];
-    }
-    0
+    t.get(i).copied().unwrap_or(0)
 }
 
 // A kind of value that is written with its number.
@@ -48,10 +44,7 @@ fn keeps_number(k: u8) -> bool
 fn value_size(k: u8) -> usize
     ensures { result ≡ value_size k }
 {
-    if keeps_number(k) {
-        return 5;
-    }
-    1
+    if keeps_number(k) { 5 } else { 1 }
 }
 
 // The value at a place.
@@ -95,37 +88,23 @@ fn uses_argument(r: Row) -> bool
     0 < r.argument
 }
 
-// An entry that is not used is 0.
-fn spares(used: bool, n: u8) -> bool
-    ensures { result ≡ either used (eqb n 0) }
-{
-    used || n == 0
-}
-
-// An argument that is not used is Void.
-fn spares_value(used: bool, v: Value) -> bool
-    ensures { result ≡ either used (is_void v) }
-{
-    used || v.is_void()
-}
-
 // Every entry that is not used is empty.
+#[tactic(auto, unfolding(crate::specs::Short::is_sparing, laws::specs::Choice::all_of))]
 fn is_sparing(r: Row, s: Step) -> bool
     ensures { result ≡ is_sparing r s }
 {
-    spares(uses_who(r), s.who)
-        && (spares(uses_what(r), s.what) && spares_value(uses_argument(r), s.argument))
+    (uses_who(r) || s.who == 0)
+        && (uses_what(r) || s.what == 0)
+        && (uses_argument(r) || s.argument.is_void())
 }
 
 // A step has a short form.
+#[tactic(auto, unfolding(crate::specs::Short::has_short))]
 pub fn has_short(s: Step) -> bool
     ensures { result ≡ has_short s }
 {
     let r = refusals::row_of(s.code);
-    if 0 < r.who {
-        return is_sparing(r, s);
-    }
-    false
+    0 < r.who && is_sparing(r, s)
 }
 
 // ---- a field of the short form read
@@ -134,20 +113,15 @@ pub fn has_short(s: Step) -> bool
 fn what_at(r: Row) -> usize
     ensures { result ≡ what_at r }
 {
-    if uses_who(r) {
-        return 5;
-    }
-    4
+    if uses_who(r) { 5 } else { 4 }
 }
 
 // Where the argument stands: behind what.
 fn argument_at(r: Row) -> usize
     ensures { result ≡ argument_at r }
 {
-    if uses_what(r) {
-        return what_at(r) + 1;
-    }
-    what_at(r)
+    let what = what_at(r);
+    if uses_what(r) { what + 1 } else { what }
 }
 
 // Where the claim stands: behind the argument.
@@ -156,116 +130,102 @@ fn claim_at(r: Row, t: &[u8]) -> usize
 {
     let at = argument_at(r);
     if uses_argument(r) {
-        return at + value_size(byte_at(t, at));
+        at + value_size(byte_at(t, at))
+    } else {
+        at
     }
-    at
-}
-
-// The byte at a place if it is used, else 0.
-fn used_at(t: &[u8], used: bool, i: usize) -> u8
-    ensures { result ≡ pick used (get_or t.now i 0) 0 }
-{
-    if used {
-        return byte_at(t, i);
-    }
-    0
-}
-
-// The value at a place if it is used, else Void.
-fn used_value_at(t: &[u8], used: bool, i: usize) -> Value
-    requires { i ≤ 16 }
-    ensures { result ≡ pick used (short_value_at t.now i) void_v }
-{
-    if used {
-        return value_at(t, i);
-    }
-    Value::VOID
 }
 
 // Neither the argument nor the claim is a bad value.
+#[tactic(auto, unfolding(recording::specs::Recording::values_good))]
 fn values_good(s: Step) -> bool
     ensures { result ≡ values_good s }
 {
-    let argument = s.argument;
-    let claim = s.claim;
-    argument.is_good() && claim.is_good()
+    s.argument.is_good() && s.claim.is_good()
 }
 
 // The end field at the front of a text: nothing follows it.
+#[tactic(auto, unfolding(recording::specs::Recording::end_in))]
 fn end_in(t: &[u8]) -> Field
     ensures { result ≡ end_in t.now }
 {
     if t.len() == numbers::SIZE_END {
-        return Field::End;
+        Field::End
+    } else {
+        Field::Refused(1, numbers::BAD_FIELD)
     }
-    Field::Refused(1, numbers::BAD_FIELD)
 }
 
-// The step whose field stands first.
+// The step whose field stands first; entries that its code does not use are empty.
 fn step_at(r: Row, t: &[u8]) -> Step
     ensures { result ≡ short_step_at r t.now }
 {
+    let who = if uses_who(r) { byte_at(t, 4) } else { 0 };
+    let what = if uses_what(r) {
+        byte_at(t, what_at(r))
+    } else {
+        0
+    };
+    let argument = if uses_argument(r) {
+        value_at(t, argument_at(r))
+    } else {
+        Value::VOID
+    };
     Step {
         code: byte_at(t, 3),
-        who: used_at(t, uses_who(r), 4),
-        what: used_at(t, uses_what(r), what_at(r)),
-        argument: used_value_at(t, uses_argument(r), argument_at(r)),
+        who,
+        what,
+        argument,
         claim: value_at(t, claim_at(r, t)),
     }
 }
 
 // The field of a step, by the row of its code: a known code, the exact length, all of it there, good values.
+#[tactic(auto, unfolding(laws::specs::Choice::all_of))]
 fn step_by(r: Row, t: &[u8]) -> Field
     ensures { result ≡ short_step_by r t.now }
 {
     let at = claim_at(r, t);
     let end = at + value_size(byte_at(t, at));
-    if 0 < r.who {
-        if end == numbers::HEAD + wire::length_of(byte_at(t, 1), byte_at(t, 2)) {
-            if end <= t.len() {
-                let s = step_at(r, t);
-                if values_good(s) {
-                    return Field::Step(s, end);
-                }
-            }
+    let size = numbers::HEAD + wire::length_of(byte_at(t, 1), byte_at(t, 2));
+    if 0 < r.who && end == size && end <= t.len() {
+        let s = step_at(r, t);
+        if values_good(s) {
+            return Field::Step(s, end);
         }
     }
     Field::Refused(0, numbers::BAD_FIELD)
 }
 
 // The field at the front of a text in the short form.
+#[tactic(auto, unfolding(crate::specs::Short::short_field_of, crate::specs::Short::short_step_in))]
 fn field_of(t: &[u8]) -> Field
     ensures { result ≡ short_field_of t.now }
 {
     if t.len() < numbers::HEAD {
         return Field::Refused(0, numbers::BAD_FIELD);
     }
-    let tag = t[0];
-    if tag == TAG_SHORT {
-        return step_by(refusals::row_of(byte_at(t, 3)), t);
+    match t[0] {
+        TAG_SHORT => step_by(refusals::row_of(byte_at(t, 3)), t),
+        numbers::TAG_END if wire::length_of(t[1], t[2]) == numbers::LENGTH_END => end_in(t),
+        _ => Field::Refused(0, numbers::BAD_FIELD),
     }
-    if tag == numbers::TAG_END {
-        if wire::length_of(t[1], t[2]) == numbers::LENGTH_END {
-            return end_in(t);
-        }
-        return Field::Refused(0, numbers::BAD_FIELD);
-    }
-    Field::Refused(0, numbers::BAD_FIELD)
 }
 
 // The field at a place of a text in the short form.
 pub fn read_short(s: &[u8], at: usize) -> Field
     ensures { result ≡ short_field_of (drop at s.now) }
 {
-    if s.len() < at {
-        return Field::Refused(0, numbers::BAD_FIELD);
+    match s.get(at..) {
+        Some(t) => field_of(t),
+        None => Field::Refused(0, numbers::BAD_FIELD),
     }
-    field_of(&s[at..])
 }
 
 // ---- the header
 
 // A text begins as a header does.
+#[tactic(auto, unfolding(crate::specs::Short::is_short))]
 pub fn is_short(s: &[u8]) -> bool
     ensures { result ≡ is_short s.now }
 {
@@ -273,60 +233,32 @@ pub fn is_short(s: &[u8]) -> bool
 }
 
 // Behind its first byte it goes on as a header does.
+#[tactic(auto, unfolding(crate::specs::Short::is_headed, laws::specs::Choice::all_of))]
 pub fn is_headed(s: &[u8]) -> bool
     ensures { result ≡ is_headed s.now }
 {
-    if s.len() < SIZE_EDITION {
-        return false;
-    }
-    s[1] == 0 && (s[2] == 1 && s[3] == SHORT_EDITION)
+    SIZE_EDITION <= s.len() && s[1] == 0 && s[2] == 1 && s[3] == SHORT_EDITION
 }
 
 // ---- a step written in the short form
 
-// The bytes of a value written from a place on.
-fn put_value(buf: &mut [u8], at: usize, v: Value) -> usize
-    requires { at + length (short_value v) ≤ length buf.old }
-    ensures value { result ≡ at + length (short_value v) }
-    ensures buf_after { buf.new ≡ put_at buf.old at (short_value v) }
+// The bytes of a value, as many as `value_size` says of its kind; behind them stand others.
+fn value_bytes(v: Value) -> [u8; 5]
+    ensures { take (value_size v.kind) result ≡ short_value v }
 {
-    let n = v.number;
-    if keeps_number(v.kind) {
-        let bytes = [
-            v.kind,
-            (n / 256 / 256 / 256 % 256) as u8,
-            (n / 256 / 256 % 256) as u8,
-            (n / 256 % 256) as u8,
-            (n % 256) as u8,
-        ];
-        wire::write(buf, at, &bytes);
-        return at + 5;
-    }
-    wire::write(buf, at, &[v.kind]);
-    at + 1
+    let [a, b, c, d] = v.number.to_be_bytes();
+    [v.kind, a, b, c, d]
 }
 
-// A byte written from a place on, if it is used.
-fn put_used(buf: &mut [u8], at: usize, used: bool, x: u8) -> usize
-    requires { at + length (if_used used (x ∷ [])) ≤ length buf.old }
-    ensures value { result ≡ at + length (if_used used (x ∷ [])) }
-    ensures buf_after { buf.new ≡ put_at buf.old at (if_used used (x ∷ [])) }
+// Bytes written from a place on, if they are used.
+fn put_used(buf: &mut [u8], at: usize, used: bool, bytes: &[u8]) -> usize
+    requires { at + length (if_used used bytes.now) ≤ length buf.old }
+    ensures value { result ≡ at + length (if_used used bytes.now) }
+    ensures buf_after { buf.new ≡ put_at buf.old at (if_used used bytes.now) }
 {
     if used {
-        wire::write(buf, at, &[x]);
-        return at + 1;
-    }
-    at
-}
-
-// A value written from a place on, if it is used.
-fn put_used_value(buf: &mut [u8], at: usize, used: bool, v: Value) -> usize
-    requires { at + length (if_used used (short_value v)) ≤ length buf.old }
-    ensures value { result ≡ at + length (if_used used (short_value v)) }
-    ensures buf_after { buf.new ≡ put_at buf.old at (if_used used (short_value v)) }
-{
-    if used {
-        return put_value(buf, at, v);
+        wire::write(buf, at, bytes);
+        return at + bytes.len();
     }
     at
 }
@@ -335,25 +267,21 @@ fn put_used_value(buf: &mut [u8], at: usize, used: bool, v: Value) -> usize
 fn used_size(used: bool, n: usize) -> usize
     ensures { result ≡ pick used n 0 }
 {
-    if used {
-        return n;
-    }
-    0
+    if used { n } else { 0 }
 }
 
 // How long the body of a step's field is.
 fn body_length(r: Row, s: Step) -> usize
     ensures { result ≡ length (body_of r s) }
 {
-    let argument = s.argument;
-    let claim = s.claim;
     let who = used_size(uses_who(r), 1);
     let what = used_size(uses_what(r), 1);
-    let value = used_size(uses_argument(r), value_size(argument.kind));
-    1 + who + what + value + value_size(claim.kind)
+    let argument = used_size(uses_argument(r), value_size(s.argument.kind));
+    1 + who + what + argument + value_size(s.claim.kind)
 }
 
 // How long a step's field is in the short form.
+#[tactic(auto, unfolding(crate::specs::Short::short_bytes))]
 pub fn short_size(s: Step) -> usize
     ensures { result ≡ length (short_bytes s) }
 {
@@ -365,11 +293,18 @@ fn put_body(buf: &mut [u8], at: usize, r: Row, s: Step)
     requires { at + length (body_of r s) ≤ length buf.old }
     ensures { buf.new ≡ put_at buf.old at (body_of r s) }
 {
+    let argument = value_bytes(s.argument);
+    let claim = value_bytes(s.claim);
     wire::write(buf, at, &[s.code]);
-    let what = put_used(buf, at + 1, uses_who(r), s.who);
-    let argument = put_used(buf, what, uses_what(r), s.what);
-    let claim = put_used_value(buf, argument, uses_argument(r), s.argument);
-    put_value(buf, claim, s.claim);
+    let to = put_used(buf, at + 1, uses_who(r), &[s.who]);
+    let to = put_used(buf, to, uses_what(r), &[s.what]);
+    let to = put_used(
+        buf,
+        to,
+        uses_argument(r),
+        &argument[..value_size(s.argument.kind)],
+    );
+    wire::write(buf, to, &claim[..value_size(s.claim.kind)]);
 }
 
 // The field of a step put where it has room.
@@ -394,19 +329,16 @@ pub fn write_short(buf: &mut [u8], at: usize, s: Step) -> Wrote
     ensures value { result ≡ short_to buf.old at s }
     ensures buf_after { buf.new ≡ short_written buf.old at s }
 {
-    if values_good(s) {
-        if has_short(s) {
-            let size = short_size(s);
-            if buf.len() < size {
-                return Wrote::Refused(numbers::NO_ROOM);
-            }
-            if buf.len() - size < at {
-                return Wrote::Refused(numbers::NO_ROOM);
-            }
-            put_short(buf, at, s, size);
-            return Wrote::To(at + size);
-        }
+    if !values_good(s) {
+        return Wrote::Refused(numbers::BAD_FIELD);
+    }
+    if !has_short(s) {
         return Wrote::Refused(NO_SHORT);
     }
-    Wrote::Refused(numbers::BAD_FIELD)
+    let size = short_size(s);
+    if buf.len() < size || buf.len() - size < at {
+        return Wrote::Refused(numbers::NO_ROOM);
+    }
+    put_short(buf, at, s, size);
+    Wrote::To(at + size)
 }

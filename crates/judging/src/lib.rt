@@ -72,32 +72,23 @@ fn judge_sound(cfg: Config, st: State, s: &[u8], allowance: u32) -> Judged
     loop {
         let f = recording::read_field(s, at);
         let Field::Step(x, size) = f else {
-            match f {
-                Field::Refused(past, k) => {
-                    let place = count + 1 + past as usize;
-                    return given(Verdict::Refused(place, k), count, reached);
-                }
-                _ => {
-                    return given(Verdict::Accepted, count, reached);
-                }
-            }
+            let verdict = match f {
+                Field::Refused(past, k) => Verdict::Refused(count + 1 + past as usize, k),
+                _ => Verdict::Accepted,
+            };
+            return given(verdict, count, reached);
         };
         if left == 0 {
             return given(Verdict::Unfinished, count, reached);
         }
         let r = machine::inner(cfg, reached, x);
-        let a = r.answer;
-        match a {
-            Answer::Refused(k) => {
-                return given(Verdict::Refused(count + 1, k), count, reached);
-            }
-            Answer::Taken(_) => {
-                reached = r.state;
-                left = left - 1;
-                count = count + 1;
-                at = at + size;
-            }
+        if let Answer::Refused(k) = r.answer {
+            return given(Verdict::Refused(count + 1, k), count, reached);
         }
+        reached = r.state;
+        left -= 1;
+        count += 1;
+        at += size;
     }
 }
 
@@ -105,8 +96,8 @@ fn given(verdict: Verdict, count: usize, st: State) -> Judged
     ensures { result ≡ judged verdict count st }
 {
     Judged {
-        verdict: verdict,
-        count: count,
+        verdict,
+        count,
         state: st,
     }
 }
@@ -123,12 +114,12 @@ fn verdict_line(v: Verdict, count: usize) -> Line
 }
 
 // The verdict from the start state, as a line.
+#[tactic(auto, unfolding(crate::specs::Line::judged_line))]
 fn judged_line(cfg: Config, s: &[u8]) -> Line
     ensures { result ≡ judged_line (judge_of cfg (start_of cfg) s.now allowed) }
 {
     let j = judge(cfg, State::start(cfg), s, ALLOWED);
-    let v = j.verdict;
-    verdict_line(v, j.count)
+    verdict_line(j.verdict, j.count)
 }
 
 // The line for the bytes of a configuration and of a recording.
@@ -136,15 +127,11 @@ fn judged_line(cfg: Config, s: &[u8]) -> Line
 pub fn line_of(config: &[u8], recording: &[u8]) -> Line
     ensures { result ≡ line_of config.now recording.now }
 {
-    if MAX_CONFIG < config.len() {
-        return Line::TooLong;
-    }
-    if MAX_RECORDING < recording.len() {
+    if MAX_CONFIG < config.len() || MAX_RECORDING < recording.len() {
         return Line::TooLong;
     }
     let r = reading::read_config(config);
-    let o = r.outcome;
-    match o {
+    match r.outcome {
         Outcome::Refused(place, k) => Line::Configuration(place, k),
         Outcome::Whole => judged_line(r.config, recording),
     }

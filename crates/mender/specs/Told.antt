@@ -1,10 +1,10 @@
 -- The mender's answer for two files, and its lines byte by byte (W-209, the report; "Judging", the program).
 -- Assumes nothing.
-use Rattle.std.specs.Prelude.{ℕ, ◌+◌, ◌-◌, ◌*◌, ◌/◌, Bool, List, [], ◌∷◌, ltb, eqb, length, get_or}
+use Rattle.std.specs.Prelude.{ℕ, ◌+◌, ◌-◌, ◌*◌, ◌/◌, Bool, List, [], ◌∷◌, ltb, eqb, length, get_or, take, drop}
 use Rattle.numbers.specs.Tags.{step_size, end_size}
 use Rattle.laws.specs.Choice.{pick, either}
 use Rattle.state.specs.Start.{start_of}
-use Rattle.wire.specs.Bytes.{number_of}
+use Rattle.wire.specs.Bytes.{number_of, build}
 use Rattle.reading.specs.declared.Outcome.{Outcome}
 use Rattle.reading.specs.declared.Outcome.TheVariants.{Whole as Read, Refused as NotRead}
 use Rattle.reading.specs.Reading.{config_of}
@@ -13,7 +13,7 @@ use Rattle.lines.specs.Lines.{line_bytes}
 use Rattle.lines.specs.Words.{refused_word, configuration_word, too_long_words}
 use Rattle.gaps.specs.declared.Mended.{Mended}
 use Rattle.gaps.specs.declared.Mended.TheVariants.{Whole, Refused}
-use Rattle.gaps.specs.Report.{mend_to, mend_written, mend_reported}
+use Rattle.gaps.specs.Report.{note_size, mend_to, mend_written, mend_reported}
 use Rattle.mender.specs.declared.Told.{Told}
 use Rattle.mender.specs.declared.Told.TheVariants.{Mended as IsMended, Refused as IsRefused, Configuration, TooLong}
 
@@ -84,6 +84,14 @@ note_line t =
     pick (eqb (get_or t 0 0) 1)
     (line_bytes insert_word (note_place t ∷ get_or t 1 0 ∷ get_or t 2 0 ∷ get_or t 3 0 ∷ note_number t ∷ []))
     (line_bytes gap_word (note_place t ∷ note_number t ∷ []))
+
+-- the note k of a report (W-209, the report)
+abbrev pub note_at : List ℕ → ℕ → List ℕ
+note_at t k = take note_size (drop (k * note_size) t)
+
+-- the lines of the first n notes of a report, one behind the other (W-209, the report)
+abbrev pub note_lines : List ℕ → ℕ → List ℕ
+note_lines t n = build (λ (k : ℕ). note_line (note_at t k)) n
 
 -- the last line (W-209; "Judging", the program)
 abbrev pub told_line : Told → List ℕ

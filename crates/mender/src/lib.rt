@@ -6,7 +6,7 @@ ghost use Rattle.wire.specs.Bytes.{Written};
 ghost use Rattle.lines.specs.Lines.{line_bytes};
 ghost use Rattle.std.specs.Bool.{OnTrue};
 ghost use Rattle.std.specs.Io.KnownBytes.{Appends};
-ghost use Rattle.mender.specs.Told.{told_by, told_of, told_text, told_report, insert_word, gap_word, note_line, told_line, text_size};
+ghost use Rattle.mender.specs.Told.{told_by, told_of, told_text, told_report, insert_word, gap_word, note_line, note_lines, told_line, text_size};
 
 use gaps::Mended;
 use judging::{MAX_CONFIG, MAX_RECORDING};
@@ -27,12 +27,14 @@ pub enum Told {
 // Room for the longest mended text of the longest recording, and for its report.
 pub const ROOM: usize = MAX_RECORDING * 4;
 
-fn told_by(m: Mended) -> Told
-    ensures { result ≡ told_by m }
-{
-    match m {
-        Mended::Whole(steps, notes) => Told::Mended(steps, notes),
-        Mended::Refused(place, k) => Told::Refused(place, k),
+impl From<Mended> for Told {
+    ghost from_gives = { λ m r. r ≡ told_by m };
+
+    fn from(m: Mended) -> Told {
+        match m {
+            Mended::Whole(steps, notes) => Told::Mended(steps, notes),
+            Mended::Refused(place, k) => Told::Refused(place, k),
+        }
     }
 }
 
@@ -43,19 +45,15 @@ pub fn mend_files(config: &[u8], recording: &[u8], out: &mut [u8], report: &mut 
     ensures out_after { out.new ≡ told_text config.now recording.now out.old report.old }
     ensures report_after { report.new ≡ told_report config.now recording.now out.old report.old }
 {
-    if MAX_CONFIG < config.len() {
-        return Told::TooLong;
-    }
-    if MAX_RECORDING < recording.len() {
+    if MAX_CONFIG < config.len() || MAX_RECORDING < recording.len() {
         return Told::TooLong;
     }
     let g = reading::read_config(config);
-    let o = g.outcome;
-    match o {
+    match g.outcome {
         Outcome::Refused(place, k) => Told::Configuration(place, k),
         Outcome::Whole => {
-            let cfg = g.config;
-            told_by(mending::mend(cfg, State::start(cfg), recording, out, report))
+            let st = State::start(g.config);
+            Told::from(mending::mend(g.config, st, recording, out, report))
         }
     }
 }
@@ -126,35 +124,28 @@ fn put_two(buf: &mut [u8], at: usize, word: &[u8], place: usize, k: u8) -> Wrote
 }
 
 // Prints the lines of the first notes of a report, as many as there are, each in one write; whether all went out.
-pub fn print_notes<W: Write>(out: &mut W, report: &[u8], notes: usize) -> bool {
-    let mut at: usize = 0;
-    let mut left = notes;
-    while left > 0 {
-        if report.len() < at + gaps::NOTE {
+pub fn print_notes<W: Write>(out: &mut W, report: &[u8], notes: usize) -> bool
+    ensures { OnTrue result (Appends (W.contents out.old) (W.contents out.new) (note_lines report.now notes)) }
+{
+    let mut rest = report;
+    for k in 0..notes {
+        let Some((note, behind)) = rest.split_first_chunk() else {
+            return false;
+        };
+        if !print_note(out, note) {
             return false;
         }
-        if print_note(out, &report[at..]) {
-            at = at + gaps::NOTE;
-            left = left - 1;
-        } else {
-            return false;
-        }
+        rest = behind;
     }
     true
 }
 
-// The line of the note at the front of a report.
-fn print_note<W: Write>(out: &mut W, report: &[u8]) -> bool {
-    if report.len() < gaps::NOTE {
-        return false;
-    }
-    let note = [
-        report[0], report[1], report[2], report[3], report[4], report[5], report[6], report[7],
-        report[8], report[9], report[10], report[11], report[12], report[13], report[14],
-        report[15],
-    ];
+// Prints the line of a note, in one write; whether all of it went out.
+fn print_note<W: Write>(out: &mut W, note: &[u8; gaps::NOTE]) -> bool
+    ensures { OnTrue result (Appends (W.contents out.old) (W.contents out.new) (note_line note.now)) }
+{
     let mut text = [0u8; 128];
-    let w = put_note(&mut text, 0, &note);
+    let w = put_note(&mut text, 0, note);
     let Wrote::To(n) = w else {
         return false;
     };
@@ -179,10 +170,7 @@ pub fn size_of(steps: usize, out: &[u8]) -> usize
     ensures upper_bound { result ≤ length out.now }
 {
     let room = out.len();
-    if room < numbers::SIZE_END {
-        return 0;
-    }
-    if (room - numbers::SIZE_END) / numbers::SIZE_STEP < steps {
+    if room < numbers::SIZE_END || (room - numbers::SIZE_END) / numbers::SIZE_STEP < steps {
         return 0;
     }
     steps * numbers::SIZE_STEP + numbers::SIZE_END

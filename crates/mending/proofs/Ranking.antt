@@ -5,6 +5,7 @@ use mathlib.Core.List.{List, [], ◌∷◌, ◌++◌, map}
 use mathlib.Core.Path.{◌≡◌, refl, sym, ap, ap₂, ◌∙◌}
 use native.Mathlib.Nat.{not-suc-le-zero, one-le-mul, div-add-mod', mod-lt, div-lt_iff_lt-mul}
 use native.Mathlib.Decide.{dec_lt}
+use native.Mathlib.Numerals.{add-one}
 use native.Mathlib.Omega.{arith}
 use lib.ListN.{length, get_or, length-map, get_or-append}
 use lib.Seq.{get_or-append-add}
@@ -18,7 +19,7 @@ use Rattle.gaps.proofs.Ordered.{length-one, length_two}
 use Rattle.gaps.proofs.Members.{length-choices}
 use Rattle.searching.specs.Search.{Counted, choice_at, size_of}
 use Rattle.searching.proofs.Counting.{some_of, at_second, choice-is, size_is}
-use Rattle.mending.specs.Going.{most_of, picks, picks_of, rest_of, picked, taken_all}
+use Rattle.mending.specs.Going.{most_of, number_at, picks, picks_of, rest_of, picked, taken_all}
 use Rattle.mending.specs.declared.Picks.{Picks}
 
 -- ---- the sequence at a place
@@ -217,3 +218,28 @@ unfolding taken_all
 taken_next cfg st n p {x} {r} a b e q =
     ap (taken_all cfg st) (picked-rest n p a b ∙ ap (λ (y : Step). y ∷ picked n (rest_of p)) (sym e))
     ∙ ap (λ (y : Stepped). taken_all cfg y.state (picked n (rest_of p))) (sym q)
+
+-- what is left of a sequence behind its first k choices
+unfoldable pub left_of : ℕ → Picks → Picks
+left_of zero p = p
+left_of (suc k) p = rest_of (left_of k p)
+
+pub left-next : (k : ℕ) (p : Picks) → left_of (k + 1) p ≡ rest_of (left_of k p)
+unfolding left_of
+left-next k p = rw add-one
+
+pub left_none : (p : Picks) → left_of 0 p ≡ p
+unfolding left_of
+left_none p = refl
+
+pub left-long : (k : ℕ) (p : Picks) → (left_of k p).length ≡ p.length - k
+unfolding left_of
+left-long zero p = omega arith
+left-long (suc k) p = omega (arith, left-long k p)
+
+pub left-first : (k : ℕ) (p : Picks) → k < 3 → (left_of k p).first ≡ number_at p k
+unfolding left_of
+left-first zero p h = refl
+left-first (suc zero) p h = refl
+left-first (suc (suc zero)) p h = refl
+left-first (suc (suc (suc k))) p h = absurd (omega arith)

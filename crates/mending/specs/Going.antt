@@ -34,6 +34,10 @@ picks_of k rank =
     (picks 3 ((rank - 1 - k - k * k) / (k * k)) ((rank - 1 - k - k * k) % (k * k) / k) ((rank - 1 - k - k * k) % (k * k) % k))
     (picks 0 0 0 0))))
 
+-- the number of the choice k of a sequence, of three
+abbrev pub number_at : Picks → ℕ → ℕ
+number_at p k = pick (eqb k 0) p.first (pick (eqb k 1) p.second p.third)
+
 -- what is left of a sequence behind its first choice
 abbrev pub rest_of : Picks → Picks
 rest_of p = picks (p.length - 1) p.second p.third 0

@@ -10,7 +10,7 @@ ghost use Rattle.effects.specs.Step.{inner_of};
 ghost use Rattle.gaps.specs.Gaps.{answered_all, turn_of, turn_steps, turns_of, mended_steps};
 ghost use Rattle.gaps.specs.Report.{on_mended, note_size, step_notes, turn_notes, report_from, on_last, survey_of, fitted, mend_to, mend_written, mend_reported};
 ghost use Rattle.gaps.specs.declared.Mended.TheVariants.{Whole};
-ghost use Rattle.mending.specs.Going.{fields_of, note_of, Room, Fillable, Mendable, crossed_of, most_of, picks, picks_of, picked, taken_all};
+ghost use Rattle.mending.specs.Going.{fields_of, note_of, Room, Fillable, Mendable, crossed_of, most_of, number_at, picks, picks_of, picked, taken_all};
 
 use config::Config;
 use gaps::{Choices, Mended, NOTE};
@@ -27,6 +27,7 @@ pub struct Crossed {
 }
 
 // A sequence of at most three choices, by their numbers.
+// Kept: three fields and no array, because the definitions `picks` and `picked` name them.
 #[derive(Clone, Copy)]
 pub struct Picks {
     pub length: u8,
@@ -36,6 +37,17 @@ pub struct Picks {
 }
 
 impl Picks {
+    // The number of its choice k, of three.
+    fn number(self, k: usize) -> usize
+        ensures { result ≡ number_at self k }
+    {
+        match k {
+            0 => self.first,
+            1 => self.second,
+            _ => self.third,
+        }
+    }
+
     fn of(length: u8, first: usize, second: usize, third: usize) -> Picks
         ensures { result ≡ picks length first second third }
     {
@@ -87,16 +99,15 @@ fn taken_all(cfg: Config, st: State, all: Choices, fill: Picks) -> State
     ensures { result ≡ taken_all cfg st (picked all fill) }
 {
     let mut reached = st;
-    let mut left = fill;
-    while left.length > 0 {
-        let r = machine::possible(cfg, reached, searching::choice_at(all, left.first));
-        reached = r.state;
-        left = Picks::of(left.length - 1, left.second, left.third, 0);
+    for k in 0..usize::from(fill.length) {
+        let x = searching::choice_at(all, fill.number(k));
+        reached = machine::possible(cfg, reached, x).state;
     }
     reached
 }
 
 // What the field behind the steps says: the end, or where the text is damaged.
+// Kept: crates merging and moving have the like, but its answer is `Mended`, which is public and has its own `on_last`.
 fn ended(f: Field, count: usize, steps: usize, notes: usize) -> Mended
     requires { count ≤ 4611686018427387904 }
     ensures { result ≡ on_last f count (Whole steps notes) }
@@ -126,13 +137,12 @@ fn survey(cfg: Config, st: State, s: &[u8]) -> Mended
             return ended(f, count, steps, notes);
         };
         let r = machine::inner(cfg, reached, x);
-        let a = r.answer;
-        match a {
+        match r.answer {
             Answer::Taken(_) => {
                 reached = r.state;
-                steps = steps + 1;
-                count = count + 1;
-                at = at + size;
+                steps += 1;
+                count += 1;
+                at += size;
             }
             Answer::Refused(_) => {
                 let passed = searching::rank(cfg, reached, x, all);
@@ -144,10 +154,10 @@ fn survey(cfg: Config, st: State, s: &[u8]) -> Mended
                 let last = machine::inner(cfg, next, x);
                 reached = last.state;
                 let more = fill.length as usize + 1;
-                steps = steps + more;
-                notes = notes + more;
-                count = count + 1;
-                at = at + size;
+                steps += more;
+                notes += more;
+                count += 1;
+                at += size;
             }
         }
     }
@@ -165,25 +175,10 @@ fn write_note(
 ) -> Wrote
     ensures { Written report.old at (note_of kind code what v place) result report.new }
 {
-    let n = v.number;
-    let high = place / 4294967296;
+    let [n0, n1, n2, n3] = v.number.to_be_bytes();
+    let [p0, p1, p2, p3, p4, p5, p6, p7] = place.to_be_bytes();
     let bytes = [
-        kind,
-        code,
-        what,
-        v.kind,
-        (n / 256 / 256 / 256 % 256) as u8,
-        (n / 256 / 256 % 256) as u8,
-        (n / 256 % 256) as u8,
-        (n % 256) as u8,
-        (high / 256 / 256 / 256 % 256) as u8,
-        (high / 256 / 256 % 256) as u8,
-        (high / 256 % 256) as u8,
-        (high % 256) as u8,
-        (place / 256 / 256 / 256 % 256) as u8,
-        (place / 256 / 256 % 256) as u8,
-        (place / 256 % 256) as u8,
-        (place % 256) as u8,
+        kind, code, what, v.kind, n0, n1, n2, n3, p0, p1, p2, p3, p4, p5, p6, p7,
     ];
     wire::write(report, at, &bytes)
 }
@@ -205,26 +200,21 @@ fn write_fill(
     ensures report_after { report.new ≡ put_at report.old (m * note_size) (step_notes n (answered_all (inner_of cfg) cfg st (picked all fill))) }
 {
     let mut reached = st;
-    let mut left = fill;
-    let mut done: usize = 0;
-    while left.length > 0 {
-        let x = searching::choice_at(all, left.first);
+    for k in 0..usize::from(fill.length) {
+        let x = searching::choice_at(all, fill.number(k));
         let r = machine::possible(cfg, reached, x);
-        let a = r.answer;
-        let y = searching::claiming(x, a);
-        recording::write_step(out, (n + done) * numbers::SIZE_STEP, y);
+        let y = searching::claiming(x, r.answer);
+        recording::write_step(out, (n + k) * numbers::SIZE_STEP, y);
         write_note(
             report,
-            (m + done) * NOTE,
+            (m + k) * NOTE,
             1,
             y.code,
             y.what,
             y.claim,
-            n + done + 1,
+            n + k + 1,
         );
         reached = r.state;
-        left = Picks::of(left.length - 1, left.second, left.third, 0);
-        done = done + 1;
     }
     reached
 }
@@ -257,10 +247,9 @@ fn write_gap(
     };
     write_note(report, (m + inserted) * NOTE, 2, 0, 0, v, n + inserted + 1);
     let last = machine::inner(cfg, next, s);
-    let reached = last.state;
     Crossed {
-        state: reached,
-        inserted: inserted,
+        state: last.state,
+        inserted,
     }
 }
 
@@ -282,21 +271,20 @@ fn write_all(cfg: Config, st: State, s: &[u8], out: &mut [u8], report: &mut [u8]
             return;
         };
         let r = machine::inner(cfg, reached, x);
-        let a = r.answer;
-        match a {
+        match r.answer {
             Answer::Taken(_) => {
                 recording::write_step(out, steps * numbers::SIZE_STEP, x);
                 reached = r.state;
-                steps = steps + 1;
-                at = at + size;
+                steps += 1;
+                at += size;
             }
             Answer::Refused(_) => {
                 let c = write_gap(cfg, reached, x, all, out, steps, report, notes);
                 reached = c.state;
                 let more = c.inserted + 1;
-                steps = steps + more;
-                notes = notes + more;
-                at = at + size;
+                steps += more;
+                notes += more;
+                at += size;
             }
         }
     }
@@ -306,13 +294,9 @@ fn write_all(cfg: Config, st: State, s: &[u8], out: &mut [u8], report: &mut [u8]
 fn has_room(steps: usize, notes: usize, out: usize, report: usize) -> bool
     ensures { result ≡ both (leb (steps * step_size + end_size) out) (leb (notes * note_size) report) }
 {
-    if out < numbers::SIZE_END {
-        return false;
-    }
-    if (out - numbers::SIZE_END) / numbers::SIZE_STEP < steps {
-        return false;
-    }
-    notes <= report / NOTE
+    numbers::SIZE_END <= out
+        && steps <= (out - numbers::SIZE_END) / numbers::SIZE_STEP
+        && notes <= report / NOTE
 }
 
 // Mends a recording from a state that is known to be sound. Where nothing is lost, the text is copied and no step is taken twice.
@@ -325,15 +309,15 @@ fn mend_sound(cfg: Config, st: State, s: &[u8], out: &mut [u8], report: &mut [u8
     let Mended::Whole(steps, notes) = r else {
         return r;
     };
-    if has_room(steps, notes, out.len(), report.len()) {
-        if notes == 0 {
-            copying::rewrite(s, out);
-            return r;
-        }
-        write_all(cfg, st, s, out, report);
-        return r;
+    if !has_room(steps, notes, out.len(), report.len()) {
+        return Mended::Refused(0, numbers::NO_ROOM);
     }
-    Mended::Refused(0, numbers::NO_ROOM)
+    if notes == 0 {
+        copying::rewrite(s, out);
+    } else {
+        write_all(cfg, st, s, out, report);
+    }
+    r
 }
 
 // Mends a recording from a first state: the mended text into one lent buffer, the report into another. A refusal leaves both as they are.
@@ -342,8 +326,8 @@ pub fn mend(cfg: Config, st: State, s: &[u8], out: &mut [u8], report: &mut [u8])
     ensures out_after { out.new ≡ mend_written cfg st s.now out.old report.old }
     ensures report_after { report.new ≡ mend_reported cfg st s.now out.old report.old }
 {
-    if sound::is_sound(cfg, st) {
-        return mend_sound(cfg, st, s, out, report);
+    if !sound::is_sound(cfg, st) {
+        return Mended::Refused(0, numbers::NOT_SOUND);
     }
-    Mended::Refused(0, numbers::NOT_SOUND)
+    mend_sound(cfg, st, s, out, report)
 }

@@ -55,14 +55,7 @@ adds-up s x h =
     let r = both_right (is_wait s) _ h in
     record { first = wait-is s (both_left (is_wait s) _ h); second = wait-is x (both_left (is_wait x) _ r); fits = leb-true _ _ (both_right (is_wait x) _ r) }
 
--- ---- sums and room, as code asks for them
-
-pub fits-left : (a b : ℕ) → a ≤ longest → leb b (longest - a) ≡ leb (a + b) longest
-fits-left a b h = go (dec_le (a + b) longest)
-  where
-    go : Dec (a + b ≤ longest) → leb b (longest - a) ≡ leb (a + b) longest
-    go (yes l) = le-leb b (longest - a) (omega (arith, l)) ∙ sym (le-leb (a + b) longest l)
-    go (no l) = lt-leb b (longest - a) (omega (arith, l, h)) ∙ sym (lt-leb (a + b) longest (omega (arith, l)))
+-- ---- room, as code asks for it
 
 pub room-left : (n m : ℕ) → end_size ≤ m → leb n ((m - end_size) / step_size) ≡ leb (n * step_size + end_size) m
 room-left n m h = go (dec_le n ((m - end_size) / step_size))

@@ -5,6 +5,7 @@ use mathlib.Core.Bool.{Bool, true, false}
 use mathlib.Core.List.{List, [], ◌∷◌, ◌++◌}
 use mathlib.Core.Path.{◌≡◌, refl, sym, ap, ap₂, ◌∙◌}
 use native.Mathlib.Omega.{arith}
+use Rattle.std.specs.Prelude.{Option, Some, None}
 use lib.ListN.{length, take, drop, length-append, length-drop}
 use lib.Seq.{drop-drop, drop_at, length-take-le, take-length}
 use lib.Dec.{leb}
@@ -45,6 +46,15 @@ merged-off s x xs e = rw e
 -- the step of no code is no wait
 abbrev pub no_step : Step
 no_step = record { code = 0; who = 0; what = 0; argument = record { kind = 0; number = 0 }; claim = record { kind = 0; number = 0 } }
+
+-- the step that is held back; none before the first
+abbrev pub held : Option Step → Step
+held None = no_step
+held (Some s) = s
+
+pub no-wait : (x : Step) → adds_up no_step x ≡ false
+unfolding adds_up is_wait
+no-wait x = refl
 
 pub merged-first : (xs : List Step) → merged_from no_step xs ≡ no_step ∷ merged_of xs
 unfolding merged_from merged_of adds_up is_wait

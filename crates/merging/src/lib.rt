@@ -21,48 +21,24 @@ pub enum Merged {
     Refused(usize, u8),
 }
 
-// No step, and no wait.
-const NONE: Step = Step {
-    code: 0,
-    who: 0,
-    what: 0,
-    argument: Value::VOID,
-    claim: Value::VOID,
-};
-
-// The most milliseconds that a step can hold.
-const LONGEST: u32 = 4294967295;
-
 // A wait as recorders write it: by nobody, about no part, with a Number, and Void is its claim.
+#[tactic(auto, unfolding(crate::specs::Waits::is_wait))]
 fn is_wait(s: Step) -> bool
     ensures { result ≡ is_wait s }
 {
-    if s.code == numbers::CODE_WAIT {
-        if s.who == 0 {
-            if s.what == 0 {
-                let t = s.argument;
-                if t.kind == 1 {
-                    let v = s.claim;
-                    return v.is_void();
-                }
-            }
-        }
-    }
-    false
+    s.code == numbers::CODE_WAIT
+        && s.who == 0
+        && s.what == 0
+        && s.argument.kind == 1
+        && s.claim.is_void()
 }
 
 // Two waits that one step can hold.
+#[tactic(auto, unfolding(crate::specs::Waits::adds_up))]
 fn adds_up(s: Step, x: Step) -> bool
     ensures { result ≡ adds_up s x }
 {
-    if is_wait(s) {
-        if is_wait(x) {
-            let t = s.argument;
-            let u = x.argument;
-            return u.number <= LONGEST - t.number;
-        }
-    }
-    false
+    is_wait(s) && is_wait(x) && x.argument.number <= u32::MAX - s.argument.number
 }
 
 // The one wait for both.
@@ -70,19 +46,17 @@ fn joined(s: Step, x: Step) -> Step
     requires { s.argument.number + x.argument.number ≤ longest }
     ensures { result ≡ joined s x }
 {
-    let t = s.argument;
-    let u = x.argument;
-    let v = Value::of(t.number + u.number);
     Step {
         code: numbers::CODE_WAIT,
         who: 0,
         what: 0,
-        argument: v,
+        argument: Value::of(s.argument.number + x.argument.number),
         claim: Value::VOID,
     }
 }
 
 // What the field behind the steps says: the end, or where the text is damaged.
+// Kept: crates mending and moving have the like, but its answer is `Merged`, which is public and has its own `on_last`.
 fn ended(f: Field, count: usize, steps: usize) -> Merged
     requires { count ≤ 4611686018427387904 }
     ensures { result ≡ on_last f count (Whole steps) }
@@ -98,7 +72,7 @@ fn ended(f: Field, count: usize, steps: usize) -> Merged
 fn survey(s: &[u8]) -> Merged
     ensures { result ≡ survey_of s.now }
 {
-    let mut last = NONE;
+    let mut last: Option<Step> = None;
     let mut count: usize = 0;
     let mut steps: usize = 0;
     let mut at: usize = 0;
@@ -107,16 +81,15 @@ fn survey(s: &[u8]) -> Merged
         let Field::Step(x, size) = f else {
             return ended(f, count, steps);
         };
-        if adds_up(last, x) {
-            last = joined(last, x);
-            count = count + 1;
-            at = at + size;
-        } else {
-            last = x;
-            steps = steps + 1;
-            count = count + 1;
-            at = at + size;
+        match last {
+            Some(s) if adds_up(s, x) => last = Some(joined(s, x)),
+            _ => {
+                last = Some(x);
+                steps += 1;
+            }
         }
+        count += 1;
+        at += size;
     }
 }
 
@@ -138,13 +111,12 @@ fn write_from(s: &[u8], first: Step, size: usize, out: &mut [u8])
         };
         if adds_up(last, x) {
             last = joined(last, x);
-            at = at + n;
         } else {
             recording::write_step(out, to, last);
             last = x;
-            to = to + numbers::SIZE_STEP;
-            at = at + n;
+            to += numbers::SIZE_STEP;
         }
+        at += n;
     }
 }
 
@@ -165,10 +137,7 @@ fn write_all(s: &[u8], out: &mut [u8])
 fn has_room(steps: usize, out: usize) -> bool
     ensures { result ≡ leb (steps * step_size + end_size) out }
 {
-    if out < numbers::SIZE_END {
-        return false;
-    }
-    steps <= (out - numbers::SIZE_END) / numbers::SIZE_STEP
+    numbers::SIZE_END <= out && steps <= (out - numbers::SIZE_END) / numbers::SIZE_STEP
 }
 
 // Merges neighbouring waits of a recording into a lent buffer. A refusal leaves it as it is.
@@ -180,9 +149,9 @@ pub fn merge(s: &[u8], out: &mut [u8]) -> Merged
     let Merged::Whole(steps) = r else {
         return r;
     };
-    if has_room(steps, out.len()) {
-        write_all(s, out);
-        return r;
+    if !has_room(steps, out.len()) {
+        return Merged::Refused(0, numbers::NO_ROOM);
     }
-    Merged::Refused(0, numbers::NO_ROOM)
+    write_all(s, out);
+    r
 }

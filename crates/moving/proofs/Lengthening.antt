@@ -9,12 +9,12 @@ use native.Mathlib.Omega.{arith}
 use lib.ListN.{length, drop, length-drop}
 use lib.Seq.{drop-drop}
 use lib.Dec.{leb}
-use borrow.Author.Tests.{le-leb, lt-leb, eq-eqb, ne_eqb}
+use borrow.Author.Tests.{le-leb, lt-leb}
 use Rattle.numbers.specs.Tags.{step_size}
 use Rattle.forms.specs.Numbers.{edition_size}
 use Rattle.laws.specs.Choice.{pick}
 use Rattle.values.specs.declared.Step.{Step}
-use Rattle.wire.specs.Bytes.{end_bytes, put_at, wrote_bytes}
+use Rattle.wire.specs.Bytes.{put_at, wrote_bytes}
 use Rattle.wire.proofs.Laws.{Bytes}
 use Rattle.recording.specs.declared.Field.{Field}
 use Rattle.recording.specs.declared.Field.TheVariants.{Step as IsStep, End, Refused as NoField}
@@ -135,14 +135,6 @@ module _ (s b₀ b : List ℕ) (at to : ℕ) (w : Stretching s b₀ b at to) whe
   stretching-ended room f q e b' p = putting-ended _ b₀ b to w.put room (tail_bytes f) (w.ahead ∙ no-short-tail (drop at s) f q e) b' p
 
 -- ---- what stands behind the steps
-
--- damage where a field should be: nothing stands there
-pub tail_none : (f : Field) (p k : ℕ) → f ≡ NoField p k → p ≡ 0 → tail_bytes f ≡ []
-tail_none f p k e h = ap tail_bytes e ∙ ap (λ (q : Bool). pick q [] (end_bytes ++ 0 ∷ [])) (eq-eqb p 0 h)
-
--- damage behind the end: the end, and a byte
-pub tail_more : (f : Field) (p k : ℕ) → f ≡ NoField p k → (p ≡ 0 → ⊥) → tail_bytes f ≡ end_bytes ++ 0 ∷ []
-tail_more f p k e h = ap tail_bytes e ∙ ap (λ (q : Bool). pick q [] (end_bytes ++ 0 ∷ [])) (ne_eqb p 0 h)
 
 -- so many steps and what stands behind them have room, told by how many steps the rest has room for
 pub room-left : (n k m : ℕ) → k ≤ m → leb n ((m - k) / step_size) ≡ leb (n * step_size + k) m

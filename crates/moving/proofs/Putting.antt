@@ -1,13 +1,12 @@
 -- A text put into a lent buffer, piece by piece.
 -- Assumes nothing.
 use Prim.Native.Nat.{ℕ, ◌+◌, ◌-◌, ◌≤◌}
-use mathlib.Core.Bool.{Bool, true, false}
+use mathlib.Core.Bool.{Bool}
 use mathlib.Core.List.{List, [], ◌++◌, append-nil}
 use mathlib.Core.Path.{◌≡◌, refl, sym, ap, ap₂, ◌∙◌}
 use native.Mathlib.Omega.{arith}
-use lib.ListN.{length, take, drop, length-append, length-drop, take-append-drop}
+use lib.ListN.{length, take, drop, length-append, length-drop}
 use lib.Seq.{drop-drop, drop_at, length-take-le, take-length}
-use lib.Dec.{leb}
 use borrow.Author.Tests.{le-leb}
 use Rattle.laws.specs.Choice.{pick}
 use Rattle.wire.specs.Bytes.{put_at, wrote_bytes}
@@ -75,11 +74,3 @@ module _ (T b₀ b : List ℕ) (to : ℕ) (w : Putting T b₀ b to) where
       let k : 0 + length T ≡ to + (length T - to) = omega (arith, w.within) in
       ap (λ (l : List ℕ). T ++ l)
       (ap (λ (n : ℕ). drop n b) k ∙ sym (drop-drop (length T - to) to b) ∙ ap (drop (length T - to)) behind-same ∙ drop-drop (length T - to) to b₀ ∙ ap (λ (n : ℕ). drop n b₀) (sym k))
-
--- no bytes: the buffer stays as it is
-pub wrote_none : (b : List ℕ) (to : ℕ) → b ≡ wrote_bytes b to []
-wrote_none b to = go (leb (to + 0) (length b))
-  where
-    go : (q : Bool) → b ≡ pick q (put_at b to []) b
-    go true = let z : to + 0 ≡ to = omega arith in sym (ap₂ (λ (l : List ℕ) (n : ℕ). l ++ drop n b) (append-nil (take to b)) z ∙ take-append-drop to b)
-    go false = refl

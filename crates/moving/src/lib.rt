@@ -28,6 +28,7 @@ pub struct Passed {
 }
 
 // What the field behind the steps says: the end, or where the text is damaged.
+// Kept: crates mending and merging have the like, but its answer is `Moved`, which is public and has its own `on_last`.
 fn ended(f: Field, count: usize, whole: Moved) -> Moved
     requires { count ≤ 4611686018427387904 }
     ensures { result ≡ on_last f count whole }
@@ -53,13 +54,12 @@ fn survey(s: &[u8]) -> Moved
         let Field::Step(x, n) = f else {
             return ended(f, count, Moved::To(size));
         };
-        if forms::has_short(x) {
-            size = size + forms::short_size(x);
-            count = count + 1;
-            at = at + n;
-        } else {
+        if !forms::has_short(x) {
             return Moved::Refused(count + 1, forms::NO_SHORT);
         }
+        size += forms::short_size(x);
+        count += 1;
+        at += n;
     }
 }
 
@@ -79,8 +79,8 @@ fn put_shorts(s: &[u8], out: &mut [u8])
             return;
         };
         forms::write_short(out, to, x);
-        to = to + forms::short_size(x);
-        at = at + n;
+        to += forms::short_size(x);
+        at += n;
     }
 }
 
@@ -114,8 +114,8 @@ fn pass(s: &[u8]) -> Passed
         let Field::Step(_, n) = f else {
             return Passed { count, last: f };
         };
-        count = count + 1;
-        at = at + n;
+        count += 1;
+        at += n;
     }
 }
 
@@ -124,14 +124,9 @@ fn tail(f: Field) -> usize
     ensures { result ≡ length (tail_bytes f) }
 {
     match f {
-        Field::Step(_, _) => 0,
+        Field::Step(_, _) | Field::Refused(0, _) => 0,
         Field::End => numbers::SIZE_END,
-        Field::Refused(past, _) => {
-            if past == 0 {
-                return 0;
-            }
-            numbers::SIZE_END + 1
-        }
+        Field::Refused(_, _) => numbers::SIZE_END + 1,
     }
 }
 
@@ -139,10 +134,7 @@ fn tail(f: Field) -> usize
 fn has_room(steps: usize, tail: usize, out: usize) -> bool
     ensures { result ≡ leb (steps * step_size + tail) out }
 {
-    if out < tail {
-        return false;
-    }
-    steps <= (out - tail) / numbers::SIZE_STEP
+    tail <= out && steps <= (out - tail) / numbers::SIZE_STEP
 }
 
 // The walk that writes the old form, once it is known that all has room.
@@ -159,8 +151,8 @@ fn put_long(s: &[u8], out: &mut [u8])
             return;
         };
         recording::write_step(out, to, x);
-        to = to + numbers::SIZE_STEP;
-        at = at + n;
+        to += numbers::SIZE_STEP;
+        at += n;
     }
 }
 
@@ -168,17 +160,7 @@ fn put_long(s: &[u8], out: &mut [u8])
 fn put_tail(f: Field, out: &mut [u8], to: usize)
     ensures { out.new ≡ wrote_bytes out.old to (tail_bytes f) }
 {
-    match f {
-        Field::Step(_, _) => {}
-        Field::End => {
-            wire::write(out, to, &[numbers::TAG_END, 0, 0]);
-        }
-        Field::Refused(past, _) => {
-            if past != 0 {
-                wire::write(out, to, &[numbers::TAG_END, 0, 0, 0]);
-            }
-        }
-    }
+    wire::write(out, to, &[numbers::TAG_END, 0, 0, 0][..tail(f)]);
 }
 
 // Moves a recording to the old form, into a lent buffer: 18 at place 0 for a bad header, 18 at each field, and 27 last of all. A refusal leaves the buffer as it is.
@@ -186,21 +168,19 @@ pub fn lengthen(s: &[u8], out: &mut [u8]) -> Moved
     ensures value { result ≡ lengthen_to s.now out.old }
     ensures out_after { out.new ≡ lengthen_written s.now out.old }
 {
-    if forms::is_short(s) && forms::is_headed(s) {
-        let p = pass(s);
-        let count = p.count;
-        let last = p.last;
-        let r = ended(last, count, Moved::To(0));
-        let Moved::To(_) = r else {
-            return r;
-        };
-        if has_room(count, numbers::SIZE_END, out.len()) {
-            put_long(s, out);
-            return Moved::To(count * numbers::SIZE_STEP + numbers::SIZE_END);
-        }
+    if !forms::is_short(s) || !forms::is_headed(s) {
+        return Moved::Refused(0, numbers::BAD_FIELD);
+    }
+    let p = pass(s);
+    let r = ended(p.last, p.count, Moved::To(0));
+    let Moved::To(_) = r else {
+        return r;
+    };
+    if !has_room(p.count, numbers::SIZE_END, out.len()) {
         return Moved::Refused(0, numbers::NO_ROOM);
     }
-    Moved::Refused(0, numbers::BAD_FIELD)
+    put_long(s, out);
+    Moved::To(p.count * numbers::SIZE_STEP + numbers::SIZE_END)
 }
 
 // Puts the fields behind a header into a lent buffer as the old form has them, damage and all: 27 where they do not fit.
@@ -209,12 +189,10 @@ pub fn stretch(s: &[u8], out: &mut [u8]) -> Wrote
     ensures out_after { out.new ≡ wrote_bytes out.old 0 (long_of (drop edition_size s.now)) }
 {
     let p = pass(s);
-    let count = p.count;
-    let last = p.last;
-    let tail = tail(last);
-    if has_room(count, tail, out.len()) {
-        put_long(s, out);
-        return Wrote::To(count * numbers::SIZE_STEP + tail);
+    let tail = tail(p.last);
+    if !has_room(p.count, tail, out.len()) {
+        return Wrote::Refused(numbers::NO_ROOM);
     }
-    Wrote::Refused(numbers::NO_ROOM)
+    put_long(s, out);
+    Wrote::To(p.count * numbers::SIZE_STEP + tail)
 }

@@ -5,7 +5,7 @@ ghost use Rattle.std.specs.Prelude.{◌≡◌, ◌-◌, ◌*◌, ◌%◌, ◌≤
 ghost use Rattle.effects.specs.Step.{inner_of};
 ghost use Rattle.gaps.specs.Orders.{passed_over, behind, sequences, up_to_three};
 ghost use Rattle.gaps.specs.Gaps.{choice, counts_of, choices_in, fills};
-ghost use Rattle.searching.specs.Search.{count_in, Counted, choice_at, claimed_of, claiming_of, size_of};
+ghost use Rattle.searching.specs.Search.{count_in, Counted, choice_at, claiming_of, size_of};
 
 use config::Config;
 use gaps::Choices;
@@ -16,13 +16,10 @@ use values::{Answer, Step, Value};
 pub fn choices_of(cfg: Config) -> Choices
     ensures { result ≡ counts_of cfg }
 {
-    let runnables = cfg.runnables;
-    let operations = cfg.operations;
-    let timers = cfg.timers;
     Choices {
-        spawns: runnables.n,
-        timeouts: operations.n,
-        ticks: timers.n,
+        spawns: cfg.runnables.n,
+        timeouts: cfg.operations.n,
+        ticks: cfg.timers.n,
     }
 }
 
@@ -37,7 +34,7 @@ fn choice(code: u8, k: usize) -> Step
     ensures { result ≡ choice code (k % 256) }
 {
     Step {
-        code: code,
+        code,
         who: 0,
         what: (k % 256) as u8,
         argument: Value::VOID,
@@ -64,18 +61,11 @@ pub fn choice_at(all: Choices, k: usize) -> Step
 pub fn claiming(x: Step, a: Answer) -> Step
     ensures { result ≡ claiming_of x a }
 {
-    match a {
-        Answer::Taken(v) => claimed(x, v),
-        Answer::Refused(_) => claimed(x, Value::VOID),
-    }
-}
-
-fn claimed(x: Step, v: Value) -> Step
-    ensures { result ≡ claimed_of x v }
-{
-    let mut y = x;
-    y.claim = v;
-    y
+    let claim = match a {
+        Answer::Taken(v) => v,
+        Answer::Refused(_) => Value::VOID,
+    };
+    Step { claim, ..x }
 }
 
 // How many sequences of n choices there are, of k to choose from.
@@ -98,9 +88,7 @@ fn stepper(cfg: Config, st: State, s: Step, all: Choices, n: u8) -> usize
     ensures { (result ≡ passed_over (fills (inner_of cfg) cfg st s) (sequences (choices_in all) n)) × (result ≤ 447697125) }
 {
     if n == 0 {
-        let r = machine::inner(cfg, st, s);
-        let a = r.answer;
-        return match a {
+        return match machine::inner(cfg, st, s).answer {
             Answer::Taken(_) => 0,
             Answer::Refused(_) => 1,
         };
@@ -120,10 +108,8 @@ fn chooser(cfg: Config, st: State, s: Step, all: Choices, n: u8, left: usize) ->
     let k = count_of(all);
     let size = size_of(k, n);
     let r = machine::possible(cfg, st, choice_at(all, k - left));
-    let a = r.answer;
-    if let Answer::Taken(_) = a {
-        let next = r.state;
-        let p = stepper(cfg, next, s, all, n);
+    if let Answer::Taken(_) = r.answer {
+        let p = stepper(cfg, r.state, s, all, n);
         if p < size {
             return p;
         }
@@ -136,20 +122,14 @@ pub fn rank(cfg: Config, st: State, s: Step, all: Choices) -> usize
     ensures { (result ≡ passed_over (fills (inner_of cfg) cfg st s) (up_to_three (choices_in all))) × (result ≤ 450000000) }
 {
     let k = count_of(all);
-    let a = stepper(cfg, st, s, all, 0);
-    let none = size_of(k, 0);
-    if a < none {
-        return a;
+    let mut passed: usize = 0;
+    for n in 0..4 {
+        let found = stepper(cfg, st, s, all, n);
+        let count = size_of(k, n);
+        if found < count {
+            return passed + found;
+        }
+        passed += count;
     }
-    let b = stepper(cfg, st, s, all, 1);
-    let one = size_of(k, 1);
-    if b < one {
-        return none + b;
-    }
-    let c = stepper(cfg, st, s, all, 2);
-    let two = size_of(k, 2);
-    if c < two {
-        return none + (one + c);
-    }
-    none + (one + (two + stepper(cfg, st, s, all, 3)))
+    passed
 }

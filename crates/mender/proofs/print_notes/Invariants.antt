@@ -1,10 +1,12 @@
--- The place lies within the report, and what is left falls.
-use Prim.Native.Nat.{◌≤◌}
-use lib.ListN.{length}
+-- `print_notes` meets its contract: the lines of k notes are out, and what is ahead is the rest of the report.
+-- Assumes nothing.
+use Prim.Native.Nat.{◌*◌}
+use mathlib.Core.Path.{◌≡◌}
+use lib.ListN.{drop}
+use Rattle.std.specs.Io.KnownBytes.{Appends}
+use Rattle.gaps.specs.Report.{note_size}
+use Rattle.mender.specs.Told.{note_lines}
 use Rattle.mender.proofs.print_notes.Given as goal
 
-abbrev pub invariant-loop-left : goal.invariant-loop-left
-invariant-loop-left g l = l.at ≤ length l.report
-
-abbrev pub decreases-loop-left : goal.decreases-loop-left
-decreases-loop-left g l = l.left
+abbrev pub invariant-loop-k : goal.invariant-loop-k
+invariant-loop-k g l = (l.rest ≡ drop (l.k * note_size) l.report) × Appends (g.W.Write.contents l.initial.out) (g.W.Write.contents l.out) (note_lines l.report l.k)

@@ -1,18 +1,20 @@
 -- `has_room` meets its contract.
 -- Assumes nothing.
 use Prim.Native.Nat.{◌+◌, ◌*◌}
-use mathlib.Core.Path.{sym, ◌∙◌}
+use mathlib.Core.Bool.{true}
+use mathlib.Core.Path.{◌≡◌, sym, ◌∙◌}
 use native.Mathlib.Omega.{arith}
-use borrow.Author.Tests.{le-leb, lt-leb}
+use lib.Dec.{leb}
+use borrow.Author.Tests.{le-leb, leb-true}
 use Rattle.numbers.specs.Tags.{step_size, end_size}
 use Rattle.mending.proofs.Putting.{notes-room}
 use Rattle.mending.proofs.has_room.Goals as goal
+use Rattle.mending.proofs.has_room.Goals.{then-out-ge-SIZE_END, else-out-ge-SIZE_END}
 
-pub returns-then-out-lt-SIZE_END : goal.returns-then-out-lt-SIZE_END
-returns-then-out-lt-SIZE_END c = rw (lt-leb (c.args.steps * step_size + end_size) c.args.out (omega (arith, c.if-out-lt-SIZE_END.true)))
-
-pub returns-then-out-steps : goal.returns-then-out-steps
-returns-then-out-steps c = rw (lt-leb (c.args.steps * step_size + end_size) c.args.out (omega (arith, c.if-out-lt-SIZE_END.false, c.if-out-steps.true)))
-
-pub returns : goal.returns
-returns c = notes-room c.args.notes c.args.report ∙ sym (rw (le-leb (c.args.steps * step_size + end_size) c.args.out (omega (arith, c.if-out-lt-SIZE_END.false, c.if-out-steps.false))))
+pub returns-then-steps-out : goal.returns-then-steps-out
+returns-then-steps-out c =
+    let fits : leb (c.args.steps * step_size + end_size) c.args.out ≡ true = elim c.if-out-ge-SIZE_END.branch [
+      | then-out-ge-SIZE_END w ↦ le-leb _ _ (omega (arith, w.if-out-ge-SIZE_END.true, leb-true _ _ (sym w.value-is ∙ c.if-steps-out.true)))
+      | else-out-ge-SIZE_END w ↦ absurd (omega (arith, w.if-out-ge-SIZE_END.false, leb-true 3 c.args.out (sym w.value-is ∙ c.if-steps-out.true)))
+    ] in
+    notes-room c.args.notes c.args.report ∙ sym (rw fits)

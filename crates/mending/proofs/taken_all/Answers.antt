@@ -1,30 +1,22 @@
 -- `taken_all` meets its contract. The choices that are left lead from the state reached to where all lead from the first.
 -- Assumes nothing.
-use mathlib.Core.Path.{refl, sym, ◌∙◌}
+use mathlib.Core.Path.{sym, ap, ◌∙◌}
 use native.Mathlib.Omega.{arith}
-use Rattle.mending.proofs.Ranking.{taken_none, taken_next}
+use Rattle.mending.specs.declared.Picks.{Picks}
+use Rattle.mending.specs.Going.{picked, taken_all}
+use Rattle.searching.specs.Search.{choice_at}
+use Rattle.mending.proofs.Ranking.{left_of, left-next, left_none, left-long, left-first, taken_none, taken_next}
 use Rattle.mending.proofs.taken_all.Goals as goal
 
-pub loop-left-init : goal.loop-left-init
-loop-left-init c = (c.requires, refl)
+pub loop-k-init : goal.loop-k-init
+loop-k-init c = ap (λ (p : Picks). taken_all c.args.cfg c.args.st (picked c.args.all p)) (sym (left_none c.args.fill))
 
-pub choice_at-requires : goal.choice_at-requires
-choice_at-requires c = tt
-
-pub possible-r-requires : goal.possible-r-requires
-possible-r-requires c = tt
-
-pub overflow_sub-left : goal.overflow_sub-left
-overflow_sub-left c = omega arith
-
-pub of-left-requires : goal.of-left-requires
-of-left-requires c = tt
-
-pub loop-left-smaller : goal.loop-left-smaller
-loop-left-smaller c = rw c.of-left.ensures (omega (arith, c.loop-left-test.true))
-
-pub loop-left-preserved : goal.loop-left-preserved
-loop-left-preserved c = rw c.of-left.ensures (omega (arith, c.loop-left.invariant.0), c.loop-left.invariant.1 ∙ taken_next _ _ _ _ c.loop-left-test.true c.loop-left.invariant.0 c.choice_at.ensures c.possible-r.ensures)
+pub loop-k-preserved : goal.loop-k-preserved
+loop-k-preserved c =
+    let long = left-long c.loop-k.k c.args.fill in
+    let is = c.choice_at-x.ensures ∙ ap (choice_at c.args.all) (c.number.ensures ∙ sym (left-first c.loop-k.k c.args.fill (omega (arith, c.requires)))) in
+    c.loop-k.invariant ∙ taken_next _ _ _ (left_of c.loop-k.k c.args.fill) (omega (arith, long)) (omega (arith, long, c.requires)) is c.possible.ensures
+    ∙ ap (λ (p : Picks). taken_all c.args.cfg c.possible.result.state (picked c.args.all p)) (sym (left-next c.loop-k.k c.args.fill))
 
 pub returns : goal.returns
-returns c = sym (c.loop-left.invariant.1 ∙ taken_none _ _ _ _ (omega (arith, c.loop-left-test.false)))
+returns c = sym (c.loop-k.invariant ∙ taken_none _ _ _ _ (omega (arith, left-long c.loop-k.k c.args.fill)))

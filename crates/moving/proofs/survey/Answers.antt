@@ -16,8 +16,8 @@ ended-requires c = omega (arith, (measuring-room _ _ _ _ c.loop-x.invariant).0, 
 pub returns-in_default : goal.returns-in_default
 returns-in_default c = c.ended.ensures ∙ measuring-ended _ _ _ _ c.loop-x.invariant _ (no_step _ _ c.in_default.not-Step c.read_field-f.ensures)
 
-pub overflow_add-size-then-has_short : goal.overflow_add-size-then-has_short
-overflow_add-size-then-has_short c = omega (arith, (measuring-room _ _ _ _ c.loop-x.invariant).1, c.short_size-size.ensures, (short-size c.in-Step.x).1, c.well_formed.0)
+pub overflow_add-size-in-loop-x : goal.overflow_add-size-in-loop-x
+overflow_add-size-in-loop-x c = omega (arith, (measuring-room _ _ _ _ c.loop-x.invariant).1, c.short_size-size.ensures, (short-size c.in-Step.x).1, c.well_formed.0)
 
 pub overflow_add-count : goal.overflow_add-count
 overflow_add-count c = omega (arith, (measuring-room _ _ _ _ c.loop-x.invariant).0, c.well_formed.0)
@@ -29,10 +29,10 @@ pub loop-x-smaller : goal.loop-x-smaller
 loop-x-smaller c = let r = step_room _ _ _ _ c.loop-x.invariant.inside (sym c.read_field-f.ensures ∙ c.in-Step.is) in omega (arith, r.0, r.1)
 
 pub loop-x-preserved : goal.loop-x-preserved
-loop-x-preserved c = rw c.short_size-size.ensures (measuring-next _ _ _ _ c.loop-x.invariant _ _ (sym c.read_field-f.ensures ∙ c.in-Step.is) (sym c.has_short.ensures ∙ c.if-has_short.true))
+loop-x-preserved c = rw c.short_size-size.ensures (measuring-next _ _ _ _ c.loop-x.invariant _ _ (sym c.read_field-f.ensures ∙ c.in-Step.is) (sym c.has_short.ensures ∙ c.if-not-has_short.false))
 
 pub overflow_add-result : goal.overflow_add-result
 overflow_add-result c = omega (arith, (measuring-room _ _ _ _ c.loop-x.invariant).0, c.well_formed.0)
 
-pub returns-else-has_short : goal.returns-else-has_short
-returns-else-has_short c = measuring-long _ _ _ _ c.loop-x.invariant _ _ (sym c.read_field-f.ensures ∙ c.in-Step.is) (sym c.has_short.ensures ∙ c.if-has_short.false)
+pub returns-then-not-has_short : goal.returns-then-not-has_short
+returns-then-not-has_short c = measuring-long _ _ _ _ c.loop-x.invariant _ _ (sym c.read_field-f.ensures ∙ c.in-Step.is) (sym c.has_short.ensures ∙ c.if-not-has_short.true)

@@ -25,7 +25,7 @@ chooser-returns t c =
     let z = c.size_of-size.ensures in
     let a = c.args in
     let size : c.size_of-size.result ≡ size_of (count_in a.all) a.n = z.0 ∙ ap (λ (m : ℕ). size_of m a.n) k.is in (
-      rw (size, c.chooser.ensures.0) (sym (elim c.match-a.branch [
+      rw (size, c.chooser.ensures.0) (sym (elim c.match-r.branch [
         | chooser-in-Taken+else-p-size w ↦ missed _ _ _ _ _ _ k c.if-left-eq0.false c.requires.1 c.requires.0 c.choice_at.ensures c.possible-r.ensures _ w.in-Taken.is w.stepper-p.ensures.0 (rw (← size) w.if-p-size.false)
         | chooser-in_default w ↦ barred _ _ _ _ _ _ k c.if-left-eq0.false c.requires.1 c.requires.0 c.choice_at.ensures c.possible-r.ensures _ w.in_default.is
       ])),
@@ -33,10 +33,10 @@ chooser-returns t c =
     )
 
 pub stepper-returns-in-Taken : goal.stepper-returns-in-Taken
-stepper-returns-in-Taken t c = (sym (rw c.if-n-eq0.true (none-taken _ _ _ _ c.inner-r.ensures _ c.in-Taken.is)), omega arith)
+stepper-returns-in-Taken t c = (sym (rw c.if-n-eq0.true (none-taken _ _ _ _ c.inner.ensures _ c.in-Taken.is)), omega arith)
 
 pub stepper-returns-in-Refused : goal.stepper-returns-in-Refused
-stepper-returns-in-Refused t c = (sym (rw c.if-n-eq0.true (none-barred _ _ _ _ c.inner-r.ensures _ c.in-Refused.is)), omega arith)
+stepper-returns-in-Refused t c = (sym (rw c.if-n-eq0.true (none-barred _ _ _ _ c.inner.ensures _ c.in-Refused.is)), omega arith)
 
 pub stepper-returns : goal.stepper-returns
 stepper-returns t c =

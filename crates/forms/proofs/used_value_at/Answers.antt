@@ -1,9 +1,0 @@
--- `forms::used_value_at` meets its contract.
--- Assumes nothing.
-use Rattle.forms.proofs.used_value_at.Goals as goal
-
-pub returns-then-used : goal.returns-then-used
-returns-then-used c = rw (c.value_at.ensures, c.if-used.true)
-
-pub returns : goal.returns
-returns c = rw c.if-used.false
