@@ -5,7 +5,8 @@
 // `n` a name; `v` is the word of a kind of value. The second is what chooses among the rows of a field, counted from `a` for 0: of a step its code, of a
 // part its second byte, of a value its kind; `-` chooses nothing, and of a value it is any bad one. In the words `%b2` is byte 2 of the body, `%n2` the number in four bytes from there, `%v2` the value in five, `%w2` the number of a value that
 // is a Number, `%02` the number of a part of kind 0, with its name; `#0` is the part's own number, `@0` its own name, `!0` a number and a name.
-ghost use Rattle.std.specs.Prelude.{◌<◌, ◌≤◌, length};
+ghost use Rattle.std.specs.Prelude.{◌<◌, ◌≤◌, length, IfSome};
+ghost use Rattle.std.specs.Iterator.{at_most};
 
 pub(crate) const FORMS: [u8; 2449] = *b"vaVoid
 vbNumber
@@ -79,166 +80,215 @@ n-operation !6
 n-timer !7
 ";
 
-// What stands at a place, or 0 past the end.
-pub(crate) fn byte_at(s: &[u8], i: usize) -> u8 {
-    if i < s.len() {
-        return s[i];
-    }
-    0
+// What a row has the form of.
+#[derive(Clone, Copy, PartialEq, Eq)]
+pub(crate) enum Subject {
+    // The word of a kind of value.
+    Value,
+    // A line that gives a part its name.
+    Name,
+    // The line of a field, with its tag.
+    Field(u8),
 }
 
-// What stands so many places behind a place, or 0 past the end.
-pub(crate) fn after(s: &[u8], i: usize, k: usize) -> u8 {
-    if i < s.len() {
-        if k < s.len() - i {
-            return s[i + k];
+// A row: what it has the form of, the byte that chooses it, if one does, and its words.
+#[derive(Clone, Copy)]
+pub(crate) struct Row<'a> {
+    pub subject: Subject,
+    pub choice: Option<u8>,
+    pub words: &'a [u8],
+}
+
+impl<'a> Row<'a> {
+    fn of(text: &'a [u8]) -> Option<Row<'a>> {
+        match text {
+            [letter, choice, words @ ..] => Some(Row {
+                subject: subject_of(*letter),
+                choice: choice.checked_sub(b'a'),
+                words,
+            }),
+            _ => None,
         }
     }
-    0
+
+    // It has the form of a line, and is no word of a value.
+    pub(crate) fn is_line(&self) -> bool {
+        self.subject != Subject::Value
+    }
 }
 
-// Where the row behind this one starts.
-pub(crate) fn next_row(forms: &[u8], p: usize) -> usize
-    requires { p < length forms.now }
-    ensures { (p < result) × (result ≤ length forms.now) }
+// The rows of a table, each up to the end of its line.
+#[derive(Clone, Copy)]
+pub(crate) struct Rows<'a>(pub &'a [u8]);
+
+impl<'a> Iterator for Rows<'a> {
+    type Item = Row<'a>;
+
+    ghost remaining = { λ s. at_most (length s.0.now) };
+
+    fn next(&mut self) -> Option<Row<'a>> {
+        let end = self.0.iter().position(|b| *b == b'\n')?;
+        let row = Row::of(&self.0[..end]);
+        self.0 = &self.0[end + 1..];
+        row
+    }
+}
+
+// What an item of a row's words stands for. A place is one in the body of a field.
+#[derive(Clone, Copy)]
+pub(crate) enum Meaning<'a> {
+    Word(&'a [u8]),
+    // A byte of the field.
+    Byte(u8),
+    // The number in four bytes.
+    Long(u8),
+    // The value in five bytes.
+    Value(u8),
+    // The number of a value that is a Number.
+    Amount(u8),
+    // The number of a part of a kind, with its name.
+    Part { kind: u8, place: u8 },
+    // The own number of a part of a kind.
+    Own(u8),
+    // Its own name.
+    OwnName(u8),
+    // A number and a name of a part of a kind.
+    Named(u8),
+}
+
+// An item of a row's words, and whether a blank stands before it.
+#[derive(Clone, Copy)]
+pub(crate) struct Item<'a> {
+    pub spaced: bool,
+    pub meaning: Meaning<'a>,
+}
+
+// The items of a row's words.
+#[derive(Clone, Copy)]
+pub(crate) struct Items<'a>(pub &'a [u8]);
+
+impl<'a> Iterator for Items<'a> {
+    type Item = Item<'a>;
+
+    ghost remaining = { λ s. at_most (length s.0.now) };
+
+    fn next(&mut self) -> Option<Item<'a>> {
+        let (spaced, words) = match self.0 {
+            [b' ', words @ ..] => (true, words),
+            words => (false, words),
+        };
+        let (meaning, behind) = split_meaning(words)?;
+        self.0 = behind;
+        Some(Item { spaced, meaning })
+    }
+}
+
+// The item that words start with, and what stands behind it.
+fn split_meaning(words: &[u8]) -> Option<(Meaning<'_>, &[u8])>
+    ensures { IfSome result (λ p. length p.1.now < length words.now) }
 {
-    let mut k = p;
-    while k < forms.len() {
-        if forms[k] == b'\n' {
-            return k + 1;
+    match words {
+        [] => None,
+        [b'%', b'b', place, behind @ ..] => Some((Meaning::Byte(place_of(*place)), behind)),
+        [b'%', b'n', place, behind @ ..] => Some((Meaning::Long(place_of(*place)), behind)),
+        [b'%', b'v', place, behind @ ..] => Some((Meaning::Value(place_of(*place)), behind)),
+        [b'%', b'w', place, behind @ ..] => Some((Meaning::Amount(place_of(*place)), behind)),
+        [b'%', kind, place, behind @ ..] => {
+            let (kind, place) = (kind_of(*kind), place_of(*place));
+            Some((Meaning::Part { kind, place }, behind))
         }
-        k = k + 1;
+        [b'#', kind, behind @ ..] => Some((Meaning::Own(kind_of(*kind)), behind)),
+        [b'@', kind, behind @ ..] => Some((Meaning::OwnName(kind_of(*kind)), behind)),
+        [b'!', kind, behind @ ..] => Some((Meaning::Named(kind_of(*kind)), behind)),
+        [_, others @ ..] => {
+            let (word, behind) = words.split_at(words.len() - behind_word(others).len());
+            Some((Meaning::Word(word), behind))
+        }
     }
-    forms.len()
+}
+
+// What stands behind the letters of a word.
+fn behind_word(words: &[u8]) -> &[u8]
+    ensures { length result.now ≤ length words.now }
+{
+    match words.iter().position(|c| is_special(*c)) {
+        Some(end) => &words[end..],
+        None => &[],
+    }
 }
 
 // A letter that starts an item other than a word.
 fn is_special(c: u8) -> bool {
-    match c {
-        b' ' => true,
-        b'%' => true,
-        b'#' => true,
-        b'@' => true,
-        b'!' => true,
-        _ => false,
-    }
+    matches!(c, b' ' | b'%' | b'#' | b'@' | b'!')
 }
 
-// Where the word that starts at i ends.
-fn word_end(forms: &[u8], i: usize, to: usize) -> usize
-    requires { i < to }
-    ensures { (i < result) × (result ≤ to) }
+// The place in a body that a digit stands for: a body has 13 bytes, and a value five.
+fn place_of(c: u8) -> u8
+    ensures { result ≤ 8 }
 {
-    let mut k = i + 1;
-    while k < to {
-        if is_special(byte_at(forms, k)) {
-            return k;
-        }
-        k = k + 1;
-    }
-    to
-}
-
-// How many letters an item other than a word has; 0 for a word.
-fn item_size(c: u8) -> usize {
     match c {
-        b' ' => 1,
-        b'%' => 3,
-        b'#' => 2,
-        b'@' => 2,
-        b'!' => 2,
+        b'0'..=b'8' => c - b'0',
         _ => 0,
     }
 }
 
-// Where the item that starts at i ends.
-pub(crate) fn item_end(forms: &[u8], i: usize, to: usize) -> usize
-    requires { i < to }
-    ensures { (i < result) × (result ≤ to) }
-{
-    let size = item_size(byte_at(forms, i));
-    if size == 0 {
-        return word_end(forms, i, to);
-    }
-    if to - i < size {
-        return to;
-    }
-    i + size
-}
-
-// The place of a byte of the body, behind the three of the frame.
-pub(crate) fn offset_of(c: u8) -> usize
+// The kind of part that a digit in hexadecimal stands for; 12 is none.
+fn kind_of(c: u8) -> u8
     ensures { result ≤ 12 }
 {
-    if c < b'0' {
-        return 3;
-    }
-    if b'9' < c {
-        return 3;
-    }
-    (c - b'0') as usize + 3
-}
-
-// The kind of part that a digit in hexadecimal stands for; 12 is none.
-pub(crate) fn kind_of(c: u8) -> u8 {
-    if c == b'a' {
-        return 10;
-    }
-    if c == b'b' {
-        return 11;
-    }
-    if c < b'0' {
-        return 12;
-    }
-    if b'9' < c {
-        return 12;
-    }
-    c - b'0'
-}
-
-// The tag of the field that the first letter of a row stands for; 0 for a name.
-pub(crate) fn tag_of(c: u8) -> u8 {
     match c {
-        b'e' => 0x01,
-        b's' => 0x40,
-        b'z' => 0x7f,
-        b'n' => 0,
-        _ => {
-            let kind = kind_of(c);
-            if kind < 12 {
-                return 0x10 + kind;
-            }
-            0
-        }
+        b'0'..=b'9' => c - b'0',
+        b'a' => 10,
+        b'b' => 11,
+        _ => numbers::PART_KINDS,
     }
 }
 
-// How many bytes the body of a field has, and 255 for a tag that is none.
-pub(crate) fn size_of(tag: u8) -> u8 {
+// What the first letter of a row stands for.
+fn subject_of(c: u8) -> Subject {
+    match c {
+        b'v' => Subject::Value,
+        b'n' => Subject::Name,
+        _ => Subject::Field(tag_of(c)),
+    }
+}
+
+// The tag of the field that the first letter of a row stands for.
+fn tag_of(c: u8) -> u8 {
+    match c {
+        b'e' => numbers::TAG_EDITION,
+        b's' => numbers::TAG_STEP,
+        b'z' => numbers::TAG_END,
+        _ => numbers::TAG_RUNNABLE + kind_of(c),
+    }
+}
+
+// How many bytes the body of a field has, if a field has this tag.
+pub(crate) fn size_of(tag: u8) -> Option<usize>
+    ensures { IfSome result (λ n. n ≤ 13) }
+{
     match tag {
-        0x01 => 1,
-        0x10 => 7,
-        0x11 => 6,
-        0x12 => 1,
-        0x13 => 2,
-        0x14 => 2,
-        0x15 => 2,
-        0x16 => 7,
-        0x17 => 5,
-        0x18 => 2,
-        0x19 => 2,
-        0x1a => 2,
-        0x1b => 2,
-        0x40 => 13,
-        0x7f => 0,
-        _ => 255,
+        numbers::TAG_EDITION => Some(numbers::LENGTH_EDITION),
+        numbers::TAG_RUNNABLE => Some(numbers::LENGTH_RUNNABLE),
+        numbers::TAG_VARIABLE => Some(numbers::LENGTH_VARIABLE),
+        numbers::TAG_AREA => Some(numbers::LENGTH_AREA),
+        numbers::TAG_REQUIRED => Some(numbers::LENGTH_REQUIRED),
+        numbers::TAG_PROVIDED => Some(numbers::LENGTH_PROVIDED),
+        numbers::TAG_LINK => Some(numbers::LENGTH_LINK),
+        numbers::TAG_OPERATION => Some(numbers::LENGTH_OPERATION),
+        numbers::TAG_TIMER => Some(numbers::LENGTH_TIMER),
+        numbers::TAG_DATA_EVENT => Some(numbers::LENGTH_DATA_EVENT),
+        numbers::TAG_RETURN_EVENT => Some(numbers::LENGTH_RETURN_EVENT),
+        numbers::TAG_INCOMING | numbers::TAG_OUTGOING => Some(numbers::LENGTH_LISTED),
+        numbers::TAG_STEP => Some(numbers::LENGTH_STEP),
+        numbers::TAG_END => Some(numbers::LENGTH_END),
+        _ => None,
     }
 }
 
-// The place of the byte that chooses among the rows of a field: of a step its first, of a part its second.
-pub(crate) fn choosing(tag: u8) -> usize {
-    if tag == 0x40 {
-        return 3;
-    }
-    4
+// The place in the body of the byte that chooses among the rows of a field: of a step its first, of a part its second.
+pub(crate) fn choosing(tag: u8) -> usize
+    ensures { result < 13 }
+{
+    if tag == numbers::TAG_STEP { 0 } else { 1 }
 }

@@ -4,23 +4,24 @@
 #![tactic(auto)]
 
 mod expecting;
+mod field;
 mod forms;
 mod making;
 mod names;
 mod putting;
+mod room;
 mod showing;
 mod taking;
 mod tripping;
 
-ghost use Rattle.std.specs.Prelude.{length};
-ghost use Rattle.program_io.specs.Got.{Fits};
-
-use making::Made;
+use making::{Mistake, Unmade};
+use names::Known;
 use program_io::Got;
+use room::Room;
 use std::env::Env;
-use std::io::{Error, ErrorKind, Input, Write};
+use std::io::{Input, Write};
 use std::rt::Files;
-use taking::Number;
+use taking::Line;
 use tripping::Tally;
 
 // The most bytes of a file, and of a text; the rooms have one more, so that a longer one is seen.
@@ -32,25 +33,27 @@ const BYTES_ROOM: usize = BYTES + 1;
 
 const TEXT_ROOM: usize = TEXT + 1;
 
-// The file that an argument names, read into buf.
-fn read_arg<R: Env + Files + Input, E: Print>(rt: &R, stderr: &E, i: usize, buf: &mut [u8]) -> Got
-    ensures { Fits result (length buf.new) }
-{
+// The file that an argument names, read into a room. Whether all of it was read; if not, it is said why.
+fn read_arg<R: Env + Files + Input, E: Print, const N: usize>(
+    rt: &R,
+    stderr: &E,
+    i: usize,
+    room: &mut Room<N>,
+) -> bool {
     let mut name = [0u8; program_io::NAME_ROOM];
     let n = program_io::arg(rt, i, &mut name);
-    let got = program_io::read_named(rt, &name[..n], buf);
-    let k = match got {
-        Got::Bytes(k) => k,
+    let got = program_io::read_named(rt, &name[..n], &mut room.bytes);
+    match got {
+        Got::Bytes(size) => room.size = size,
         Got::Failed(e) => {
             program_io::fail(stderr, &name[..n], e);
-            return got;
+            return false;
         }
-    };
-    if k < buf.len() {
-        return Got::Bytes(k);
     }
-    say(stderr, b"input too long\n");
-    Got::Failed(Error::from(ErrorKind::FileTooLarge))
+    if room.is_full() {
+        say(stderr, b"input too long\n");
+    }
+    !room.is_full()
 }
 
 // Says a line on standard error.
@@ -60,73 +63,70 @@ fn say<E: Print>(stderr: &E, words: &[u8]) {
 
 // Prints, or says that it could not.
 fn print<R: Print, E: Print>(rt: &R, stderr: &E, text: &[u8]) {
-    if rt.write_all(text).is_ok() {
-        return;
+    if rt.write_all(text).is_err() {
+        say(stderr, b"not written\n");
     }
-    say(stderr, b"not written\n");
 }
 
 // Says what is wrong with a text.
-fn complain<E: Print>(stderr: &E, forms: &[u8], text: &[u8], known: &mut [u8], place: usize) {
-    let mut words = [0u8; 2048];
-    let size = expecting::report(&mut words, forms, text, known, place);
-    if size <= 2048 {
-        say(stderr, &words[..size]);
-    }
+fn complain<E: Print>(stderr: &E, forms: &[u8], mistake: Mistake, known: &Known) {
+    let mut words = Room::<2048>::new();
+    expecting::report(&mut words, forms, mistake, known);
+    say(stderr, words.as_bytes());
 }
 
 // The bytes of a text.
-fn make_text<R: Print, E: Print>(rt: &R, stderr: &E, forms: &[u8], text: &[u8], out: &mut [u8]) {
-    let mut known = [0u8; names::KNOWN];
-    let m = making::make(forms, text, &mut known, out);
-    match m {
-        Made::To(size) => {
-            if size <= out.len() {
-                print(rt, stderr, &out[..size]);
-            }
-        }
-        Made::Wrong(place) => complain(stderr, forms, text, &mut known, place),
-        Made::Full => say(stderr, b"input too long\n"),
+fn make_text<R: Print, E: Print, const N: usize>(
+    rt: &R,
+    stderr: &E,
+    forms: &[u8],
+    text: &[u8],
+    out: &mut Room<N>,
+) {
+    let mut known = Known::new();
+    match making::make(forms, text, &mut known, out) {
+        Ok(()) => print(rt, stderr, out.as_bytes()),
+        Err(Unmade::Wrong(mistake)) => complain(stderr, forms, mistake, &known),
+        Err(Unmade::Full) => say(stderr, b"input too long\n"),
     }
 }
 
 // The text of bytes, with the names that are known.
-fn show_bytes<R: Print, E: Print>(
+fn show_bytes<R: Print, E: Print, const N: usize>(
     rt: &R,
     stderr: &E,
     forms: &[u8],
     bytes: &[u8],
-    known: &mut [u8],
-    out: &mut [u8],
+    known: &mut Known,
+    out: &mut Room<N>,
 ) {
-    let size = showing::show(forms, bytes, known, out);
-    if size < out.len() {
-        print(rt, stderr, &out[..size]);
-        return;
+    showing::show(out, forms, bytes, known);
+    if out.is_full() {
+        say(stderr, b"input too long\n");
+    } else {
+        print(rt, stderr, out.as_bytes());
     }
-    say(stderr, b"input too long\n");
 }
 
 // The names of a text; whether it has no mistake.
-fn learn_text<E: Print>(
+fn learn_text<E: Print, const N: usize>(
     stderr: &E,
     forms: &[u8],
-    known: &mut [u8],
+    known: &mut Known,
     text: &[u8],
-    out: &mut [u8],
+    out: &mut Room<N>,
 ) -> bool {
-    let m = making::make(forms, text, known, out);
-    match m {
-        Made::To(_) => {
-            names::forget_counts(known);
+    match making::make(forms, text, known, out) {
+        Ok(()) => {
+            known.forget_counts();
             true
         }
-        Made::Wrong(place) => {
+        Err(Unmade::Wrong(mistake)) => {
             say(stderr, b"names ");
-            complain(stderr, forms, text, known, place);
+            complain(stderr, forms, mistake, known);
             false
         }
-        Made::Full => {
+        Err(Unmade::Full) => {
             say(stderr, b"input too long\n");
             false
         }
@@ -134,65 +134,50 @@ fn learn_text<E: Print>(
 }
 
 // The names of the names file, if there is one; whether it could be read and has no mistake.
-fn learn_names<R: Env + Files + Input, E: Print>(
+fn learn_names<R: Env + Files + Input, E: Print, const M: usize, const N: usize>(
     rt: &R,
     stderr: &E,
     forms: &[u8],
-    known: &mut [u8],
-    text: &mut [u8],
-    out: &mut [u8],
+    known: &mut Known,
+    text: &mut Room<M>,
+    out: &mut Room<N>,
 ) -> bool {
-    if program_io::arg_count(rt) < 4 {
-        return true;
-    }
-    let got = read_arg(rt, stderr, 3, text);
-    let Got::Bytes(n) = got else {
-        return false;
-    };
-    learn_text(stderr, forms, known, &text[..n], out)
+    program_io::arg_count(rt) < 4
+        || read_arg(rt, stderr, 3, text) && learn_text(stderr, forms, known, text.as_bytes(), out)
 }
 
 // The text of the file that an argument names.
-fn show_arg<R: Env + Files + Input + Print, E: Print>(
+fn show_arg<R: Env + Files + Input + Print, E: Print, const M: usize, const N: usize>(
     rt: &R,
     stderr: &E,
     forms: &[u8],
-    bytes: &mut [u8],
-    text: &mut [u8],
+    bytes: &mut Room<M>,
+    text: &mut Room<N>,
 ) {
-    let mut known = [0u8; names::KNOWN];
-    if learn_names(rt, stderr, forms, &mut known, text, bytes) {
-        let got = read_arg(rt, stderr, 2, bytes);
-        let Got::Bytes(n) = got else {
-            return;
-        };
-        show_bytes(rt, stderr, forms, &bytes[..n], &mut known, text);
+    let mut known = Known::new();
+    if learn_names(rt, stderr, forms, &mut known, text, bytes) && read_arg(rt, stderr, 2, bytes) {
+        show_bytes(rt, stderr, forms, bytes.as_bytes(), &mut known, text);
     }
 }
 
 // The bytes of the text that an argument names.
-fn make_arg<R: Env + Files + Input + Print, E: Print>(
+fn make_arg<R: Env + Files + Input + Print, E: Print, const M: usize, const N: usize>(
     rt: &R,
     stderr: &E,
     forms: &[u8],
-    bytes: &mut [u8],
-    text: &mut [u8],
+    bytes: &mut Room<M>,
+    text: &mut Room<N>,
 ) {
-    let got = read_arg(rt, stderr, 2, text);
-    let Got::Bytes(n) = got else {
-        return;
-    };
-    make_text(rt, stderr, forms, &text[..n], bytes);
+    if read_arg(rt, stderr, 2, text) {
+        make_text(rt, stderr, forms, text.as_bytes(), bytes);
+    }
 }
 
 // How often each file is damaged: the number that the second argument is.
 fn times<R: Env>(rt: &R) -> u32 {
     let mut word = [0u8; 16];
     let n = program_io::arg(rt, 2, &mut word);
-    match taking::take_number(&word[..n], 0) {
-        Number::Is(times, _) => times,
-        Number::None => 0,
-    }
+    Line::of(&word[..n]).take_number().unwrap_or(0)
 }
 
 // Prints how many came back.
@@ -204,24 +189,21 @@ fn print_tally<R: Print, E: Print>(rt: &R, stderr: &E, tally: Tally) {
 }
 
 // Files from standard input, turned into text and back; how many came back.
-fn trip_input<R: Env + Input + Print, E: Print>(
+fn trip_input<R: Env + Input + Print, E: Print, const M: usize, const N: usize>(
     rt: &R,
     stderr: &E,
     forms: &[u8],
-    bytes: &mut [u8],
-    text: &mut [u8],
+    bytes: &mut Room<M>,
+    text: &mut Room<N>,
 ) {
-    let mut shown = [0u8; BYTES_ROOM];
-    let got = program_io::read_whole(&mut rt.reader(), text);
-    let n = match got {
-        Got::Bytes(n) => n,
+    let mut shown = Room::<BYTES_ROOM>::new();
+    let got = program_io::read_whole(&mut rt.reader(), &mut text.bytes);
+    let size = match got {
+        Got::Bytes(size) => size,
         Got::Failed(e) => return program_io::fail(stderr, b"standard input", e),
     };
-    print_tally(
-        rt,
-        stderr,
-        tripping::trip(forms, text, n, &mut shown, bytes, times(rt)),
-    );
+    let tally = tripping::trip(forms, &mut text.bytes[..size], &mut shown, bytes, times(rt));
+    print_tally(rt, stderr, tally);
 }
 
 // What the first argument starts with.
@@ -231,12 +213,12 @@ fn first_letter<R: Env>(rt: &R) -> u8 {
     how[0]
 }
 
-fn run<R: Env + Files + Input + Print, E: Print>(
+fn run<R: Env + Files + Input + Print, E: Print, const M: usize, const N: usize>(
     rt: &R,
     stderr: &E,
     forms: &[u8],
-    bytes: &mut [u8],
-    text: &mut [u8],
+    bytes: &mut Room<M>,
+    text: &mut Room<N>,
 ) {
     match first_letter(rt) {
         b's' => show_arg(rt, stderr, forms, bytes, text),
@@ -247,8 +229,8 @@ fn run<R: Env + Files + Input + Print, E: Print>(
 }
 
 fn main(rt: HostRuntime) {
-    let mut bytes = [0u8; BYTES_ROOM];
-    let mut text = [0u8; TEXT_ROOM];
+    let mut bytes = Room::<BYTES_ROOM>::new();
+    let mut text = Room::<TEXT_ROOM>::new();
     let forms = forms::FORMS;
     run(&rt, &rt.stderr(), &forms, &mut bytes, &mut text);
 }

@@ -1,86 +1,111 @@
-// What is known of the parts of a text: how many of each kind there were, and their names. All of it is a run of bytes: twelve counts, four unused bytes, then
-// 16 places of 33 bytes for each of eight kinds, a name's length and the name.
-ghost use Rattle.std.specs.Prelude.{◌≤◌};
-
-use crate::forms::byte_at;
-use crate::putting::put_byte;
-
-pub(crate) const KNOWN: usize = 4240;
+// What is known of the parts of a text: how many of each kind there were, and their names.
+ghost use Rattle.std.specs.Prelude.{◌<◌, ◌≤◌, IfSome};
 
 // The longest name.
-pub(crate) const LONGEST: usize = 32;
+const LONGEST: usize = 32;
 
-// Where the name of a part stands, if it can have one; past the end if it can't.
-pub(crate) fn place_of(kind: u8, number: u8) -> usize
-    ensures { result ≤ 4240 }
-{
-    if 7 < kind {
-        return KNOWN;
-    }
-    if 15 < number {
-        return KNOWN;
-    }
-    (kind as usize * 16 + number as usize) * 33 + 16
+// How many kinds of parts can have names, and how many parts of a kind.
+const NAMED_KINDS: u8 = 8;
+
+const NAMED_PARTS: u8 = 16;
+
+const NAMES: usize = NAMED_KINDS as usize * NAMED_PARTS as usize;
+
+// A part, by its kind and its number.
+#[derive(Clone, Copy)]
+pub(crate) struct Part {
+    pub kind: u8,
+    pub number: u8,
 }
 
-// A part of this kind more. Counting stops at 255.
-fn count_part(known: &mut [u8], kind: u8) {
-    let i = kind as usize;
-    let n = byte_at(known, i);
-    if n < 255 {
-        put_byte(known, i, n + 1);
-    }
-}
-
-// A part more, if the tag is that of a part.
-pub(crate) fn count_tag(known: &mut [u8], tag: u8) {
-    if tag < 0x10 {
-        return;
-    }
-    if tag < 0x1c {
-        count_part(known, tag - 0x10);
-    }
-}
-
-// The counts start again at 0, and the names stay.
-pub(crate) fn forget_counts(known: &mut [u8]) {
-    let mut i: usize = 0;
-    while i < 12 {
-        put_byte(known, i, 0);
-        i = i + 1;
-    }
-}
-
-// The name at a place is the one in the line from a place on, of this size.
-pub(crate) fn is_name(known: &[u8], place: usize, line: &[u8], from: usize, size: usize) -> bool {
-    if LONGEST < size {
-        return false;
-    }
-    if byte_at(known, place) as usize != size {
-        return false;
-    }
-    let mut j: usize = 0;
-    while j < size {
-        if crate::forms::after(known, place, j + 1) != crate::forms::after(line, from, j) {
-            return false;
+impl Part {
+    // Where its name stands, if it can have one.
+    fn place(self) -> Option<usize>
+        ensures { IfSome result (λ p. p < 128) }
+    {
+        if self.kind < NAMED_KINDS && self.number < NAMED_PARTS {
+            return Some(self.kind as usize * NAMED_PARTS as usize + self.number as usize);
         }
-        j = j + 1;
+        None
     }
-    true
+
+    pub(crate) fn can_have_name(self) -> bool {
+        self.place().is_some()
+    }
 }
 
-// The name in the line from a place on, of this size, is kept.
-pub(crate) fn keep_name(known: &mut [u8], place: usize, line: &[u8], from: usize, size: usize) {
-    if KNOWN < place {
-        return;
+// A name of 1 to 32 bytes, none a control character, and zeros behind it.
+#[derive(Clone, Copy, PartialEq, Eq)]
+pub(crate) struct Name {
+    letters: [u8; LONGEST],
+    size: usize,
+    ghost within: { size ≤ 32 },
+}
+
+impl Name {
+    // The bytes as a name, if they are one.
+    pub(crate) fn of(bytes: &[u8]) -> Option<Name> {
+        if bytes.is_empty() || LONGEST < bytes.len() || bytes.iter().any(|c| *c < b' ') {
+            return None;
+        }
+        let mut letters = [0; LONGEST];
+        letters[..bytes.len()].copy_from_slice(bytes);
+        Some(Name {
+            letters,
+            size: bytes.len(),
+        })
     }
-    if LONGEST < size {
-        return;
+
+    pub(crate) fn as_bytes(&self) -> &[u8] {
+        &self.letters[..self.size]
     }
-    put_byte(known, place, size as u8);
-    let mut j: usize = 0;
-    while j < size {
-        put_byte(known, place + 1 + j, crate::forms::after(line, from, j));
-        j = j + 1;
+}
+
+// How many parts of each kind there were, and the names of parts. Counting stops at 255.
+#[derive(Clone, Copy)]
+pub(crate) struct Known {
+    counts: [u8; numbers::PART_KINDS as usize],
+    names: [Option<Name>; NAMES],
+}
+
+impl Known {
+    pub(crate) fn new() -> Known {
+        Known {
+            counts: [0; numbers::PART_KINDS as usize],
+            names: [None; NAMES],
+        }
+    }
+
+    // How many parts of a kind there were, and so the number of the next.
+    pub(crate) fn count(&self, kind: u8) -> u8 {
+        self.counts.get(kind as usize).copied().unwrap_or(0)
+    }
+
+    // A part more, if the tag is that of a part.
+    pub(crate) fn count_tag(&mut self, tag: u8) {
+        let Some(kind) = tag.checked_sub(numbers::TAG_RUNNABLE) else {
+            return;
+        };
+        if kind < numbers::PART_KINDS {
+            let i = kind as usize;
+            self.counts[i] = self.counts[i].saturating_add(1);
+        }
+    }
+
+    // The counts start again at 0, and the names stay.
+    pub(crate) fn forget_counts(&mut self) {
+        self.counts = [0; numbers::PART_KINDS as usize];
+    }
+
+    // The name of a part, if it has one.
+    pub(crate) fn name(&self, part: Part) -> Option<Name> {
+        self.names[part.place()?]
+    }
+
+    // The name of a part, if it can have one.
+    pub(crate) fn keep(&mut self, part: Part, name: Name) {
+        if let Some(place) = part.place() {
+            self.names[place] = Some(name);
+        }
     }
 }

@@ -1,348 +1,260 @@
 // Text made of bytes.
-ghost use Rattle.std.specs.Prelude.{◌+◌, ◌<◌, ◌≤◌, length};
+ghost use Rattle.std.specs.Prelude.{◌<◌, length, IfSome};
 
-use crate::forms::{after, byte_at, choosing, next_row, size_of, tag_of};
-use crate::making::{Row, find_row};
-use crate::names::count_tag;
-use crate::putting::{put_byte, put_bytes, put_decimal, put_form, put_part};
+use crate::field::Field;
+use crate::forms::{Rows, size_of};
+use crate::making::take_line;
+use crate::names::Known;
+use crate::putting::put_form;
+use crate::room::Room;
+use crate::taking::Line;
 use reading::Outcome;
-use recording::Field;
 
-// The place of the field that is refused, and the number; place 0 where none is.
+// The place of the field that is refused, from 1, and the number.
 #[derive(Clone, Copy)]
 pub(crate) struct Damage {
     pub place: usize,
     pub number: u8,
 }
 
-// How many bytes the field at a place has, with its frame; 0 where no field of either file stands there.
-fn frame(bytes: &[u8], at: usize) -> usize
-    requires { at ≤ length bytes.now }
-    ensures { at + result ≤ length bytes.now }
+// The field that bytes start with, and what stands behind it, if a field of either file stands there.
+fn split_field(bytes: &[u8]) -> Option<(&[u8], &[u8])>
+    ensures { IfSome result (λ p. length p.1.now < length bytes.now) }
 {
-    let size = size_of(byte_at(bytes, at)) as usize;
-    if size == 255 {
-        return 0;
+    let [tag, high, low, behind @ ..] = bytes else {
+        return None;
+    };
+    let size = size_of(*tag)?;
+    if *high != 0 || *low as usize != size || behind.len() < size {
+        return None;
     }
-    if after(bytes, at, 1) != 0 {
-        return 0;
-    }
-    if after(bytes, at, 2) as usize != size {
-        return 0;
-    }
-    if bytes.len() - at < size + 3 {
-        return 0;
-    }
-    size + 3
+    Some(bytes.split_at(numbers::HEAD + size))
 }
 
 // What is refused in a recording.
-fn recording_damage(bytes: &[u8]) -> Damage {
-    let mut at: usize = 0;
+fn recording_damage(bytes: &[u8]) -> Option<Damage> {
+    let mut rest = bytes;
     let mut place: usize = 1;
-    while at < bytes.len() {
-        let f = recording::read_field(bytes, at);
-        match f {
-            Field::Step(_, _) => {}
-            Field::End => {
-                return Damage {
-                    place: 0,
-                    number: 0,
-                };
-            }
-            Field::Refused(past, number) => {
-                return Damage {
-                    place: std::num::wrapping_add_usize(place, past as usize),
-                    number,
-                };
+    while !rest.is_empty() {
+        match recording::read_field(rest, 0) {
+            recording::Field::Step(_, _) => {}
+            recording::Field::End => return None,
+            recording::Field::Refused(past, number) => {
+                let place = place.wrapping_add(past as usize);
+                return Some(Damage { place, number });
             }
         }
-        let size = frame(bytes, at);
-        if size == 0 {
-            return Damage { place, number: 18 };
-        }
-        at = at + size;
-        place = std::num::wrapping_add_usize(place, 1);
+        let Some((_, behind)) = split_field(rest) else {
+            break;
+        };
+        rest = behind;
+        place = place.wrapping_add(1);
     }
-    Damage { place, number: 18 }
+    Some(Damage {
+        place,
+        number: numbers::BAD_FIELD,
+    })
 }
 
 // What is refused in a configuration.
-fn config_damage(bytes: &[u8]) -> Damage {
-    let read = reading::read_config(bytes);
-    let outcome = read.outcome;
-    match outcome {
-        Outcome::Whole => Damage {
-            place: 0,
-            number: 0,
-        },
-        Outcome::Refused(place, number) => Damage { place, number },
+fn config_damage(bytes: &[u8]) -> Option<Damage> {
+    match reading::read_config(bytes).outcome {
+        Outcome::Whole => None,
+        Outcome::Refused(place, number) => Some(Damage { place, number }),
     }
 }
 
 // A file that starts with a step or with the end is taken for a recording, any other for a configuration.
-pub(crate) fn damage_of(bytes: &[u8]) -> Damage {
-    let tag = byte_at(bytes, 0);
-    if tag == 0x40 {
-        return recording_damage(bytes);
+fn damage_of(bytes: &[u8]) -> Option<Damage> {
+    match bytes {
+        [numbers::TAG_STEP | numbers::TAG_END, ..] => recording_damage(bytes),
+        _ => config_damage(bytes),
     }
-    if tag == 0x7f {
-        return recording_damage(bytes);
-    }
-    config_damage(bytes)
-}
-
-// The row may be that of a field: its tag, and the byte that chooses.
-fn is_row_of(forms: &[u8], p: usize, field: &[u8]) -> bool {
-    let tag = byte_at(field, 0);
-    if tag_of(byte_at(forms, p)) != tag {
-        return false;
-    }
-    let choice = after(forms, p, 1);
-    if choice < b'a' {
-        return true;
-    }
-    byte_at(field, choosing(tag)) == choice - b'a'
-}
-
-// The two fields are the same.
-pub(crate) fn is_same(field: &[u8], other: &[u8]) -> bool {
-    let mut i: usize = 0;
-    while i < field.len() {
-        if field[i] != byte_at(other, i) {
-            return false;
-        }
-        i = i + 1;
-    }
-    true
 }
 
 // The line, taken as any line is, gives the field back.
-fn gives_back(forms: &[u8], line: &[u8], known: &mut [u8], field: &[u8]) -> bool {
-    let mut back = [0u8; 16];
-    let r = find_row(forms, line, known, &mut back);
-    match r {
-        Row::At(_) => is_same(field, &back),
-        Row::None(_) => false,
+fn gives_back(forms: &[u8], line: &[u8], known: &Known, field: &Field) -> bool {
+    match take_line(forms, Line::of(line), known) {
+        Ok(taken) => taken.field == *field,
+        Err(_) => false,
     }
 }
 
-// The line of a field by the row from p up to n, or 0 if the row is not its own.
-fn put_by(
+// The line of a field: the first that gives the field back. Whether there is one.
+fn put_field<const N: usize>(
+    line: &mut Room<N>,
     forms: &[u8],
-    p: usize,
-    n: usize,
-    field: &[u8],
-    known: &mut [u8],
-    line: &mut [u8],
-) -> usize
-    requires { p < n }
-{
-    if n - p < 3 {
-        return 0;
-    }
-    if is_row_of(forms, p, field) {
-        let size = put_form(line, forms, known, field, p + 2, n - 1);
-        if line.len() < size {
-            return 0;
-        }
-        if gives_back(forms, &line[..size], known, field) {
-            return size;
+    field: &Field,
+    known: &Known,
+) -> bool {
+    for row in Rows(forms) {
+        if field.may_be_of(&row) {
+            line.clear();
+            put_form(line, forms, row, known, field);
+            if gives_back(forms, line.as_bytes(), known, field) {
+                return true;
+            }
         }
     }
-    0
-}
-
-// The line of a field: the first that gives the field back. 0 if there is none.
-fn put_field(forms: &[u8], field: &[u8], known: &mut [u8], line: &mut [u8]) -> usize {
-    let mut p: usize = 0;
-    while p < forms.len() {
-        let n = next_row(forms, p);
-        let size = put_by(forms, p, n, field, known, line);
-        if 0 < size {
-            return size;
-        }
-        p = n;
-    }
-    0
-}
-
-// The word before the first byte of a line of bytes.
-fn put_word(out: &mut [u8], at: usize, i: usize) -> usize {
-    if i % 16 != 0 {
-        return at;
-    }
-    if i == 0 {
-        return put_bytes(out, at, b"bytes");
-    }
-    put_bytes(out, at, b"\nbytes")
+    false
 }
 
 // Bytes that are no field, as numbers, 16 to a line.
-fn put_raw(out: &mut [u8], at: usize, bytes: &[u8]) -> usize {
-    let mut i: usize = 0;
-    let mut next = at;
-    while i < bytes.len() {
-        next = put_word(out, next, i);
-        next = put_byte(out, next, b' ');
-        next = put_decimal(out, next, byte_at(bytes, i) as u32);
-        i = i + 1;
-    }
-    put_byte(out, next, b'\n')
-}
-
-// The line of the field, or its bytes.
-fn show_field(forms: &[u8], field: &[u8], known: &mut [u8], out: &mut [u8], at: usize) -> usize {
-    let mut line = [0u8; 512];
-    let size = put_field(forms, field, known, &mut line);
-    if size == 0 {
-        return put_raw(out, at, field);
-    }
-    let tag = byte_at(field, 0);
-    count_tag(known, tag);
-    let next = put_part(out, at, &line, 0, size);
-    put_byte(out, next, b'\n')
-}
-
-// Why a field whose frame holds is refused, by its tag and that of the first field.
-fn put_unfit(out: &mut [u8], at: usize, tag: u8, first: u8) -> usize {
-    if first == 0x40 {
-        if tag == 0x40 {
-            return put_bytes(out, at, b"a value is bad");
+fn put_raw<const N: usize>(out: &mut Room<N>, bytes: &[u8]) {
+    for line in bytes.chunks(16) {
+        out.put_all(b"bytes");
+        for b in line {
+            out.put(b' ');
+            out.put_decimal(u64::from(*b));
         }
-        return put_bytes(out, at, b"this field is none of this file");
+        out.put(b'\n');
+    }
+}
+
+// The line of a field, or its bytes.
+fn show_field<const N: usize>(out: &mut Room<N>, forms: &[u8], bytes: &[u8], known: &mut Known) {
+    if let [tag, _, _, body @ ..] = bytes {
+        let mut line = Room::<512>::new();
+        if put_field(&mut line, forms, &Field::of_file(*tag, body), known) {
+            known.count_tag(*tag);
+            out.put_all(line.as_bytes());
+            out.put(b'\n');
+            return;
+        }
+    }
+    put_raw(out, bytes);
+}
+
+// Where a file is shown: the number of the place, from 1, the first tag of the file, what is left of it there, and whether the end came before.
+#[derive(Clone, Copy)]
+struct Left<'a> {
+    place: usize,
+    first: u8,
+    rest: &'a [u8],
+    ended: bool,
+}
+
+// Why a field whose frame holds is refused.
+fn unfit(tag: u8, first: u8) -> &'static [u8] {
+    if first == numbers::TAG_STEP && tag == numbers::TAG_STEP {
+        return b"a value is bad";
+    }
+    if first == numbers::TAG_STEP {
+        return b"this field is none of this file";
     }
     match tag {
-        0x1a => put_bytes(out, at, b"only edition 2 has this field"),
-        0x1b => put_bytes(out, at, b"only edition 2 has this field"),
-        _ => put_bytes(out, at, b"this field is none of this file"),
+        numbers::TAG_INCOMING | numbers::TAG_OUTGOING => b"only edition 2 has this field",
+        _ => b"this field is none of this file",
     }
 }
 
 // Why a frame is refused.
-fn put_reason(out: &mut [u8], at: usize, bytes: &[u8], i: usize, ended: bool) -> usize {
-    if bytes.len() <= i {
-        return put_bytes(out, at, b"the end is missing");
+fn unframed(left: Left) -> &'static [u8] {
+    let [tag, others @ ..] = left.rest else {
+        return b"the end is missing";
+    };
+    if left.ended {
+        return b"bytes stand behind the end";
     }
-    if ended {
-        return put_bytes(out, at, b"bytes stand behind the end");
+    let Some(size) = size_of(*tag) else {
+        return b"no field has this tag";
+    };
+    let [high, low, body @ ..] = others else {
+        return b"the field is cut";
+    };
+    if *high != 0 || *low as usize != size {
+        return b"the length is not that of this tag";
     }
-    let size = size_of(byte_at(bytes, i));
-    if size == 255 {
-        return put_bytes(out, at, b"no field has this tag");
+    if body.len() < size {
+        return b"the field is cut";
     }
-    if bytes.len() - i < 3 {
-        return put_bytes(out, at, b"the field is cut");
-    }
-    if after(bytes, i, 1) != 0 {
-        return put_bytes(out, at, b"the length is not that of this tag");
-    }
-    if after(bytes, i, 2) != size {
-        return put_bytes(out, at, b"the length is not that of this tag");
-    }
-    if bytes.len() - i < size as usize + 3 {
-        return put_bytes(out, at, b"the field is cut");
-    }
-    put_unfit(out, at, byte_at(bytes, i), byte_at(bytes, 0))
+    unfit(*tag, left.first)
 }
 
 // Why a field is one too many.
-fn put_many(out: &mut [u8], at: usize, tag: u8) -> usize {
-    match tag {
-        0x1a => put_bytes(out, at, b"a runnable lists four such elements at most"),
-        0x1b => put_bytes(out, at, b"a runnable lists four such elements at most"),
-        _ => put_bytes(out, at, b"there are too many parts of this kind"),
+fn many(rest: &[u8]) -> &'static [u8] {
+    match rest {
+        [numbers::TAG_INCOMING | numbers::TAG_OUTGOING, ..] => {
+            b"a runnable lists four such elements at most"
+        }
+        _ => b"there are too many parts of this kind",
     }
 }
 
 // Why a field is refused.
-fn put_cause(out: &mut [u8], at: usize, bytes: &[u8], i: usize, ended: bool, number: u8) -> usize {
+fn cause(left: Left, number: u8) -> &'static [u8] {
     match number {
-        22 => put_bytes(out, at, b"the fields are out of order"),
-        23 => put_many(out, at, byte_at(bytes, i)),
-        24 => put_bytes(out, at, b"a number is out of range"),
-        25 => put_bytes(out, at, b"a part is named that is not there"),
-        26 => put_bytes(out, at, b"these parts do not go together"),
-        _ => put_reason(out, at, bytes, i, ended),
+        numbers::BAD_ORDER => b"the fields are out of order",
+        numbers::TOO_MANY => many(left.rest),
+        numbers::OUT_OF_RANGE => b"a number is out of range",
+        numbers::NAMES_NOTHING => b"a part is named that is not there",
+        numbers::BAD_PAIR => b"these parts do not go together",
+        _ => unframed(left),
     }
 }
 
-// The comment on the field at a place, if it is the one that is refused.
-fn put_damage(
-    out: &mut [u8],
-    at: usize,
-    damage: Damage,
-    place: usize,
-    bytes: &[u8],
-    i: usize,
-    ended: bool,
-) -> usize {
-    if place != damage.place {
-        return at;
+// The comment on the field that stands next, if it is the one that is refused.
+fn put_damage<const N: usize>(out: &mut Room<N>, damage: Option<Damage>, left: Left) {
+    let Some(Damage { place, number }) = damage else {
+        return;
+    };
+    if place != left.place {
+        return;
     }
-    let mut next = put_bytes(out, at, b"# refused at place ");
-    next = put_decimal(out, next, (damage.place % 4294967296) as u32);
-    next = put_bytes(out, next, b" by ");
-    next = put_decimal(out, next, damage.number as u32);
-    next = put_bytes(out, next, b": ");
-    next = put_cause(out, next, bytes, i, ended, damage.number);
-    put_byte(out, next, b'\n')
+    out.put_all(b"# refused at place ");
+    out.put_decimal(place as u64);
+    out.put_all(b" by ");
+    out.put_decimal(u64::from(number));
+    out.put_all(b": ");
+    out.put_all(cause(left, number));
+    out.put(b'\n');
 }
 
-// The field at a place as text, or, where there is none, all that is left as bytes.
-fn show_next(
+// The field that stands next as text, or, where there is none, all that is left as bytes. What is left behind it.
+fn show_next<'a, const N: usize>(
+    out: &mut Room<N>,
+    forms: &[u8],
+    left: Left<'a>,
+    known: &mut Known,
+) -> &'a [u8]
+    requires { 0 < length left.rest.now }
+    ensures { length result.now < length left.entry.rest.now }
+{
+    match split_field(left.rest) {
+        Some((field, behind)) if !left.ended => {
+            show_field(out, forms, field, known);
+            behind
+        }
+        _ => {
+            put_raw(out, left.rest);
+            &[]
+        }
+    }
+}
+
+// The text of a file. Where it fills the room, it may be cut.
+pub(crate) fn show<const N: usize>(
+    out: &mut Room<N>,
     forms: &[u8],
     bytes: &[u8],
-    i: usize,
-    e: usize,
-    known: &mut [u8],
-    out: &mut [u8],
-    at: usize,
-) -> usize
-    requires { (i ≤ e) × (e ≤ length bytes.now) }
-{
-    if i == e {
-        return put_raw(out, at, &bytes[i..]);
-    }
-    show_field(forms, &bytes[i..e], known, out, at)
-}
-
-// Where the field at a place ends; the place itself where there is none, or where the end came before.
-fn field_end(bytes: &[u8], i: usize, ended: bool) -> usize
-    requires { i ≤ length bytes.now }
-    ensures { (i ≤ result) × (result ≤ length bytes.now) }
-{
-    if ended {
-        return i;
-    }
-    i + frame(bytes, i)
-}
-
-// Where the text goes on: behind the field, or, where there is none, at the end.
-fn next_place(bytes: &[u8], i: usize, e: usize) -> usize
-    requires { (i < length bytes.now) × ((i ≤ e) × (e ≤ length bytes.now)) }
-    ensures { (i < result) × (result ≤ length bytes.now) }
-{
-    if i == e {
-        return bytes.len();
-    }
-    e
-}
-
-// The text of a file; how long it is. Where it fills the room, it may be cut.
-pub(crate) fn show(forms: &[u8], bytes: &[u8], known: &mut [u8], out: &mut [u8]) -> usize {
+    known: &mut Known,
+) {
     let damage = damage_of(bytes);
-    let mut i: usize = 0;
-    let mut at: usize = 0;
-    let mut place: usize = 1;
-    let mut ended = false;
-    while i < bytes.len() {
-        at = put_damage(out, at, damage, place, bytes, i, ended);
-        let e = field_end(bytes, i, ended);
-        ended = byte_at(bytes, i) == 0x7f;
-        at = show_next(forms, bytes, i, e, known, out, at);
-        i = next_place(bytes, i, e);
-        place = std::num::wrapping_add_usize(place, 1);
+    let mut left = Left {
+        place: 1,
+        first: bytes.first().copied().unwrap_or(0),
+        rest: bytes,
+        ended: false,
+    };
+    out.clear();
+    while let Some(tag) = left.rest.first() {
+        put_damage(out, damage, left);
+        left = Left {
+            place: left.place.wrapping_add(1),
+            rest: show_next(out, forms, left, known),
+            ended: *tag == numbers::TAG_END,
+            ..left
+        };
     }
-    put_damage(out, at, damage, place, bytes, i, ended)
+    put_damage(out, damage, left);
 }

@@ -1,495 +1,362 @@
 // Fields made of lines.
-ghost use Rattle.std.specs.Prelude.{◌<◌, ◌≤◌, length};
+ghost use Rattle.std.specs.Prelude.{◌<◌, ◌≤◌, length, IfSome, OnOk};
 
-use crate::forms::{after, byte_at, item_end, kind_of, next_row, offset_of};
-use crate::names::{LONGEST, is_name, keep_name, place_of};
-use crate::putting::{has_number, put_byte};
+use crate::field::{Field, Value};
+use crate::forms::{Item, Items, Meaning, Row, Rows};
+use crate::names::{Known, Name, Part};
+use crate::putting::{NUMBER, has_number};
 
-// Where a line goes on; or where it is not as it should be, what should stand there, and a place that says more of that.
+// What should stand at a place of a line.
 #[derive(Clone, Copy)]
-pub(crate) enum Took {
-    To(usize),
-    Missed(usize, u8, usize),
+pub(crate) enum Expected<'f> {
+    // This word of a form.
+    Word(&'f [u8]),
+    // A number up to 255.
+    Byte,
+    // A number up to 4,294,967,295.
+    Long,
+    Value,
+    // This number.
+    Number(u8),
+    Name,
+    // The name of this part.
+    NameOf(Part),
+    NoName,
+    NumberAndName,
+    End,
 }
 
-// What should stand there: the word of the form at a place; a number up to 255, and up to 4,294,967,295; a value; the number in the count at a place; a
-// name; the name that is known at a place; no name; the end of the line; nothing; a number and a name.
-pub(crate) const A_WORD: u8 = 0;
-
-pub(crate) const A_BYTE: u8 = 1;
-
-pub(crate) const A_LONG: u8 = 2;
-
-pub(crate) const A_VALUE: u8 = 3;
-
-pub(crate) const THE_NUMBER: u8 = 4;
-
-pub(crate) const A_NAME: u8 = 5;
-
-pub(crate) const THE_NAME: u8 = 6;
-
-pub(crate) const NO_NAME: u8 = 7;
-
-pub(crate) const THE_END: u8 = 8;
-
-pub(crate) const NOTHING: u8 = 9;
-
-pub(crate) const NAMED: u8 = 10;
-
-// A number and where the line goes on, or none.
+// Where a line is not as it should be: how much of it was left there, and what should have stood there.
 #[derive(Clone, Copy)]
-pub(crate) enum Number {
-    Is(u32, usize),
-    None,
+pub(crate) struct Missed<'f> {
+    pub left: usize,
+    pub expected: Expected<'f>,
+}
+
+// What a line says: its field, and the names that it gives to parts that had none. A line names two parts at most.
+#[derive(Clone, Copy)]
+pub(crate) struct Taken {
+    pub field: Field,
+    learned: [Option<(Part, Name)>; 2],
+}
+
+impl Taken {
+    fn of_row(row: &Row) -> Taken {
+        Taken {
+            field: Field::of_row(row),
+            learned: [None; 2],
+        }
+    }
+
+    fn learn(&mut self, part: Part, name: Name) {
+        let i = if self.learned[0].is_none() { 0 } else { 1 };
+        self.learned[i] = Some((part, name));
+    }
+
+    // The names that the line gives are known from now on.
+    pub(crate) fn tell(&self, known: &mut Known) {
+        for (part, name) in self.learned.iter().flatten() {
+            known.keep(*part, *name);
+        }
+    }
+}
+
+// What is left of a line.
+#[derive(Clone, Copy)]
+pub(crate) struct Line<'a> {
+    rest: &'a [u8],
 }
 
 fn is_blank(c: u8) -> bool {
-    match c {
-        b' ' => true,
-        b'\t' => true,
-        b'\r' => true,
-        _ => false,
-    }
-}
-
-// The first place from here on that is no blank.
-pub(crate) fn skip_blanks(line: &[u8], at: usize) -> usize {
-    let mut k = at;
-    while k < line.len() {
-        if is_blank(line[k]) {
-            k = k + 1;
-        } else {
-            return k;
-        }
-    }
-    k
-}
-
-// A word or a number may end here.
-pub(crate) fn is_break(line: &[u8], at: usize) -> bool {
-    if at < line.len() {
-        return is_blank(line[at]);
-    }
-    true
+    matches!(c, b' ' | b'\t' | b'\r')
 }
 
 // How much of a line stands before its comment. In quotation marks `#` starts none.
-pub(crate) fn before_comment(line: &[u8]) -> usize
-    ensures { result ≤ length line.now }
-{
-    let mut k: usize = 0;
+pub(crate) fn before_comment(line: &[u8]) -> &[u8] {
     let mut quoted = false;
-    while k < line.len() {
-        if line[k] == b'"' {
-            quoted = !quoted;
+    for (i, c) in line.iter().enumerate() {
+        match c {
+            b'"' => quoted = !quoted,
+            b'#' if !quoted => return &line[..i],
+            _ => {}
         }
-        if line[k] == b'#' {
-            if !quoted {
-                return k;
+    }
+    line
+}
+
+// A name in quotation marks, and what stands behind it.
+fn split_name(quoted: &[u8]) -> Option<(Name, &[u8])> {
+    let letters = quoted.strip_prefix(b"\"")?;
+    let size = letters.iter().position(|c| *c == b'"')?;
+    Some((Name::of(&letters[..size])?, &letters[size + 1..]))
+}
+
+// What an item of a form asks for.
+fn asked<'f>(meaning: Meaning<'f>, known: &Known) -> Expected<'f> {
+    match meaning {
+        Meaning::Word(word) => Expected::Word(word),
+        Meaning::Byte(_) | Meaning::Part { .. } | Meaning::Named(_) => Expected::Byte,
+        Meaning::Long(_) | Meaning::Amount(_) => Expected::Long,
+        Meaning::Value(_) => Expected::Value,
+        Meaning::Own(kind) => Expected::Number(known.count(kind)),
+        Meaning::OwnName(_) => Expected::Name,
+    }
+}
+
+impl<'a> Line<'a> {
+    pub(crate) fn of(text: &'a [u8]) -> Line<'a> {
+        Line { rest: text }
+    }
+
+    // How much is left.
+    pub(crate) fn left(&self) -> usize {
+        self.rest.len()
+    }
+
+    fn missed<'f>(&self, expected: Expected<'f>) -> Missed<'f> {
+        Missed {
+            left: self.rest.len(),
+            expected,
+        }
+    }
+
+    pub(crate) fn skip_blanks(&mut self)
+        ensures { length self.new.rest.now ≤ length self.old.rest.now }
+    {
+        let blanks = self.rest.iter().position(|c| !is_blank(*c));
+        self.rest = &self.rest[blanks.unwrap_or(self.rest.len())..];
+    }
+
+    // A word or a number may end here.
+    fn is_at_break(&self) -> bool {
+        self.rest.first().is_none_or(|c| is_blank(*c))
+    }
+
+    // A word, up to a break.
+    pub(crate) fn take_word<'f>(&mut self, word: &'f [u8]) -> Result<(), Missed<'f>> {
+        match self.rest.strip_prefix(word) {
+            Some(rest) if (Line { rest }).is_at_break() => {
+                self.rest = rest;
+                Ok(())
+            }
+            _ => Err(self.missed(Expected::Word(word))),
+        }
+    }
+
+    // The digits of a number of 32 bits, up to a break.
+    pub(crate) fn take_number(&mut self) -> Option<u32>
+        ensures { IfSome result (λ _. length self.new.rest.now < length self.old.rest.now) }
+    {
+        let others = self.rest.iter().position(|c| !c.is_ascii_digit());
+        let (digits, rest) = self.rest.split_at(others.unwrap_or(self.rest.len()));
+        if digits.is_empty() || !(Line { rest }).is_at_break() {
+            return None;
+        }
+        let number = std::str::from_utf8(digits).ok()?.parse::<u32>().ok()?;
+        self.rest = rest;
+        Some(number)
+    }
+
+    // A number up to 255.
+    pub(crate) fn take_byte<'f>(&mut self) -> Result<u8, Missed<'f>>
+        ensures { OnOk result (length self.new.rest.now < length self.old.rest.now) }
+    {
+        let start = *self;
+        match self.take_number() {
+            Some(n) if n < 256 => Ok(n as u8),
+            _ => Err(start.missed(Expected::Byte)),
+        }
+    }
+
+    // A number of 32 bits.
+    fn take_long<'f>(&mut self) -> Result<u32, Missed<'f>> {
+        let start = *self;
+        self.take_number().ok_or(start.missed(Expected::Long))
+    }
+
+    // Blanks and a number of 32 bits behind them.
+    fn take_long_behind<'f>(&mut self) -> Result<u32, Missed<'f>> {
+        self.skip_blanks();
+        self.take_long()
+    }
+
+    // The word of a kind of value: its row.
+    fn take_kind<'f>(&mut self, forms: &'f [u8]) -> Option<Row<'f>> {
+        for row in Rows(forms) {
+            if !row.is_line() && self.take_word(row.words).is_ok() {
+                return Some(row);
             }
         }
-        k = k + 1;
+        None
     }
-    line.len()
-}
 
-// The word of a form from one place up to another.
-pub(crate) fn take_word(forms: &[u8], from: usize, to: usize, line: &[u8], at: usize) -> Took {
-    let mut i = from;
-    let mut k = at;
-    while i < to {
-        if k < line.len() {
-            if line[k] != byte_at(forms, i) {
-                return Took::Missed(at, A_WORD, from);
-            }
-        } else {
-            return Took::Missed(at, A_WORD, from);
-        }
-        i = i + 1;
-        k = k + 1;
-    }
-    if is_break(line, k) {
-        return Took::To(k);
-    }
-    Took::Missed(at, A_WORD, from)
-}
-
-// A digit more; past 4,294,967,295 it stays there.
-fn grown(n: u64, digit: u8) -> u64
-    requires { n ≤ 4294967296 }
-    ensures { result ≤ 4294967296 }
-{
-    let more = n * 10 + digit as u64;
-    if 4294967295 < more {
-        return 4294967296;
-    }
-    more
-}
-
-// The digits of a number, of 32 bits.
-pub(crate) fn take_number(line: &[u8], at: usize) -> Number {
-    let mut k = at;
-    let mut n: u64 = 0;
-    while k < line.len() {
-        let c = line[k];
-        if c < b'0' {
-            break;
-        }
-        if b'9' < c {
-            break;
-        }
-        n = grown(n, c - b'0');
-        k = k + 1;
-    }
-    if k == at {
-        return Number::None;
-    }
-    if 4294967295 < n {
-        return Number::None;
-    }
-    if is_break(line, k) {
-        return Number::Is(n as u32, k);
-    }
-    Number::None
-}
-
-// What the item of a form at a place asks for is not there.
-fn missed(forms: &[u8], i: usize, at: usize) -> Took {
-    let c = byte_at(forms, i);
-    let d = after(forms, i, 1);
-    match c {
-        b'%' => match d {
-            b'v' => Took::Missed(at, A_VALUE, 0),
-            b'n' => Took::Missed(at, A_LONG, 0),
-            b'w' => Took::Missed(at, A_LONG, 0),
-            _ => Took::Missed(at, A_BYTE, 0),
-        },
-        b'#' => Took::Missed(at, THE_NUMBER, kind_of(d) as usize),
-        b'!' => Took::Missed(at, A_BYTE, 0),
-        _ => Took::Missed(at, A_WORD, i),
-    }
-}
-
-// A number up to 255, into the field.
-fn take_byte(line: &[u8], at: usize, field: &mut [u8], o: usize) -> Took {
-    let t = take_number(line, at);
-    let Number::Is(n, next) = t else {
-        return Took::Missed(at, A_BYTE, 0);
-    };
-    if 255 < n {
-        return Took::Missed(at, A_BYTE, 0);
-    }
-    put_byte(field, o, n as u8);
-    Took::To(next)
-}
-
-// A number of 32 bits, into the field.
-fn take_long(line: &[u8], at: usize, field: &mut [u8], o: usize) -> Took {
-    let t = take_number(line, at);
-    let Number::Is(n, next) = t else {
-        return Took::Missed(at, A_LONG, 0);
-    };
-    let p = put_byte(field, o, (n / 16777216 % 256) as u8);
-    let q = put_byte(field, p, (n / 65536 % 256) as u8);
-    let r = put_byte(field, q, (n / 256 % 256) as u8);
-    put_byte(field, r, (n % 256) as u8);
-    Took::To(next)
-}
-
-// Blanks and a number of 32 bits behind them, into the field.
-fn take_long_behind(line: &[u8], at: usize, field: &mut [u8], o: usize) -> Took {
-    let k = skip_blanks(line, at);
-    take_long(line, k, field, o)
-}
-
-// The kind of value whose word stands here, or for a bad value 256, and where the line goes on.
-fn take_kind(forms: &[u8], line: &[u8], at: usize) -> Number {
-    let mut p: usize = 0;
-    while p < forms.len() {
-        if forms[p] != b'v' {
-            return Number::None;
-        }
-        let n = next_row(forms, p);
-        let t = take_row_word(forms, p, n, line, at);
-        if let Took::To(next) = t {
-            return Number::Is(kind_at(forms, p), next);
-        }
-        p = n;
-    }
-    Number::None
-}
-
-// The kind that the second letter of a row stands for.
-fn kind_at(forms: &[u8], p: usize) -> u32 {
-    let choice = after(forms, p, 1);
-    if choice < b'a' {
-        return 256;
-    }
-    (choice - b'a') as u32
-}
-
-// The word of a row, behind its two letters.
-fn take_row_word(forms: &[u8], p: usize, n: usize, line: &[u8], at: usize) -> Took
-    requires { p < n }
-{
-    if n - p < 3 {
-        return Took::Missed(at, A_WORD, p);
-    }
-    take_word(forms, p + 2, n - 1, line, at)
-}
-
-// A bad value behind its word: its kind and its number.
-fn take_bad(line: &[u8], at: usize, field: &mut [u8], o: usize) -> Took
-    requires { o ≤ 12 }
-{
-    let k = skip_blanks(line, at);
-    let t = take_byte(line, k, field, o);
-    let Took::To(next) = t else {
-        return t;
-    };
-    take_long_behind(line, next, field, o + 1)
-}
-
-// A value, into the field.
-fn take_value(forms: &[u8], line: &[u8], at: usize, field: &mut [u8], o: usize) -> Took
-    requires { o ≤ 12 }
-{
-    let t = take_kind(forms, line, at);
-    let Number::Is(kind, next) = t else {
-        return Took::Missed(at, A_VALUE, 0);
-    };
-    if 255 < kind {
-        return take_bad(line, next, field, o);
-    }
-    let k = kind as u8;
-    put_byte(field, o, k);
-    if has_number(k) {
-        return take_long_behind(line, next, field, o + 1);
-    }
-    Took::To(next)
-}
-
-// How long the name is whose first byte stands here: 1 to 32 bytes, none a control character, and then the quotation mark; 0 for no name.
-fn name_size(line: &[u8], from: usize) -> usize
-    ensures { result ≤ 32 }
-{
-    let mut j: usize = 0;
-    while j <= LONGEST {
-        let c = after(line, from, j);
-        if c == b'"' {
-            return j;
-        }
-        if c < b' ' {
-            return 0;
-        }
-        j = j + 1;
-    }
-    0
-}
-
-// So many places on, but no further than the line's end.
-fn ahead(line: &[u8], at: usize, k: usize) -> usize {
-    if at < line.len() {
-        if k < line.len() - at {
-            return at + k;
-        }
-    }
-    line.len()
-}
-
-// The name of a part, from its quotation mark on. A part that has none yet gets it, if that is to be learned.
-fn take_name(line: &[u8], at: usize, known: &mut [u8], kind: u8, number: u8, learn: bool) -> Took {
-    let from = ahead(line, at, 1);
-    let size = name_size(line, from);
-    if size == 0 {
-        return Took::Missed(at, A_NAME, 0);
-    }
-    let end = ahead(line, from, size + 1);
-    let place = place_of(kind, number);
-    if known.len() <= place {
-        return Took::Missed(at, NO_NAME, 0);
-    }
-    if byte_at(known, place) == 0 {
-        if learn {
-            keep_name(known, place, line, from, size);
-            return take_break(line, end);
-        }
-        return take_break(line, end);
-    }
-    if is_name(known, place, line, from, size) {
-        return take_break(line, end);
-    }
-    Took::Missed(at, THE_NAME, place)
-}
-
-// The line goes on behind a blank, or ends.
-fn take_break(line: &[u8], at: usize) -> Took {
-    if is_break(line, at) {
-        return Took::To(at);
-    }
-    Took::Missed(at, THE_END, 0)
-}
-
-// A name that may be there or not.
-fn take_any_name(
-    line: &[u8],
-    at: usize,
-    known: &mut [u8],
-    kind: u8,
-    number: u8,
-    learn: bool,
-) -> Took {
-    let k = skip_blanks(line, at);
-    if byte_at(line, k) == b'"' {
-        return take_name(line, k, known, kind, number, learn);
-    }
-    Took::To(at)
-}
-
-// The number of a part, into the field, and perhaps its name.
-fn take_part(
-    line: &[u8],
-    at: usize,
-    known: &mut [u8],
-    field: &mut [u8],
-    kind: u8,
-    o: usize,
-    learn: bool,
-) -> Took {
-    let t = take_byte(line, at, field, o);
-    let Took::To(next) = t else {
-        return t;
-    };
-    take_any_name(line, next, known, kind, byte_at(field, o), learn)
-}
-
-// The number of a part and its name.
-fn take_named(
-    line: &[u8],
-    at: usize,
-    known: &mut [u8],
-    field: &mut [u8],
-    kind: u8,
-    learn: bool,
-) -> Took {
-    let t = take_byte(line, at, field, 3);
-    let Took::To(next) = t else {
-        return t;
-    };
-    let k = skip_blanks(line, next);
-    if byte_at(line, k) == b'"' {
-        return take_name(line, k, known, kind, byte_at(field, 3), learn);
-    }
-    Took::Missed(at, NAMED, 0)
-}
-
-// The number that the part of this line has.
-fn take_own(line: &[u8], at: usize, known: &[u8], kind: u8) -> Took {
-    let t = take_number(line, at);
-    let Number::Is(n, next) = t else {
-        return Took::Missed(at, THE_NUMBER, kind as usize);
-    };
-    let own = byte_at(known, kind as usize);
-    if own == 255 {
-        return Took::Missed(at, THE_NUMBER, kind as usize);
-    }
-    if n == own as u32 {
-        return Took::To(next);
-    }
-    Took::Missed(at, THE_NUMBER, kind as usize)
-}
-
-// An item that goes into the field.
-fn take_held(
-    forms: &[u8],
-    line: &[u8],
-    at: usize,
-    known: &mut [u8],
-    field: &mut [u8],
-    c: u8,
-    o: usize,
-    learn: bool,
-) -> Took
-    requires { o ≤ 12 }
-{
-    match c {
-        b'b' => take_byte(line, at, field, o),
-        b'n' => take_long(line, at, field, o),
-        b'v' => take_value(forms, line, at, field, o),
-        b'w' => {
-            put_byte(field, o, 1);
-            take_long(line, at, field, o + 1)
-        }
-        _ => take_part(line, at, known, field, kind_of(c), o, learn),
-    }
-}
-
-// Blanks, one at least, or what stands behind them in the form is missing.
-fn take_blanks(forms: &[u8], i: usize, line: &[u8], at: usize) -> Took {
-    let next = skip_blanks(line, at);
-    if next == at {
-        return missed(forms, i, at);
-    }
-    Took::To(next)
-}
-
-// The item of a form that starts at i and ends at e.
-fn take_item(
-    forms: &[u8],
-    i: usize,
-    e: usize,
-    line: &[u8],
-    at: usize,
-    known: &mut [u8],
-    field: &mut [u8],
-    learn: bool,
-) -> Took {
-    let c = byte_at(forms, i);
-    let d = after(forms, i, 1);
-    let kind = kind_of(d);
-    match c {
-        b' ' => take_blanks(forms, e, line, at),
-        b'%' => take_held(
-            forms,
-            line,
-            at,
-            known,
-            field,
-            d,
-            offset_of(after(forms, i, 2)),
-            learn,
-        ),
-        b'#' => take_own(line, at, known, kind),
-        b'@' => take_any_name(line, at, known, kind, byte_at(known, kind as usize), learn),
-        b'!' => take_named(line, at, known, field, kind, learn),
-        _ => take_word(forms, i, e, line, at),
-    }
-}
-
-// A line by the form from one place up to another.
-pub(crate) fn take_form(
-    forms: &[u8],
-    from: usize,
-    to: usize,
-    line: &[u8],
-    known: &mut [u8],
-    field: &mut [u8],
-    learn: bool,
-) -> Took {
-    let mut i = from;
-    let mut at = skip_blanks(line, 0);
-    while i < to {
-        let e = item_end(forms, i, to);
-        let t = take_item(forms, i, e, line, at, known, field, learn);
-        let Took::To(next) = t else {
-            return t;
+    // A value. Behind the word for a bad one stand its kind and its number.
+    fn take_value<'f>(&mut self, forms: &'f [u8]) -> Result<Value, Missed<'f>> {
+        let Some(row) = self.take_kind(forms) else {
+            return Err(self.missed(Expected::Value));
         };
-        at = next;
-        i = e;
+        let Some(kind) = row.choice else {
+            self.skip_blanks();
+            let kind = self.take_byte()?;
+            let number = self.take_long_behind()?;
+            return Ok(Value { kind, number });
+        };
+        let number = if has_number(kind) {
+            self.take_long_behind()?
+        } else {
+            0
+        };
+        Ok(Value { kind, number })
     }
-    let end = skip_blanks(line, at);
-    if end < line.len() {
-        return Took::Missed(end, THE_END, 0);
+
+    // The name of a part. One that has none yet gets it.
+    fn take_name<'f>(
+        &mut self,
+        part: Part,
+        known: &Known,
+        taken: &mut Taken,
+    ) -> Result<(), Missed<'f>> {
+        let Some((name, rest)) = split_name(self.rest) else {
+            return Err(self.missed(Expected::Name));
+        };
+        if !part.can_have_name() {
+            return Err(self.missed(Expected::NoName));
+        }
+        match known.name(part) {
+            None => taken.learn(part, name),
+            Some(other) => {
+                if other != name {
+                    return Err(self.missed(Expected::NameOf(part)));
+                }
+            }
+        }
+        self.rest = rest;
+        if self.is_at_break() {
+            Ok(())
+        } else {
+            Err(self.missed(Expected::End))
+        }
     }
-    Took::To(end)
+
+    // The line without the blanks at its front, if a name stands behind them.
+    fn at_name(self) -> Option<Line<'a>> {
+        let mut ahead = self;
+        ahead.skip_blanks();
+        ahead.rest.starts_with(b"\"").then_some(ahead)
+    }
+
+    // A name that may be there or not.
+    fn take_any_name<'f>(
+        &mut self,
+        part: Part,
+        known: &Known,
+        taken: &mut Taken,
+    ) -> Result<(), Missed<'f>> {
+        let Some(ahead) = self.at_name() else {
+            return Ok(());
+        };
+        *self = ahead;
+        self.take_name(part, known, taken)
+    }
+
+    // The number of a part of a kind and its name.
+    fn take_named<'f>(
+        &mut self,
+        kind: u8,
+        known: &Known,
+        taken: &mut Taken,
+    ) -> Result<(), Missed<'f>> {
+        let start = *self;
+        let number = self.take_byte()?;
+        let Some(ahead) = self.at_name() else {
+            return Err(start.missed(Expected::NumberAndName));
+        };
+        *self = ahead;
+        self.take_name(Part { kind, number }, known, taken)
+    }
+
+    // The number that the part of this line has. At 255 counting has stopped, and there is none.
+    fn take_own<'f>(&mut self, own: u8) -> Result<(), Missed<'f>> {
+        let start = *self;
+        match self.take_number() {
+            Some(n) if own < 255 && n == u32::from(own) => Ok(()),
+            _ => Err(start.missed(Expected::Number(own))),
+        }
+    }
+
+    // What an item of a form asks for.
+    fn take_meaning<'f>(
+        &mut self,
+        forms: &'f [u8],
+        meaning: Meaning<'f>,
+        known: &Known,
+        taken: &mut Taken,
+    ) -> Result<(), Missed<'f>> {
+        match meaning {
+            Meaning::Word(word) => return self.take_word(word),
+            Meaning::Byte(place) => taken.field.set(place as usize, self.take_byte()?),
+            Meaning::Long(place) => taken.field.set_long(place, self.take_long()?),
+            Meaning::Value(place) => taken.field.set_value(place, self.take_value(forms)?),
+            Meaning::Amount(place) => {
+                let number = self.take_long()?;
+                taken.field.set_value(
+                    place,
+                    Value {
+                        kind: NUMBER,
+                        number,
+                    },
+                );
+            }
+            Meaning::Part { kind, place } => {
+                let number = self.take_byte()?;
+                taken.field.set(place as usize, number);
+                return self.take_any_name(Part { kind, number }, known, taken);
+            }
+            Meaning::Own(kind) => return self.take_own(known.count(kind)),
+            Meaning::OwnName(kind) => {
+                let number = known.count(kind);
+                return self.take_any_name(Part { kind, number }, known, taken);
+            }
+            Meaning::Named(kind) => return self.take_named(kind, known, taken),
+        }
+        Ok(())
+    }
+
+    // An item of a form, and the blanks before it, if it asks for some.
+    fn take_item<'f>(
+        &mut self,
+        forms: &'f [u8],
+        item: Item<'f>,
+        known: &Known,
+        taken: &mut Taken,
+    ) -> Result<(), Missed<'f>> {
+        if item.spaced {
+            let start = *self;
+            self.skip_blanks();
+            if self.left() == start.left() {
+                return Err(self.missed(asked(item.meaning, known)));
+            }
+        }
+        self.take_meaning(forms, item.meaning, known, taken)
+    }
+
+    // A whole line, by a row.
+    pub(crate) fn take_row<'f>(
+        mut self,
+        forms: &'f [u8],
+        row: Row<'f>,
+        known: &Known,
+    ) -> Result<Taken, Missed<'f>> {
+        let mut taken = Taken::of_row(&row);
+        self.skip_blanks();
+        for item in Items(row.words) {
+            self.take_item(forms, item, known, &mut taken)?;
+        }
+        self.skip_blanks();
+        if self.rest.is_empty() {
+            Ok(taken)
+        } else {
+            Err(self.missed(Expected::End))
+        }
+    }
 }

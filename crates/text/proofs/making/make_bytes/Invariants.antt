@@ -1,10 +1,7 @@
--- `text::making::make_bytes` is safe, and ends.
+-- `text::making::make_bytes` is safe, and ends: each byte takes some of what is left of the line.
 -- Assumes nothing.
-use Rattle.std.proofs.Common.{◌≡◌, length}
+use Rattle.std.proofs.Common.{length}
 use Rattle.text.proofs.making.make_bytes.Given as goal
 
-abbrev pub invariant-loop-left : goal.invariant-loop-left
-invariant-loop-left l = length l.out ≡ length l.initial.out
-
-abbrev pub decreases-loop-left : goal.decreases-loop-left
-decreases-loop-left l = l.left
+abbrev pub decreases-loop-line : goal.decreases-loop-line
+decreases-loop-line g l = length l.line.rest.now

@@ -1,10 +1,7 @@
--- `text::showing::show` is safe, and ends.
+-- `text::showing::show` is safe, and ends: what is shown next is no longer left.
 -- Assumes nothing.
-use Rattle.std.proofs.Common.{◌≡◌, ◌-◌, ◌≤◌, length}
+use Rattle.std.proofs.Common.{length}
 use Rattle.text.proofs.showing.show.Given as goal
 
-abbrev pub invariant-loop-i : goal.invariant-loop-i
-invariant-loop-i l = (l.i ≤ length l.bytes) × ((length l.known ≡ length l.initial.known) × (length l.out ≡ length l.initial.out))
-
-abbrev pub decreases-loop-i : goal.decreases-loop-i
-decreases-loop-i l = length l.bytes - l.i
+abbrev pub decreases-loop-tag : goal.decreases-loop-tag
+decreases-loop-tag g l = length l.left.rest.now

@@ -1,10 +1,7 @@
--- `text::tripping::trip` is safe, and ends.
+-- `text::tripping::trip` is safe, and ends: the next file starts behind the place where the one before it ends.
 -- Assumes nothing.
-use Rattle.std.proofs.Common.{◌≡◌, ◌-◌, ◌≤◌, length}
+use Rattle.std.proofs.Common.{◌-◌, length}
 use Rattle.text.proofs.tripping.trip.Given as goal
 
-abbrev pub invariant-loop-at : goal.invariant-loop-at
-invariant-loop-at l = (l.n ≤ length l.initial.packed) × ((length l.packed ≡ length l.initial.packed) × ((length l.shown ≡ length l.initial.shown) × (length l.back ≡ length l.initial.back)))
-
-abbrev pub decreases-loop-at : goal.decreases-loop-at
-decreases-loop-at l = l.n - l.at
+abbrev pub decreases-loop-from : goal.decreases-loop-from
+decreases-loop-from g l = length l.packed - l.at
