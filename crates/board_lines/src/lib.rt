@@ -52,8 +52,7 @@ fn put_row(buf: &mut [u8], at: usize, x: Shown) -> usize
     ensures value { result ≡ at + length (shown_line x) }
     ensures upper_bound { result ≤ at + 17 }
 {
-    let w = put_shown(buf, at, x);
-    match w {
+    match put_shown(buf, at, x) {
         Wrote::To(next) => next,
         Wrote::Refused(_) => at,
     }
@@ -65,13 +64,10 @@ fn put_rows(buf: &mut [u8], board: Board) -> usize
     ensures upper_bound { result ≤ 144 }
     ensures buf_after { take result buf.new ≡ history_lines board }
 {
-    let n = board.rows();
     wire::write(buf, 0, b"history\n");
-    let mut at: usize = 8;
-    let mut i: usize = 0;
-    while i < n {
+    let mut at = 8;
+    for i in 0..board.rows() {
         at = put_row(buf, at, board.row(i));
-        i = i + 1;
     }
     at
 }
@@ -93,8 +89,7 @@ pub fn print_told<W: Write>(out: &mut W, told: Told) -> bool
     ensures { OnTrue result (Appends (W.contents out.old) (W.contents out.new) (told_line told)) }
 {
     let mut text = [0u8; 64];
-    let w = put_told(&mut text, 0, told);
-    let Wrote::To(n) = w else {
+    let Wrote::To(n) = put_told(&mut text, 0, told) else {
         return false;
     };
     out.write_all(&text[..n]).is_ok()
@@ -105,8 +100,7 @@ pub fn print_history<W: Write>(out: &mut W, board: Board) -> bool
     ensures { OnTrue result (Appends (W.contents out.old) (W.contents out.new) (history_lines board)) }
 {
     let mut text = [0u8; HISTORY];
-    let w = put_history(&mut text, 0, board);
-    let Wrote::To(n) = w else {
+    let Wrote::To(n) = put_history(&mut text, 0, board) else {
         return false;
     };
     out.write_all(&text[..n]).is_ok()

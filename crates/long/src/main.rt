@@ -12,7 +12,6 @@ ghost use Rattle.long.specs.Near.{Near};
 
 use config::Config;
 use judging::{Judged, Line, Verdict};
-use program_io::Got;
 use reading::Outcome;
 use state::State;
 use std::env::Env;
@@ -29,13 +28,6 @@ const HELD: usize = ROOM - numbers::SIZE_STEP;
 // More parts than any disk has room for. A loop that is proved has to end.
 const PARTS: u32 = 4000000000;
 
-// The line that a recording came to, or why a read failed.
-#[derive(Clone, Copy)]
-enum Came {
-    To(Line),
-    Nothing(Error),
-}
-
 // A verdict with n steps before it.
 fn later_verdict(n: usize, v: Verdict) -> Verdict
     requires n_bound { n ≤ 16380000000000 }
@@ -49,21 +41,27 @@ fn later_verdict(n: usize, v: Verdict) -> Verdict
     }
 }
 
+// A part with n steps before it, of which so many steps are judged.
+fn judge_after(cfg: Config, st: State, n: usize, s: &[u8], allowance: u32) -> Judged
+    requires n_bound { n ≤ 16380000000000 }
+    requires allowance_bound { allowance ≤ 65536 }
+    ensures { result ≡ later n (judge_of cfg st s.now allowance) }
+{
+    let j = judging::judge(cfg, st, s, allowance);
+    Judged {
+        verdict: later_verdict(n, j.verdict),
+        count: n + j.count,
+        ..j
+    }
+}
+
 // A part that is full, with n steps before it: as many steps as it is sure of.
 fn judge_part(cfg: Config, st: State, n: usize, s: &[u8]) -> Judged
     requires n_bound { n ≤ 16380000000000 }
     requires s_len { length s.now ≡ 65536 }
     ensures { result ≡ later n (judge_of cfg st s.now (sure s.now)) }
 {
-    let j = judging::judge(cfg, st, s, SURE);
-    let v = j.verdict;
-    let moved = later_verdict(n, v);
-    let reached = j.state;
-    Judged {
-        verdict: moved,
-        count: n + j.count,
-        state: reached,
-    }
+    judge_after(cfg, st, n, s, SURE)
 }
 
 // The last part, with n steps before it: all of it.
@@ -72,15 +70,7 @@ fn judge_last(cfg: Config, st: State, n: usize, s: &[u8]) -> Judged
     requires s_len_bound { length s.now ≤ 65536 }
     ensures { result ≡ later n (whole_of cfg st s.now) }
 {
-    let j = judging::judge(cfg, st, s, s.len() as u32);
-    let v = j.verdict;
-    let moved = later_verdict(n, v);
-    let reached = j.state;
-    Judged {
-        verdict: moved,
-        count: n + j.count,
-        state: reached,
-    }
+    judge_after(cfg, st, n, s, s.len() as u32)
 }
 
 // The bytes that are held, moved to the front of the part.
@@ -88,10 +78,9 @@ fn hold(buf: &mut [u8])
     requires { length buf.old ≡ 65536 }
     ensures { buf.new ≡ paste buf.old 0 (drop 65520 buf.old) step_size }
 {
-    let mut i: usize = 0;
-    while i < numbers::SIZE_STEP {
+    // Kept: no copy_from_slice, as front and rest are one buffer, and the search passes its limit on the goal of a split at 65,520.
+    for i in 0..numbers::SIZE_STEP {
         buf[i] = buf[HELD + i];
-        i = i + 1;
     }
 }
 
@@ -107,54 +96,42 @@ fn verdict_line(v: Verdict, count: usize) -> Line
 }
 
 // The recording on standard input, from the start state on, part by part.
-fn judge_parts<I: Read>(input: &mut I, cfg: Config, part: &mut [u8]) -> Came
+fn judge_parts<I: Read>(input: &mut I, cfg: Config, part: &mut [u8]) -> io::Result<Line>
     requires { length part.old ≡ 65536 }
 {
     let mut st = State::start(cfg);
     let mut n: usize = 0;
     let mut held: usize = 0;
-    let mut left: u32 = PARTS;
-    while left > 0 {
-        let got = program_io::read_whole(input, &mut part[held..]);
-        let more = match got {
-            Got::Bytes(more) => more,
-            Got::Failed(e) => return Came::Nothing(e),
-        };
-        let end = held + more;
+    for k in 0..PARTS {
+        let end = held + program_io::read_whole(input, &mut part[held..])?;
         if end < ROOM {
-            let l = judge_last(cfg, st, n, &part[..end]);
-            let w = l.verdict;
-            return Came::To(verdict_line(w, l.count));
+            let last = judge_last(cfg, st, n, &part[..end]);
+            return Ok(verdict_line(last.verdict, last.count));
         }
         let j = judge_part(cfg, st, n, part);
-        let v = j.verdict;
-        match v {
+        match j.verdict {
             Verdict::Unfinished => {
                 st = j.state;
-                n = n + SURE as usize;
+                n += SURE as usize;
                 hold(part);
                 held = numbers::SIZE_STEP;
-                left = left - 1;
             }
-            _ => {
-                return Came::To(verdict_line(v, j.count));
-            }
+            v => return Ok(verdict_line(v, j.count)),
         }
     }
-    Came::Nothing(Error::from(ErrorKind::FileTooLarge))
+    Err(Error::from(ErrorKind::FileTooLarge))
 }
 
 // The line for the bytes of a configuration and the recording on standard input.
-fn long_line<I: Read>(input: &mut I, config: &[u8], part: &mut [u8]) -> Came
+fn long_line<I: Read>(input: &mut I, config: &[u8], part: &mut [u8]) -> io::Result<Line>
     requires { length part.old ≡ 65536 }
 {
     if judging::MAX_CONFIG < config.len() {
-        return Came::To(Line::TooLong);
+        return Ok(Line::TooLong);
     }
     let r = reading::read_config(config);
-    let o = r.outcome;
-    match o {
-        Outcome::Refused(place, k) => Came::To(Line::Configuration(place, k)),
+    match r.outcome {
+        Outcome::Refused(place, k) => Ok(Line::Configuration(place, k)),
         Outcome::Whole => judge_parts(input, r.config, part),
     }
 }
@@ -164,26 +141,21 @@ fn run<R: Env + Files + Input + Print, E: Print>(
     stderr: &E,
     config: &mut [u8],
     part: &mut [u8],
-)
+) -> io::Result<()>
     requires { length part.old ≡ 65536 }
 {
-    let mut name = [0u8; program_io::NAME_ROOM];
-    let n = program_io::arg(rt, 1, &mut name);
-    let c = program_io::read_named(rt, &name[..n], config);
-    let k = match c {
-        Got::Bytes(k) => k,
-        Got::Failed(e) => return program_io::fail(stderr, &name[..n], e),
-    };
-    let came = long_line(&mut rt.reader(), &config[..k], part);
-    let line = match came {
-        Came::To(line) => line,
-        Came::Nothing(e) => return program_io::fail(stderr, b"the recording", e),
-    };
+    let config = program_io::read_arg(rt, stderr, 1, config)?;
+    let line = long_line(&mut rt.reader(), config, part).inspect_err(|e| program_io::fail(
+        stderr,
+        b"the recording",
+        *e,
+    ))?;
     program_io::print(&mut io::writer(rt), line);
+    Ok(())
 }
 
 fn main(rt: HostRuntime) {
     let mut config = [0u8; judging::CONFIG_ROOM];
     let mut part = [0u8; ROOM];
-    run(&rt, &rt.stderr(), &mut config, &mut part);
+    let _ = run(&rt, &rt.stderr(), &mut config, &mut part);
 }

@@ -1,19 +1,12 @@
--- Laws of rows: the first of them, one by one.
+-- Laws of the rows: turned by one, with a new row in front.
 -- Assumes nothing.
-use Prim.Native.Nat.{ℕ, zero, suc, ◌+◌, ◌≤◌}
-use mathlib.Core.List.{List, [], ◌∷◌}
-use mathlib.Core.Path.{◌≡◌, refl, ap, ◌∙◌}
-use native.Mathlib.Omega.{arith}
-use lib.ListN.{length, take, drop, get_or}
-use lib.Seq.{drop-cons}
+use Rattle.std.proofs.Common.{◌≡◌, ◌-◌, ℕ, List, [], ◌∷◌, ◌++◌, length, take, drop, slice_set, refl, arith, length-drop}
 
-module _ {A : Type 0} (l : List A) (d : A) where
-  -- n entries from place i on
-  abbrev pub entries : ℕ → ℕ → List A
-  entries zero i = []
-  entries (suc n) i = get_or l i d ∷ entries n (suc i)
-
-  pub first-entries : (n i : ℕ) → i + n ≤ length l → take n (drop i l) ≡ entries n i
-  first-entries zero i h = refl
-  first-entries (suc n) i h =
-      ap (take (suc n)) (drop-cons l i d (omega (arith, h))) ∙ ap (λ (r : List A). get_or l i d ∷ r) (first-entries n (suc i) (omega (arith, h)))
+-- one row more, in front of the others, of which the last falls out
+pub turned : {A : Type 0} (l : List A) (x : A) → length l ≡ 8 → slice_set (drop 7 l ++ take 7 l) 0 x ≡ x ∷ take 7 l
+turned {A} l x h = go (drop 7 l) (omega (arith, h, length-drop 7 l))
+  where
+    go : (last : List A) → length last ≡ 1 → slice_set (last ++ take 7 l) 0 x ≡ x ∷ take 7 l
+    go [] e = absurd (omega (arith, e))
+    go (y ∷ []) e = refl
+    go (y ∷ (z ∷ rest)) e = absurd (omega (arith, e))

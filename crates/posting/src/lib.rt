@@ -48,6 +48,7 @@ pub struct Posted {
 }
 
 // What is shown of a result. A plan that did not come in time is none.
+#[tactic(auto, unfolding(crate::specs::Posting::done_shown))]
 fn done_shown(v: Value) -> Shown
     ensures { result ≡ done_shown v }
 {
@@ -60,6 +61,7 @@ fn done_shown(v: Value) -> Shown
     Shown::None
 }
 
+#[tactic(auto, unfolding(crate::specs::Posting::is_unplanned))]
 fn is_unplanned(v: Value) -> bool
     ensures { result ≡ is_unplanned v }
 {
@@ -67,6 +69,7 @@ fn is_unplanned(v: Value) -> bool
 }
 
 // What is shown of an operation.
+#[tactic(auto, unfolding(crate::specs::Posting::operation_shown))]
 pub fn operation_shown(x: Operation) -> Shown
     ensures { result ≡ operation_shown x }
 {
@@ -80,6 +83,7 @@ impl Board {
     pub const ROWS: usize = 8;
 
     // A board that has shown nothing.
+    #[tactic(auto, unfolding(crate::specs::Posting::no_board))]
     pub fn none() -> Board
         ensures { result ≡ no_board }
     {
@@ -92,48 +96,32 @@ impl Board {
     }
 
     // How many rows have a line.
+    #[tactic(auto, unfolding(crate::specs::Posting::rows_of))]
     pub fn rows(self) -> usize
         ensures { result ≡ rows_of self }
     {
-        if self.count < 8 {
-            return self.count as usize;
-        }
-        Board::ROWS
+        usize::from(self.count).min(Board::ROWS)
     }
 
     // The line in row i.
+    #[tactic(auto, unfolding(crate::specs::Posting::row_in))]
     pub fn row(self, i: usize) -> Shown
         ensures { result ≡ row_in self i }
     {
-        if i < Board::ROWS {
-            let x = self.at[i];
-            return x.shown;
-        }
-        Shown::Unjudged
+        self.at.get(i).map_or(Shown::Unjudged, |row| row.shown)
     }
 
     // One line more, in front.
     pub fn post(self, x: Shown) -> Board
         ensures { result ≡ post_of self x }
     {
-        let old = self.at;
-        let rows = [
-            Row { shown: x },
-            old[0],
-            old[1],
-            old[2],
-            old[3],
-            old[4],
-            old[5],
-            old[6],
-        ];
-        if self.count < 8 {
-            return Board {
-                count: self.count + 1,
-                at: rows,
-            };
+        let mut at = self.at;
+        at.rotate_right(1);
+        at[0] = Row { shown: x };
+        Board {
+            count: self.count.min(Board::ROWS as u8 - 1) + 1,
+            at,
         }
-        Board { count: 8, at: rows }
     }
 }
 
@@ -141,8 +129,5 @@ impl Board {
 pub fn leaves(board: Board, told: Told) -> Posted
     ensures { result ≡ leaves board told }
 {
-    Posted {
-        told: told,
-        board: board,
-    }
+    Posted { told, board }
 }

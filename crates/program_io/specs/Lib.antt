@@ -2,3 +2,5 @@
 pub mod Got
 -- The line of one recording among several.
 pub mod Named
+-- Numbers and texts packed one behind the other.
+pub mod Packed

@@ -1,96 +1,66 @@
-// What the programs share: an input read to its end, and never half of it; and a line printed in one write.
+// What the programs share: how they are called, an input read to its end, and never half of it, packed cases, and a line printed in one write.
 #![tactic(auto)]
 
-ghost use Rattle.std.specs.Prelude.{◌≡◌, ◌≤◌, length};
-ghost use Rattle.judging.specs.Line.{line_of};
+ghost use Rattle.std.specs.Prelude.{◌≡◌, ◌%◌, ◌*◌, ◌+◌, ◌≤◌, [], ◌∷◌, fold, length, IfOk};
+ghost use Rattle.lines.specs.Lines.{line_bytes};
 ghost use Rattle.printing.specs.Printed.{printed_of};
-ghost use Rattle.program_io.specs.Got.{Fits, Reads, ReadsPart};
+ghost use Rattle.program_io.specs.Got.{Fits, Reads};
 ghost use Rattle.program_io.specs.Named.{named_line};
+ghost use Rattle.program_io.specs.Packed.{IsNumber, IsText};
 ghost use Rattle.std.specs.Bool.{OnTrue};
 ghost use Rattle.std.specs.Io.KnownBytes.{Appends};
 
 use judging::Line;
 use std::env::{Env, FillError};
 use std::fs::File;
-use std::io::{self, Cursor, ErrorKind, Input, Read, Write};
+use std::io::{self, Cursor, Error, ErrorKind, Input, Read, Write};
 use std::rt::Files;
 use wire::Wrote;
 
-// How many bytes came before the end of the input, or why a read failed.
-#[derive(Clone, Copy)]
-pub enum Got {
-    Bytes(usize),
-    Failed(io::Error),
-}
-
-// Reads until buf is full or the input ends, also from a pipe that gives little at a time.
-pub fn read_whole<R: Read>(input: &mut R, buf: &mut [u8]) -> Got
+// Reads until buf is full or the input ends, also from a pipe that gives little at a time; how many bytes came.
+pub fn read_whole<R: Read>(input: &mut R, buf: &mut [u8]) -> io::Result<usize>
     ensures fits { Fits result (length buf.new) }
     ensures bytes { Reads (R.remaining input.old) (R.remaining input.new) result buf.new }
 {
     let mut done: usize = 0;
     while done < buf.len() {
-        let more = read_part(input, &mut buf[done..]);
-        let Got::Bytes(n) = more else {
-            return more;
-        };
+        let n = input.read(&mut buf[done..])?;
         if n == 0 {
-            return Got::Bytes(done);
+            return Ok(done);
         }
-        done = done + n;
+        done += n;
     }
-    Got::Bytes(done)
-}
-
-// One read.
-fn read_part<R: Read>(input: &mut R, buf: &mut [u8]) -> Got
-    ensures fits { Fits result (length buf.new) }
-    ensures bytes { ReadsPart (R.remaining input.old) (R.remaining input.new) result buf.new }
-    ensures buf_len_unchanged { length buf.new ≡ length buf.old }
-{
-    match input.read(buf) {
-        Ok(n) => Got::Bytes(n),
-        Err(e) => Got::Failed(e),
-    }
+    Ok(done)
 }
 
 // Opens a file to read it. A path is text: a name that is none can't be opened.
 fn open<R: Files>(rt: &R, name: &[u8]) -> io::Result<R::File> {
     match std::str::from_utf8(name) {
         Ok(path) => File::open(rt, path),
-        Err(_) => Err(io::Error::from(ErrorKind::InvalidFilename)),
+        Err(_) => Err(Error::from(ErrorKind::InvalidFilename)),
     }
 }
 
 // Reads a file by its name; one that is not there counts as empty.
-pub fn read_file<R: Files>(rt: &R, name: &[u8], buf: &mut [u8]) -> Got
+pub fn read_file<R: Files>(rt: &R, name: &[u8], buf: &mut [u8]) -> io::Result<usize>
     ensures { Fits result (length buf.new) }
 {
     match open(rt, name) {
         Ok(mut file) => read_whole(&mut file, buf),
-        Err(e) if e.kind() == ErrorKind::NotFound => Got::Bytes(0),
-        Err(e) => Got::Failed(e),
+        Err(e) if e.kind() == ErrorKind::NotFound => Ok(0),
+        Err(e) => Err(e),
     }
 }
 
 // Reads what a name stands for: standard input for `-`, else the file, which has to be there.
-pub fn read_named<R: Files + Input>(rt: &R, name: &[u8], buf: &mut [u8]) -> Got
+pub fn read_named<R: Files + Input>(rt: &R, name: &[u8], buf: &mut [u8]) -> io::Result<usize>
     ensures { Fits result (length buf.new) }
 {
-    if is_dash(name) {
+    if matches!(name, [b'-']) {
         return read_whole(&mut rt.reader(), buf);
     }
-    match open(rt, name) {
-        Ok(mut file) => read_whole(&mut file, buf),
-        Err(e) => Got::Failed(e),
-    }
-}
-
-fn is_dash(name: &[u8]) -> bool {
-    if name.len() == 1 {
-        return name[0] == b'-';
-    }
-    false
+    let mut file = open(rt, name)?;
+    read_whole(&mut file, buf)
 }
 
 // Room for a name: a path has fewer bytes.
@@ -100,10 +70,7 @@ pub const NAME_ROOM: usize = 4096;
 pub fn arg<R: Env>(rt: &R, i: usize, buf: &mut [u8]) -> usize
     ensures { result ≤ length buf.new }
 {
-    match rt.arg(i, buf) {
-        Ok(n) => n,
-        Err(_) => 0,
-    }
+    rt.arg(i, buf).unwrap_or(0)
 }
 
 // How many arguments there are, the program's name among them.
@@ -116,8 +83,69 @@ pub fn arg_count<R: Env>(rt: &R) -> usize {
     usize::MAX
 }
 
+// What the first argument starts with.
+pub fn first_letter<R: Env>(rt: &R) -> u8 {
+    let mut how = [0u8; 8];
+    arg(rt, 1, &mut how);
+    how[0]
+}
+
+// Reads what the argument of this number names. Where that fails, standard error says what and why.
+pub fn read_arg<'a, R: Env + Files + Input, E: Print>(
+    rt: &R,
+    stderr: &E,
+    i: usize,
+    buf: &'a mut [u8],
+) -> io::Result<&'a [u8]>
+    ensures { IfOk result (λ text. length text.now ≤ length buf.old) }
+{
+    let mut name = [0u8; NAME_ROOM];
+    let n = arg(rt, i, &mut name);
+    let size = read_named(rt, &name[..n], buf).inspect_err(|e| fail(stderr, &name[..n], *e))?;
+    Ok(&buf[..size])
+}
+
+// Reads a recording on standard input. Where that fails, standard error says so.
+pub fn read_recording<'a, R: Input, E: Print>(
+    rt: &R,
+    stderr: &E,
+    recording: &'a mut [u8],
+) -> io::Result<&'a [u8]>
+    ensures { IfOk result (λ text. length text.now ≤ length recording.old) }
+{
+    let size = read_whole(&mut rt.reader(), recording)
+        .inspect_err(|e| fail(stderr, b"standard input", *e))?;
+    Ok(&recording[..size])
+}
+
+// Reads rte.cfg, and a recording on standard input. Where one fails, standard error says which and why.
+pub fn read_both<'a, R: Files + Input, E: Print>(
+    rt: &R,
+    stderr: &E,
+    config: &'a mut [u8],
+    recording: &'a mut [u8],
+) -> io::Result<(&'a [u8], &'a [u8])>
+    ensures { IfOk result (λ texts. (length texts.0.now ≤ length config.old) × (length texts.1.now ≤ length recording.old)) }
+{
+    let size =
+        read_file(rt, b"rte.cfg", config).inspect_err(|e| fail(stderr, b"rte.cfg", *e))?;
+    let recording = read_recording(rt, stderr, recording)?;
+    Ok((&config[..size], recording))
+}
+
+// Leaves a text in the file of this name, whole; whether it did. Where the file can't be made, standard error says why.
+pub fn keep<R: Files, E: Print>(rt: &R, stderr: &E, name: &str, text: &[u8]) -> bool {
+    match File::create(rt, name) {
+        Ok(mut file) => file.write_all(text).is_ok(),
+        Err(e) => {
+            fail(stderr, name.as_bytes(), e);
+            false
+        }
+    }
+}
+
 // Says on standard error what failed, and why.
-pub fn fail<E: Print>(stderr: &E, what: &[u8], why: io::Error) {
+pub fn fail<E: Print>(stderr: &E, what: &[u8], why: Error) {
     let mut text = Cursor::new([0u8; 256]);
     let _ = write!(text, "{why}");
     let _ = stderr.write_all(what);
@@ -136,6 +164,55 @@ fn reason_in(text: &[u8]) -> &[u8] {
     text
 }
 
+// More packed cases than any input has. A loop that is proved has to end.
+pub const CASES: u32 = 1000000;
+
+// The number that stands next in an input, in four bytes.
+pub fn next_number<R: Read>(input: &mut R) -> io::Result<usize>
+    ensures { IfOk result (λ n. IsNumber (R.remaining input.old) (R.remaining input.new) n) }
+{
+    let mut head = [0u8; 4];
+    let n = read_whole(input, &mut head)?;
+    if n < 4 {
+        return Err(Error::from(ErrorKind::UnexpectedEof));
+    }
+    Ok(wire::number(head[0], head[1], head[2], head[3]) as usize)
+}
+
+// As many bytes as the number that stands next says, or as are left, read into buf. It is an error where buf is too short for them.
+pub fn next_text<'a, R: Read>(input: &mut R, buf: &'a mut [u8]) -> io::Result<&'a [u8]>
+    ensures { IfOk result (λ text. IsText (R.remaining input.old) (R.remaining input.new) text.now) }
+{
+    let size = next_number(input)?;
+    if buf.len() < size {
+        return Err(Error::from(ErrorKind::InvalidData));
+    }
+    let n = read_whole(input, &mut buf[..size])?;
+    Ok(&buf[..n])
+}
+
+// A sum over bytes in which each place counts by itself.
+pub fn sum_of(text: &[u8]) -> u32
+    ensures { result ≡ fold (λ sum b. (sum % 16777213) * 251 + b) 1 text.now }
+{
+    let mut sum = 1;
+    for b in text {
+        sum = (sum % 16777213) * 251 + u32::from(*b);
+    }
+    sum
+}
+
+// What f gives, called as often as is said, once at least.
+pub fn repeat<T: Drop, F: Fn() -> T>(times: usize, f: F) -> T
+    requires { F.IsAlwaysCallable f }
+    ensures { F.post f result }
+{
+    for _ in 1..times {
+        f();
+    }
+    f()
+}
+
 // Reads rte.cfg and a recording on standard input, judges it as often as is said, once at least, and prints the last line. On a read that fails it prints none, and says what failed on standard error.
 pub fn run<R: Files + Input + Print, E: Print>(
     rt: &R,
@@ -144,32 +221,10 @@ pub fn run<R: Files + Input + Print, E: Print>(
     recording: &mut [u8],
     times: u32,
 ) {
-    let c = read_file(rt, b"rte.cfg", config);
-    let n = match c {
-        Got::Bytes(n) => n,
-        Got::Failed(e) => return fail(stderr, b"rte.cfg", e),
-    };
-    let r = read_whole(&mut rt.reader(), recording);
-    let m = match r {
-        Got::Bytes(m) => m,
-        Got::Failed(e) => return fail(stderr, b"standard input", e),
-    };
-    print(
-        &mut io::writer(rt),
-        repeat(&config[..n], &recording[..m], times),
-    );
-}
-
-// The line of two texts, found as often as is said.
-fn repeat(config: &[u8], recording: &[u8], times: u32) -> Line
-    ensures { result ≡ line_of config.now recording.now }
-{
-    let mut k: u32 = 1;
-    while k < times {
-        judging::line_of(config, recording);
-        k = k + 1;
+    if let Ok((config, recording)) = read_both(rt, stderr, config, recording) {
+        let line = repeat(times as usize, || judging::line_of(config, recording));
+        print(&mut io::writer(rt), line);
     }
-    judging::line_of(config, recording)
 }
 
 // Prints the line, in one write; whether all of it went out.
@@ -177,8 +232,18 @@ pub fn print<W: Write>(out: &mut W, line: Line) -> bool
     ensures { OnTrue result (Appends (W.contents out.old) (W.contents out.new) (printed_of line)) }
 {
     let mut text = [0u8; 64];
-    let w = printing::put_printed(&mut text, 0, line);
-    let Wrote::To(n) = w else {
+    let Wrote::To(n) = printing::put_printed(&mut text, 0, line) else {
+        return false;
+    };
+    out.write_all(&text[..n]).is_ok()
+}
+
+// Prints a word with a number behind it, in one write; whether all of it went out.
+pub fn print_count<W: Write>(out: &mut W, word: &[u8], n: usize) -> bool
+    ensures { OnTrue result (Appends (W.contents out.old) (W.contents out.new) (line_bytes word.now (n ∷ []))) }
+{
+    let mut text = [0u8; 64];
+    let Wrote::To(n) = lines::put_line(&mut text, 0, word, [n as u64, 0, 0, 0, 0], 1) else {
         return false;
     };
     out.write_all(&text[..n]).is_ok()
@@ -189,16 +254,13 @@ pub fn print_named<W: Write>(out: &mut W, name: &[u8], line: Line) -> bool
     ensures { OnTrue result (Appends (W.contents out.old) (W.contents out.new) (named_line name.now line)) }
 {
     let mut text = [0u8; 4200];
-    let w = wire::write(&mut text, 0, name);
-    let Wrote::To(k) = w else {
+    let Wrote::To(at) = wire::write(&mut text, 0, name) else {
         return false;
     };
-    let v = wire::write(&mut text, k, b": ");
-    let Wrote::To(m) = v else {
+    let Wrote::To(at) = wire::write(&mut text, at, b": ") else {
         return false;
     };
-    let u = printing::put_printed(&mut text, m, line);
-    let Wrote::To(n) = u else {
+    let Wrote::To(n) = printing::put_printed(&mut text, at, line) else {
         return false;
     };
     out.write_all(&text[..n]).is_ok()

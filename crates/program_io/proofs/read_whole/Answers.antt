@@ -7,5 +7,5 @@ use Rattle.program_io.proofs.read_whole.Goals as goal
 pub loop-done-preserved : goal.loop-done-preserved
 loop-done-preserved g c =
     let remaining = g.R.Read.remaining in
-    let behind = read-behind (remaining c.args.input.now) (remaining c.loop-done.input) (remaining c.read_part-more.new.input) c.loop-done.done c.in-Bytes.n c.loop-done.buf c.read_part-more.new.buf _ (search rules) (search rules) (search rules) (search rules) in
+    let behind = read-behind (remaining c.args.input.now) (remaining c.loop-done.input) (remaining c.read.new.self) c.loop-done.done c.in_ok-n.n c.loop-done.buf c.read.new.buf _ (search rules) (search rules) (search rules) (search rules) in
     (search rules, search rules, behind)

@@ -1,24 +1,19 @@
 -- `posting::Board::post` meets its contract.
 -- Assumes nothing.
-use mathlib.Core.Path.{◌≡◌}
-use native.Mathlib.Omega.{arith}
-use borrow.Author.Tests.{lt-ltb, le-ltb}
-use lib.ListN.{length}
+use Rattle.std.proofs.Common.{rules, arith, ◌≡◌, ◌+◌, length, take, ◌∷◌, slice_set, ltb}
+use Rattle.std.proofs.lemmas.Grind.{common_steps}
+use Rattle.laws.specs.Choice.{pick}
 use Rattle.laws.proofs.Places.{length-mapped}
-use Rattle.posting.specs.declared.Shown.TheVariants.{Final}
+use Rattle.posting.specs.declared.Row.{Row}
 use Rattle.posting.specs.Posting.{post_of}
-use Rattle.posting.proofs.Rows.{first-entries}
-use borrow.Author.Rules.{rules}
+use Rattle.posting.proofs.Rows.{turned}
 use Rattle.posting.proofs.Board.post.Goals as goal
-
-pub returns-then-self-lt8 : goal.returns-then-self-lt8
-unfolding post_of
-returns-then-self-lt8 c =
-    let e : length c.args.self.at ≡ 8 = search (rules, length-mapped) in
-    rw (lt-ltb _ _ c.if-self-lt8.true, first-entries c.args.self.at (record { shown = Final 0 }) 7 0 (omega (arith, e)))
 
 pub returns : goal.returns
 unfolding post_of
 returns c =
-    let e : length c.args.self.at ≡ 8 = search (rules, length-mapped) in
-    rw (le-ltb _ _ c.if-self-lt8.false, first-entries c.args.self.at (record { shown = Final 0 }) 7 0 (omega (arith, e)))
+    let all : length c.args.self.at ≡ 8 = search (rules, length-mapped) in
+    let first : Row = record { shown = c.args.x } in
+    let at : slice_set c.rotate_right.new.self 0 first ≡ first ∷ take 7 c.args.self.at = rw (c.rotate_right.ensures.after, all) (turned c.args.self.at first all) in
+    let count : c.min.result + 1 ≡ pick (ltb c.args.self.count 8) (c.args.self.count + 1) 8 = grind (arith, common_steps) in
+    rw (at, count)
