@@ -365,8 +365,8 @@ pub fn entry_of(cfg: Config, tag: u8, i: u8) -> Entry
         numbers::TAG_TIMER => cfg.timers.get(i).into(),
         numbers::TAG_DATA_EVENT => cfg.devents.get(i).into(),
         numbers::TAG_RETURN_EVENT => cfg.revents.get(i).into(),
-        numbers::TAG_INCOMING => cfg.incoming.get(i as usize).into(),
-        numbers::TAG_OUTGOING => cfg.outgoing.get(i as usize).into(),
+        numbers::TAG_INCOMING => cfg.incoming.get(i).into(),
+        numbers::TAG_OUTGOING => cfg.outgoing.get(i).into(),
         _ => Entry::BLANK,
     }
 }
