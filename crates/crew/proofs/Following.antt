@@ -29,7 +29,7 @@ use Rattle.entries.specs.Entries.{entry_of}
 use Rattle.entries.specs.Faults.{is_queued, config_sound}
 use Rattle.state.specs.Parts.{no_values, no_element}
 use Rattle.state.specs.Queues.{up_one, push_value, rest_values, first_value, oldest, pushed, without_oldest}
-use Rattle.state.specs.Start.{start_element, start_elements, start_of, started}
+use Rattle.state.specs.Start.{start_element, start_of, started}
 use Rattle.state.specs.Tables.{no_elements, element_in, with_element, slot_in, copy_in}
 use Rattle.rules.specs.Rows.{a_slot, scheduler, rows, row_of}
 use Rattle.rules.specs.Sound.{component_of, is_stored, values_sound, element_sound, elements_sound}

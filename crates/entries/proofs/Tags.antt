@@ -13,7 +13,7 @@ use Rattle.laws.specs.Loop.{all_below}
 use Rattle.laws.proofs.Choosing.{pick-alike}
 use Rattle.config.specs.declared.Config.{Config}
 use Rattle.config.specs.Editions.{is_edition}
-use Rattle.config.specs.Tables.{no_config, runnable_conf_in, variable_conf_in, area_conf_in, required_conf_in, provided_conf_in, link_in, operation_conf_in, timer_conf_in, data_event_in, return_event_in, listed_in}
+use Rattle.config.specs.Tables.{no_config}
 use Rattle.entries.specs.Entries.{no_entry, max_of, count_of, places_of, entry_of}
 use Rattle.config.specs.Table.{part_in}
 use Rattle.entries.specs.Faults.{in_range, names_there, pairs_well, entry_fault, is_no_entry, place_sound, kind_sound, parts_sound, config_sound}

@@ -1,11 +1,11 @@
 // Entries of a configuration: one shape for every kind of part, and the faults of an entry.
 #![tactic(auto)]
 
-ghost use Rattle.std.specs.Prelude.{◌≡◌, not, leb, ltb, eqb};
-ghost use Rattle.laws.specs.Choice.{both, either, alike, bit};
-ghost use Rattle.config.specs.Tables.{add_runnable_conf, add_variable_conf, add_area_conf, add_required_conf, add_provided_conf, add_link, add_operation_conf, add_timer_conf, add_data_event, add_return_event, add_listed, max_capacity, provided_conf_in};
-ghost use Rattle.entries.specs.Entries.{max_of, count_of, entry_of, placed, runnable_entry, variable_entry, area_entry, required_entry, provided_entry, link_entry, operation_entry, timer_entry, data_event_entry, return_event_entry, runnable_part, variable_part, area_part, required_part, provided_part, link_part, operation_part, timer_part, data_event_part, return_event_part, listed_entry, listed_part, with_runnable_confs, with_variable_confs, with_area_confs, with_required_confs, with_provided_confs, with_links, with_operation_confs, with_timer_confs, with_data_events, with_return_events, with_incoming_list, with_outgoing_list, with_edition, flags_of};
-ghost use Rattle.entries.specs.Faults.{max_component, max_time, is_time, in_range, names_there, is_server, is_queued, rises, rises_at, pairs_well, entry_fault, is_no_entry, place_sound, kind_sound, parts_sound, config_sound, max_flags, has_room, lists_well};
+ghost use Rattle.std.specs.Prelude.{◌≡◌};
+ghost use Rattle.laws.specs.Choice.{alike, bit};
+ghost use Rattle.config.specs.Tables.{provided_conf_in};
+ghost use Rattle.entries.specs.Entries.{max_of, count_of, entry_of, placed, runnable_entry, variable_entry, area_entry, required_entry, provided_entry, link_entry, operation_entry, timer_entry, data_event_entry, return_event_entry, runnable_part, variable_part, area_part, required_part, provided_part, link_part, operation_part, timer_part, data_event_part, return_event_part, listed_entry, listed_part, flags_of};
+ghost use Rattle.entries.specs.Faults.{is_time, in_range, names_there, is_server, is_queued, rises, rises_at, pairs_well, entry_fault, is_no_entry, place_sound, kind_sound, parts_sound, config_sound, has_room, lists_well};
 
 use config::{
     AreaConf, AreaConfs, Config, DataEvent, DataEvents, Link, Links, Listed, Lists, OperationConf,
@@ -534,7 +534,7 @@ fn link_alike(cfg: Config, e: Entry) -> bool
 
 // A plain runnable may list an unqueued element of its own component; x is the element's entry.
 #[tactic(auto, unfolding(crate::specs::Faults::lists_well))]
-pub fn lists_well(cfg: Config, r: u8, x: Entry) -> bool
+fn lists_well(cfg: Config, r: u8, x: Entry) -> bool
     ensures { result ≡ lists_well cfg r x }
 {
     !is_server(cfg, r) && x.first == cfg.runnables.get(r).component && x.second == 0

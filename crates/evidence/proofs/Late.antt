@@ -13,11 +13,11 @@ use Rattle.laws.specs.Mask.{mask_below}
 use Rattle.laws.specs.Row.{each_below, shifted, place_filled, filled}
 use Rattle.values.specs.Values.{is_void, is_payload, is_kind, is_mask, is_good, same_value, number_v}
 use Rattle.config.specs.Editions.{is_edition, marks_invalid, has_step, has_field, lists_elements}
-use Rattle.config.specs.Tables.{runnable_conf_in, add_runnable_conf, variable_conf_in, add_variable_conf, area_conf_in, add_area_conf, required_conf_in, add_required_conf, provided_conf_in, add_provided_conf, link_in, add_link, operation_conf_in, add_operation_conf, timer_conf_in, add_timer_conf, data_event_in, add_data_event, return_event_in, add_return_event, no_config, top_of, add_listed, listed_in}
+use Rattle.config.specs.Tables.{no_config, top_of}
 use Rattle.state.specs.Parts.{no_requests, no_runnable, no_values, no_element, no_stack, no_slot, no_copies}
-use Rattle.state.specs.Tables.{no_runnables, runnable_in, with_runnable, no_variables, variable_in, with_variable, no_areas, area_in, with_area, no_elements, element_in, with_element, no_operations, operation_in, with_operation, no_timers, timer_in, with_timer, no_slots, slot_in, with_slot, copies_in, copy_in, no_copied}
-use Rattle.state.specs.Queues.{push_request, first_request, rest_requests, push_value, first_value, rest_values, push_area, top_area, pop_area, oldest, pushed, without_oldest}
-use Rattle.state.specs.Start.{start_variable, start_element, start_runnables, start_variables, start_elements, start_of, started}
+use Rattle.state.specs.Tables.{copy_in}
+use Rattle.state.specs.Queues.{push_area, top_area, pop_area, oldest, pushed, without_oldest}
+use Rattle.state.specs.Start.{start_variable, start_element, start_of, started}
 use Rattle.entries.specs.Entries.{max_of, count_of, places_of, entry_of, placed}
 use Rattle.entries.specs.Faults.{in_range, names_there, is_server, is_queued, rises, rises_at, pairs_well, entry_fault, is_no_entry, place_sound, kind_sound, config_sound, parts_sound, has_room, lists_well}
 use Rattle.rules.specs.Sound.{is_no_client, client_fits, requests_sound, values_sound, runnable_sound, variable_sound, is_stored, element_sound, is_outcome, calling_sound, done_sound, operation_sound, timer_sound, waits_well, life_sound, owed_sound, area_fits, stack_sound, is_no_slot, slot_sound, of_runnable, slots_of, count_sound, times_in, holders, area_sound, is_client, queued_as, served_as, clients_as, client_sound, queued_sound, served_sound, called_sound, waits_on, waiters_of, waiter_sound, runnables_sound, variables_sound, elements_sound, operations_sound, timers_sound, slots_sound, counts_sound, areas_sound, clients_sound, waiters_sound, shaped, sound_of, most_pending, is_no_awaited, awaits_well, is_no_life, is_no_owed, is_no_stack, held_well, copied_sound, copies_sound, copy_sound, has_copy, is_no_copy}

@@ -14,7 +14,7 @@ use Rattle.laws.proofs.Looping.{any_same}
 use Rattle.laws.proofs.Masks.{mask-same}
 use Rattle.laws.proofs.Places.{past, each_at, each-length}
 use Rattle.faces.specs.Types.{Config, Elements, Runnable, Runnables}
-use Rattle.config.specs.Tables.{runnable_conf_in, required_conf_in, data_event_in, no_required_conf}
+use Rattle.config.specs.Tables.{runnable_conf_in, data_event_in, no_required_conf}
 use Rattle.entries.specs.Faults.{is_queued}
 use Rattle.state.specs.Parts.{no_runnable}
 use Rattle.state.specs.Tables.{element_in}

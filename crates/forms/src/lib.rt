@@ -1,7 +1,7 @@
 // The two forms of a recording: fields of the short form read and written, and the header.
 #![tactic(auto)]
 
-ghost use Rattle.std.specs.Prelude.{[], ◌∷◌, ◌≡◌, ◌+◌, ◌≤◌, length, get_or, drop, take};
+ghost use Rattle.std.specs.Prelude.{◌≡◌, ◌+◌, ◌≤◌, length, get_or, drop, take};
 ghost use Rattle.laws.specs.Choice.{pick};
 ghost use Rattle.wire.specs.Bytes.{put_at, Written};
 ghost use Rattle.recording.specs.Recording.{values_good, end_in};

@@ -13,10 +13,10 @@ use Rattle.laws.specs.Mask.{mask_below}
 use Rattle.laws.specs.Row.{each_below, shifted, place_filled, filled}
 use Rattle.values.specs.Values.{is_void, is_payload, is_kind, is_mask, is_good, same_value, void_v, number_v, ok_v, timeout_v}
 use Rattle.config.specs.Editions.{first_edition, is_edition, marks_invalid, has_step, has_field, lists_elements}
-use Rattle.config.specs.Tables.{runnable_conf_in, variable_conf_in, area_conf_in, required_conf_in, provided_conf_in, link_in, operation_conf_in, timer_conf_in, data_event_in, return_event_in, no_runnable_conf, no_variable_confs, no_area_confs, no_required_confs, no_provided_confs, no_links, no_operation_conf, no_timer_confs, no_data_events, no_return_events, no_lists, top_of, listed_in}
+use Rattle.config.specs.Tables.{no_runnable_conf, no_variable_confs, no_area_confs, no_required_confs, no_provided_confs, no_links, no_operation_conf, no_timer_confs, no_data_events, no_return_events, no_lists, top_of}
 use Rattle.state.specs.Parts.{no_requests, no_runnable, no_values, no_element, no_stack, no_slot, no_client, no_owed, no_operation, no_awaited, no_copies}
-use Rattle.state.specs.Tables.{no_runnables, runnable_in, with_runnable, no_variables, variable_in, with_variable, no_areas, area_in, with_area, no_elements, element_in, with_element, no_operations, operation_in, with_operation, no_timers, timer_in, with_timer, no_slots, slot_in, with_slot, copies_in, copy_in, no_copied}
-use Rattle.state.specs.Queues.{push_request, first_request, rest_requests, push_value, first_value, rest_values, push_area, top_area, pop_area, oldest, pushed, without_oldest}
+use Rattle.state.specs.Tables.{no_variables, no_areas, no_elements, operation_in, no_timers, copy_in, no_copied}
+use Rattle.state.specs.Queues.{push_area, top_area, pop_area, oldest, pushed, without_oldest}
 use Rattle.entries.specs.Entries.{max_of, count_of, places_of, entry_of}
 use Rattle.entries.specs.Faults.{in_range, names_there, is_server, is_queued, rises, rises_at, pairs_well, entry_fault, is_no_entry, place_sound, kind_sound, config_sound, parts_sound, has_room, lists_well}
 use Rattle.rules.specs.Sound.{is_no_client, client_fits, requests_sound, values_sound, runnable_sound, variable_sound, is_stored, element_sound, is_outcome, calling_sound, done_sound, operation_sound, timer_sound, waits_well, life_sound, owed_sound, area_fits, stack_sound, is_no_slot, slot_sound, of_runnable, slots_of, count_sound, times_in, holders, area_sound, is_client, queued_as, served_as, clients_as, client_sound, queued_sound, served_sound, called_sound, runnables_sound, variables_sound, elements_sound, operations_sound, timers_sound, slots_sound, counts_sound, areas_sound, clients_sound, shaped, waits_on, waiters_of, waiter_sound, waiters_sound, sound_of, most_pending, is_no_awaited, awaits_well, is_no_life, is_no_owed, is_no_stack, held_well, copied_sound, copies_sound, copy_sound, has_copy, is_no_copy}

@@ -19,7 +19,7 @@ use Rattle.values.specs.Values.{number_v}
 use Rattle.config.specs.Tables.{runnable_conf_in, operation_conf_in}
 use Rattle.state.specs.Parts.{no_slot}
 use Rattle.state.specs.Start.{start_of}
-use Rattle.state.specs.Tables.{max_slots, no_slots, slot_in, runnable_in, with_slot}
+use Rattle.state.specs.Tables.{max_slots, slot_in, runnable_in, with_slot}
 use Rattle.rules.specs.Rows.{no_part}
 use Rattle.effects.specs.Steps.{called, caller_after, waiting_on, closed, finishing, instance_of, lowest_empty, spawned, failing, has_failed}
 use Rattle.stays_sound.specs.Facts.{Sound, CanSpawn}

@@ -21,7 +21,7 @@ use Rattle.config.specs.Lists.{lists_at, element_at}
 use Rattle.entries.specs.Faults.{config_sound}
 use Rattle.state.specs.Parts.{no_slot, no_copies}
 use Rattle.state.specs.Start.{start_of}
-use Rattle.state.specs.Tables.{no_slots, element_in, slot_in, with_slot, copy_in, copies_in, with_copies, with_outgoing}
+use Rattle.state.specs.Tables.{element_in, slot_in, with_slot, copy_in, copies_in, with_copies, with_outgoing}
 use Rattle.rules.proofs.Listing.{lists-none}
 use Rattle.effects.specs.Step.{step_of}
 use Rattle.effects.specs.Steps.{entering, exiting, running_on, caller_after, finishing, failing, awaiting, on_element, fed, called, closed, waited, spawned, has_failed, runnable_of, cleared, ended, copy_of, copies_of, copied_into, lowest_empty, begun_in, setting}

@@ -21,7 +21,7 @@ use Rattle.values.specs.Values.{never_received_v, void_v, is_void, is_payload}
 use Rattle.config.specs.Editions.{marks_invalid}
 use Rattle.config.specs.Tables.{required_conf_in, runnable_conf_in, operation_conf_in}
 use Rattle.state.specs.Parts.{last_number, no_variable, no_element, no_operation, max_values, no_client, no_copies, max_requests}
-use Rattle.state.specs.Queues.{first_value, oldest}
+use Rattle.state.specs.Queues.{oldest}
 use Rattle.state.specs.Start.{start_of}
 use Rattle.state.specs.Tables.{variable_in, element_in, operation_in, runnable_in, slot_in, copy_in, copies_in}
 use Rattle.config.specs.Lists.{place_of}

@@ -18,7 +18,7 @@ use Rattle.laws.specs.Choice.{pick, bit}
 use Rattle.faces.specs.Types.{Step, Config, State, Slot, Slots, Area, Areas}
 use Rattle.state.specs.Parts.{no_area, no_slot}
 use Rattle.state.specs.Start.{start_of}
-use Rattle.state.specs.Tables.{no_areas, area_in, slot_in, with_area, with_slot, with_areas, with_slots}
+use Rattle.state.specs.Tables.{area_in, slot_in, with_area, with_slot, with_areas, with_slots}
 use Rattle.rules.specs.Sound.{times_in}
 use Rattle.effects.specs.Steps.{entering, entered, exiting, exited, called, closed, finishing, spawned, failing}
 use Rattle.stays_sound.specs.Facts.{Sound, CanEnter, CanExit}

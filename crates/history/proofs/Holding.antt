@@ -22,7 +22,7 @@ use Rattle.faces.specs.Types.{Value, Step, Taken, Config, Life, Slot, Slots, Sta
 use Rattle.config.specs.Tables.{runnable_conf_in, operation_conf_in}
 use Rattle.state.specs.Parts.{no_slot}
 use Rattle.state.specs.Start.{start_of}
-use Rattle.state.specs.Tables.{no_slots, max_slots, runnable_in, slot_in, with_slot}
+use Rattle.state.specs.Tables.{max_slots, runnable_in, slot_in, with_slot}
 use Rattle.rules.specs.Rows.{no_part}
 use Rattle.rules.specs.Sound.{is_caller, is_held, is_waiting}
 use Rattle.effects.specs.Steps.{entering, exiting, fed, called, caller_after, waiting_on, running_on, awaiting, waits, on_element, held, gone_on, closed, finishing, failing, instance_of, lowest_empty, spawned, slot_after, slots_after, slot_lets, slots_let, waited}

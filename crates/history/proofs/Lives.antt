@@ -17,7 +17,7 @@ use Rattle.values.specs.Values.{number_v}
 use Rattle.config.specs.Tables.{runnable_conf_in}
 use Rattle.state.specs.Parts.{no_slot}
 use Rattle.state.specs.Start.{start_of}
-use Rattle.state.specs.Tables.{no_slots, slot_in, runnable_in, with_slot}
+use Rattle.state.specs.Tables.{slot_in, runnable_in, with_slot}
 use Rattle.effects.specs.Steps.{called, closed, finishing, instance_of, lowest_empty, spawned, failing}
 use Rattle.stays_sound.specs.Facts.{Sound, CanSpawn}
 use Rattle.stays_sound.proofs.Told.{slots_length}

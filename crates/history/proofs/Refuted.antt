@@ -9,7 +9,7 @@ use mathlib.Core.Path.{◌≡◌, refl, ap, sym, ◌∙◌}
 use native.Mathlib.Omega.{arith}
 use lib.Dec.{eqb}
 use Rattle.history.proofs.Beside.{all_alike}
-use Rattle.state.specs.Start.{start_element, start_elements, start_of, started}
+use Rattle.state.specs.Start.{start_element, start_of, started}
 use Rattle.state.specs.Parts.{no_element, no_values}
 use Rattle.laws.proofs.Places.{each-has}
 use Rattle.laws.specs.Choice.{pick}

@@ -13,7 +13,7 @@ use Rattle.values.specs.Values.{void_v}
 use Rattle.faces.specs.Types.{Config, Runnable}
 use Rattle.config.specs.Tables.{runnable_conf_in}
 use Rattle.state.specs.Parts.{last_number, no_client, no_requests, no_runnable, no_operation, no_slot}
-use Rattle.state.specs.Tables.{no_runnables, no_operations, no_slots, runnable_in, operation_in, slot_in}
+use Rattle.state.specs.Tables.{no_operations, no_slots, runnable_in, slot_in}
 use Rattle.state.specs.Start.{start_runnable, start_runnables, start_of, started}
 use Rattle.history.specs.History.{no_request, nothing, ends_of, ended_on, last_on}
 use Rattle.history.proofs.Beside.{all_alike, Beside, beside_none}

@@ -21,7 +21,7 @@ use Rattle.faces.specs.Types.{Step, Config, Timer, Timers, State}
 use Rattle.config.specs.Tables.{timer_conf_in}
 use Rattle.state.specs.Parts.{no_timer}
 use Rattle.state.specs.Start.{start_of}
-use Rattle.state.specs.Tables.{no_timers, timer_in, with_timer}
+use Rattle.state.specs.Tables.{timer_in, with_timer}
 use Rattle.effects.specs.Steps.{called, closed, spawned, timer_lets, timers_let, timer_after, timers_after, waited}
 use Rattle.stays_sound.specs.Facts.{Sound}
 use Rattle.rules.proofs.Configured.{timers-most}

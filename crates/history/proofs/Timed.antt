@@ -19,7 +19,7 @@ use Rattle.faces.specs.Types.{Step, Config, Operation, Operations, State}
 use Rattle.config.specs.Tables.{operation_conf_in}
 use Rattle.state.specs.Parts.{no_operation}
 use Rattle.state.specs.Start.{start_of}
-use Rattle.state.specs.Tables.{no_operations, operation_in, with_operation}
+use Rattle.state.specs.Tables.{operation_in, with_operation}
 use Rattle.effects.specs.Steps.{opening, called, closing, closed, answers, client_of, spawned}
 use Rattle.stays_sound.specs.Facts.{Sound}
 use Rattle.rules.proofs.Configured.{operations-most}

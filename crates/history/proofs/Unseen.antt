@@ -22,7 +22,7 @@ use Rattle.config.specs.Tables.{runnable_conf_in, operation_conf_in}
 use Rattle.config.specs.Lists.{lists_at, place_of}
 use Rattle.state.specs.Parts.{no_slot, no_copies}
 use Rattle.state.specs.Queues.{first_value}
-use Rattle.state.specs.Tables.{max_slots, runnable_in, element_in, operation_in, slot_in, with_slot, copies_in, with_copy, with_copies, with_outgoing}
+use Rattle.state.specs.Tables.{max_slots, runnable_in, element_in, operation_in, slot_in, copies_in, with_copy, with_copies, with_outgoing}
 use Rattle.rules.specs.Refusals.{refusal_of}
 use Rattle.rules.specs.Sound.{sound_of}
 use Rattle.effects.specs.Steps.{refused, took, entered, exited, received, gone_on, answered, handed_back, finished, ticked, read_variable_of, write_variable_of, enter_of, exit_of, read_of, write_of, updated_of, invalidate_of, receive_of, send_of, call_of, poll_of, collect_of, result_of, hand_back_of, spawn_of, timeout_of, tick_of, wait_of, fail_of, hold_of, give_up_of, read_copy_of, write_copy_of, end_of, fed, called, closed, spawned, waited, has_failed, runnable_of, handed_elements, handed_runnables, cleared, ended, begun_in, setting, serves, is_taken, on_top, is_bare, waits, is_open, is_borne, is_busy, requests_full, hands_number, answers, client_of, is_over, may_spawn, lowest_empty, is_up, all_let, is_spent}

@@ -58,14 +58,6 @@ all_both p q (suc n) = rw (all_both p q n) (both-swap (all_below p n) (all_below
 
 -- ---- any
 
-pub any_none : (p : ℕ → Bool) → any_below p 0 ≡ false
-unfolding any_below
-any_none p = refl
-
-pub any-more : (p : ℕ → Bool) (i : ℕ) → any_below p i ≡ false → p i ≡ false → any_below p (i + 1) ≡ false
-unfolding any_below
-any-more p i a h = rw add-one (rw (a, h))
-
 pub any_here : (p : ℕ → Bool) (n k : ℕ) → k < n → p k ≡ true → any_below p n ≡ true
 unfolding any_below
 any_here p zero k l h = absurd (not-suc-le-zero l)

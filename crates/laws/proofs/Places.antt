@@ -2,15 +2,15 @@
 -- Assumes nothing.
 use Prim.Native.Nat.{ℕ, zero, suc, ◌+◌, ◌≤◌, ◌<◌}
 use mathlib.Core.Bool.{Bool, true}
-use mathlib.Core.List.{List, [], ◌∷◌, ◌++◌, map, append_assoc}
+use mathlib.Core.List.{List, [], ◌∷◌, ◌++◌, map}
 use mathlib.Core.Path.{◌≡◌, refl, sym, ◌∙◌, ap}
 use native.Mathlib.Nat.{add_comm}
 use native.Mathlib.Numerals.{add-one}
 use native.Mathlib.Decide.{ℕ_discrete, dec_lt}
 use native.Mathlib.Omega.{arith}
 use lib.Dec.{eqb}
-use lib.ListN.{length, get_or, set, take, drop, length-set, length-drop, length-append, length-map, get_or-eq_default, get_or-append}
-use lib.Seq.{set_at, set_out, drop-cons, take-suc, get_or-drop, length-take-le, take_all, drop-length, get_or-set_same, get_or-set_other, get_or_at}
+use lib.ListN.{length, get_or, set, drop, length-set, length-drop, length-append, length-map, get_or-eq_default, get_or-append}
+use lib.Seq.{set_out, get_or-drop, get_or-set_same, get_or-set_other, get_or_at}
 use borrow.Author.Tests.{lt-ltb, le-ltb, eq-eqb, eqb-true}
 use Rattle.laws.specs.Loop.{all_below, sum_below}
 use Rattle.laws.specs.Row.{each_below, shifted, place_filled, filled}
@@ -137,38 +137,6 @@ module _ {A : Type 0} (d : A) (l : List A) where
       go : Dec (j + 1 ≡ length l) → get_or (drop 1 l ++ (d ∷ [])) j d ≡ d
       go (yes e) = get_or_at (drop 1 l) d [] d j (length-drop 1 l ∙ omega (arith, e))
       go (no n) = get_or-eq_default (drop 1 l ++ (d ∷ [])) d (omega (arith, length-append (drop 1 l) (d ∷ []), length-drop 1 l, n))
-
--- a row on its way to being moved up by one: the first k places have their new entries
-unfoldable pub halfway : {A : Type 0} → List A → ℕ → List A
-halfway l k = take k (drop 1 l) ++ drop k l
-
-pub halfway-none : {A : Type 0} (l : List A) → l ≡ halfway l 0
-unfolding halfway
-halfway-none l = refl
-
-module _ {A : Type 0} (l : List A) (k : ℕ) (d : A) (h : k + 1 < length l) where
-  halfway-long : length (take k (drop 1 l)) ≡ k
-  halfway-long = length-take-le k (drop 1 l) (simp length-drop (omega arith))
-
-  halfway-front : take (k + 1) (drop 1 l) ≡ take k (drop 1 l) ++ (get_or l (k + 1) d ∷ [])
-  halfway-front =
-      let b : k < length (drop 1 l) = simp length-drop (omega arith) in
-      rw add-one (take-suc (drop 1 l) k d b ∙ rw (get_or-drop, add_comm 1 k, add-one))
-
-  pub halfway-more : set (halfway l k) k (get_or l (k + 1) d) ≡ halfway l (k + 1)
-  unfolding halfway
-  halfway-more =
-      let b : k < length l = omega arith in
-      rw (halfway-front, drop-cons l k d b, set_at (take k (drop 1 l)) (get_or l k d) (drop (suc k) l) (get_or l (k + 1) d) k halfway-long, append_assoc, ← add-one k)
-
-pub halfway-done : {A : Type 0} (l : List A) (n : ℕ) (d : A) → length l ≡ n + 1 → set (halfway l n) n d ≡ shifted d l
-unfolding halfway shifted
-halfway-done l n d e =
-    let b : n < length l = omega arith in
-    let t : take n (drop 1 l) ≡ drop 1 l = take_all n (drop 1 l) (simp length-drop (omega arith)) in
-    let z : drop (suc n) l ≡ [] = ap (λ (m : ℕ). drop m l) (sym (e ∙ add-one n)) ∙ drop-length l in
-    let m : length (drop 1 l) ≡ n = length-drop 1 l ∙ omega arith in
-    rw (t, drop-cons l n d b, z) (set_at (drop 1 l) (get_or l n d) [] d n m)
 
 -- ---- a row whose first places are in use
 

@@ -15,7 +15,7 @@ use Rattle.laws.proofs.Twice.{each_twice, all-twice}
 use Rattle.faces.specs.Types.{Config, Operation, Operations, Timer, Timers, Runnable, Runnables, Slot, Slots, State}
 use Rattle.state.specs.Parts.{no_runnable, no_operation, no_timer, no_awaited, no_slot}
 use Rattle.state.specs.Fields.{with_left}
-use Rattle.state.specs.Tables.{max_slots, operation_in, timer_in, slot_in}
+use Rattle.state.specs.Tables.{max_slots}
 use Rattle.rules.specs.Sound.{is_held}
 use Rattle.state.specs.Places.{place_in}
 use Rattle.effects.specs.Steps.{awaiting, operation_lets, timer_lets, slot_lets, operations_let, timers_let, slots_let, operation_after, timer_after, runnable_after, slot_after, operations_after, timers_after, runnables_after, slots_after, all_let, waited}

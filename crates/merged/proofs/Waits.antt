@@ -19,7 +19,7 @@ use Rattle.numbers.specs.Codes.{wait_code}
 use Rattle.faces.specs.Types.{Step, Config, Operation, Runnable, Slot, Slots, State, Stepped}
 use Rattle.values.specs.Values.{void_v, same_value, answer_refusal}
 use Rattle.state.specs.Parts.{no_runnable}
-use Rattle.state.specs.Tables.{max_slots, runnable_in, operation_in, timer_in, slot_in}
+use Rattle.state.specs.Tables.{max_slots, operation_in, timer_in, slot_in}
 use Rattle.rules.specs.Rows.{rows, row_of}
 use Rattle.rules.specs.Refusals.{argues, formed, part_there, scheduler_refusal, refusal_by, refusal_of}
 use Rattle.rules.specs.Sound.{is_held, sound_of}

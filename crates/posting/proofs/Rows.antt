@@ -1,6 +1,6 @@
 -- Laws of the rows: turned by one, with a new row in front.
 -- Assumes nothing.
-use Rattle.std.proofs.Common.{◌≡◌, ◌-◌, ℕ, List, [], ◌∷◌, ◌++◌, length, take, drop, slice_set, refl, arith, length-drop}
+use Rattle.std.proofs.Common.{◌≡◌, List, [], ◌∷◌, ◌++◌, length, take, drop, slice_set, refl, arith, length-drop}
 
 -- one row more, in front of the others, of which the last falls out
 pub turned : {A : Type 0} (l : List A) (x : A) → length l ≡ 8 → slice_set (drop 7 l ++ take 7 l) 0 x ≡ x ∷ take 7 l

@@ -12,7 +12,7 @@ use borrow.Author.Tests.{lt-ltb, ne_eqb, leb-true}
 use Rattle.numbers.specs.Tags.{last_tag}
 use Rattle.laws.specs.Choice.{pick, bit}
 use Rattle.config.specs.declared.Config.{Config}
-use Rattle.config.specs.Tables.{no_runnable_conf, runnable_conf_in, add_runnable_conf, no_variable_conf, variable_conf_in, add_variable_conf, no_area_conf, area_conf_in, add_area_conf, no_required_conf, required_conf_in, add_required_conf, no_provided_conf, provided_conf_in, add_provided_conf, no_link, link_in, add_link, no_operation_conf, operation_conf_in, add_operation_conf, no_timer_conf, timer_conf_in, add_timer_conf, no_data_event, data_event_in, add_data_event, no_return_event, return_event_in, add_return_event, no_listed, listed_in, add_listed}
+use Rattle.config.specs.Tables.{no_runnable_conf, no_variable_conf, no_area_conf, no_required_conf, no_provided_conf, no_link, no_operation_conf, no_timer_conf, no_data_event, no_return_event, no_listed}
 use Rattle.entries.specs.declared.Entry.{Entry}
 use Rattle.entries.specs.Entries.{max_of, count_of, places_of, entry_of, placed, no_entry, runnable_entry, runnable_part, variable_entry, variable_part, area_entry, area_part, required_entry, required_part, provided_entry, provided_part, link_entry, link_part, operation_entry, operation_part, timer_entry, timer_part, data_event_entry, data_event_part, return_event_entry, return_event_part, listed_entry, listed_part}
 use mathlib.Core.Bool.{true}

@@ -13,7 +13,7 @@ use Rattle.laws.specs.Choice.{pick, both}
 use Rattle.laws.proofs.Choosing.{both_left, both_right}
 use Rattle.config.specs.declared.Config.{Config}
 use Rattle.config.specs.Editions.{has_field}
-use Rattle.config.specs.Tables.{no_variable_conf, variable_conf_in}
+use Rattle.config.specs.Tables.{no_variable_conf}
 use Rattle.wire.specs.Bytes.{length_of}
 use Rattle.wire.proofs.Laws.{Bytes, be32-bytes, bytes32-be, front_read}
 use Rattle.entries.specs.declared.Entry.{Entry}

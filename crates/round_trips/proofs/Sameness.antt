@@ -36,7 +36,7 @@ use Rattle.config.specs.Tables.{ReturnEvents}
 use Rattle.config.specs.declared.Listed.{Listed}
 use Rattle.config.specs.Tables.{Lists}
 use Rattle.config.specs.declared.Config.{Config}
-use Rattle.config.specs.Tables.{runnable_conf_in, no_runnable_conf, variable_conf_in, no_variable_conf, area_conf_in, no_area_conf, required_conf_in, no_required_conf, provided_conf_in, no_provided_conf, link_in, no_link, operation_conf_in, no_operation_conf, timer_conf_in, no_timer_conf, data_event_in, no_data_event, return_event_in, no_return_event, listed_in, no_listed}
+use Rattle.config.specs.Tables.{no_runnable_conf, no_variable_conf, no_area_conf, no_required_conf, no_provided_conf, no_link, no_operation_conf, no_timer_conf, no_data_event, no_return_event, no_listed}
 use Rattle.entries.specs.declared.Entry.{Entry}
 use Rattle.entries.specs.Entries.{no_entry, max_of, count_of, places_of, entry_of, runnable_entry, runnable_part, variable_entry, variable_part, area_entry, area_part, required_entry, required_part, provided_entry, provided_part, link_entry, link_part, operation_entry, operation_part, timer_entry, timer_part, data_event_entry, data_event_part, return_event_entry, return_event_part, listed_entry, listed_part}
 use Rattle.entries.specs.Faults.{is_no_entry, config_sound}

@@ -18,7 +18,7 @@ use Rattle.faces.specs.Types.{Lists, Config, Runnable, Variable, Element, Slot}
 use Rattle.config.specs.Tables.{max_runnable_confs, max_variable_confs, max_area_confs, max_required_confs, max_operation_confs, max_timer_confs, runnable_conf_in, variable_conf_in, required_conf_in, timer_conf_in, top_of}
 use Rattle.entries.specs.Faults.{config_sound}
 use Rattle.state.specs.Parts.{no_client, no_requests, no_runnable, no_variable, no_area, no_values, no_element, no_operation, no_timer, no_stack, no_slot, no_copies, max_requests}
-use Rattle.state.specs.Tables.{max_slots, no_runnables, no_variables, no_areas, no_elements, no_operations, no_timers, no_slots, no_copied, copies_in, runnable_in, variable_in, area_in, element_in, operation_in, timer_in, slot_in}
+use Rattle.state.specs.Tables.{max_slots, no_areas, no_operations, no_timers, no_slots, no_copied, runnable_in, area_in, operation_in, slot_in}
 use Rattle.state.specs.Start.{start_runnable, start_variable, start_element, start_runnables, start_variables, start_elements, start_of, started}
 use Rattle.rules.specs.Sound.{is_no_client, requests_sound, values_sound, most_pending, runnable_sound, variable_sound, is_stored, element_sound, is_outcome, done_sound, operation_sound, timer_sound, slot_sound, of_runnable, slots_of, times_in, holders, is_client, queued_as, served_as, clients_as, waits_on, waiters_of, runnables_sound, variables_sound, elements_sound, operations_sound, timers_sound, slots_sound, copies_sound, copied_sound, shaped, sound_of}
 use Rattle.stays_sound.specs.Facts.{Counted, Held, Clients, Waiters, Sound}

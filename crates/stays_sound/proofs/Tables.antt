@@ -10,7 +10,6 @@ use Rattle.laws.proofs.Places.{all-put, all-each}
 use Rattle.faces.specs.Types.{Value, Config, Timer, State}
 use Rattle.config.specs.Tables.{max_variable_confs, max_timer_confs, timer_conf_in}
 use Rattle.state.specs.Parts.{no_variable, no_timer}
-use Rattle.state.specs.Tables.{variable_in, timer_in, with_variable, with_timer}
 use Rattle.rules.specs.Sound.{variable_sound, variables_sound, timer_sound, timers_sound}
 use Rattle.effects.specs.Steps.{stored, ticked, timer_after, timers_after, waited}
 use Rattle.state.specs.Places.{place_in, with_place}

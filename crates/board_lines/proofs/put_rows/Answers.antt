@@ -1,6 +1,6 @@
 -- `board_lines::put_rows` meets its contract: the word stands at the start, and behind it the lines so far (`RowsPut`).
 -- Assumes nothing.
-use Rattle.std.proofs.Common.{rules, arith, ◌<◌, ◌≡◌, sym, ◌∙◌}
+use Rattle.std.proofs.Common.{rules, arith, ◌<◌, ◌≡◌}
 use Rattle.posting.specs.Posting.{rows_of}
 use Rattle.board_lines.proofs.Texts.{rows_start, rows_same, rows_step, rows-done, rows-most}
 use Rattle.board_lines.proofs.put_rows.Goals as goal

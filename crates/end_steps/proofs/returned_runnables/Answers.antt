@@ -1,7 +1,6 @@
 -- `end_steps::returned_runnables` meets its contract. The loop has been over the places below its counter (`each_below`), and takes one more by `each-put`.
 -- Assumes nothing.
 use Rattle.std.proofs.Common.{◌≡◌, length, ◌∙◌, arith, rules}
-use Rattle.config.specs.Tables.{runnable_conf_in}
 use Rattle.laws.proofs.Places.{each_none, length-mapped}
 use Rattle.effects.specs.Steps as rules
 use Rattle.effects.specs.Steps.{is_returned, returned_runnables}

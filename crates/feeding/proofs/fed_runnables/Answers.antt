@@ -4,7 +4,6 @@ use borrow.Author.Rules.{rules}
 use lib.ListN.{length}
 use mathlib.Core.Path.{◌∙◌, ◌≡◌}
 use native.Mathlib.Omega.{arith}
-use Rattle.config.specs.Tables.{runnable_conf_in}
 use Rattle.laws.proofs.Places.{each_none, length-mapped}
 use Rattle.shared_steps.proofs.Stopping.{each-put, each_within, runnables-made}
 use Rattle.feeding.specs.Rooms.{fed_runnables_by}

@@ -1,6 +1,6 @@
 -- `state::shifted` meets its contract.
 -- Assumes nothing.
-use Rattle.std.proofs.Common.{◌≡◌, length, arith, rules}
+use Rattle.std.proofs.Common.{◌≡◌, length, rules}
 use Rattle.laws.specs.Row.{shifted}
 use Rattle.state.proofs.Turning.{turned}
 use Rattle.state.proofs.shifted.Goals as goal

@@ -1,6 +1,6 @@
 -- `state::started` meets its contract.
 -- Assumes nothing.
-use Rattle.std.proofs.Common.{◌≡◌, ℕ, arith, sym}
+use Rattle.std.proofs.Common.{◌≡◌, arith}
 use Rattle.laws.proofs.Places.{each_none, each_more}
 use Rattle.state.specs.Places.{no_places, with_place}
 use Rattle.state.specs.Start.{started}

@@ -4,7 +4,6 @@ use Rattle.std.proofs.Common.{◌≡◌, ℕ}
 use Rattle.laws.specs.Row.{each_below}
 use Rattle.config.specs.Table.{part_in}
 use Rattle.state.specs.Places.{no_places}
-use Rattle.state.specs.declared.Places.{Places}
 use Rattle.state.proofs.started.Given as goal
 
 abbrev pub invariant-loop-k : goal.invariant-loop-k

@@ -4,7 +4,6 @@ use mathlib.Core.Path.{◌≡◌}
 use native.Mathlib.Omega.{arith}
 use Rattle.laws.proofs.Places.{each_more, each_none}
 use Rattle.effects.specs.Steps.{operations_after}
-use Rattle.state.specs.Tables.{operation_in, with_operation}
 use Rattle.state.specs.Places.{place_in, with_place}
 use Rattle.time_steps.proofs.operations_after.Goals as goal
 

@@ -9,7 +9,6 @@ use Rattle.state.specs.Tables.{runnable_in}
 use Rattle.effects.specs.Steps.{took, may_spawn, spawned, lists_some, spawn_of}
 use Rattle.time_steps.proofs.Places.{found_none}
 use Rattle.time_steps.proofs.Spawning.{spawn-taken, begun-unlisted}
-use Rattle.state.specs.Places.{with_place}
 use Rattle.time_steps.proofs.spawn.Goals as goal
 
 pub returns-then-not-may_spawn : goal.returns-then-not-may_spawn

@@ -4,7 +4,6 @@ use mathlib.Core.Path.{◌≡◌}
 use native.Mathlib.Omega.{arith}
 use Rattle.laws.proofs.Places.{each_more, each_none}
 use Rattle.effects.specs.Steps.{timers_after}
-use Rattle.state.specs.Tables.{timer_in, with_timer}
 use Rattle.state.specs.Places.{place_in, with_place}
 use Rattle.time_steps.proofs.timers_after.Goals as goal
 

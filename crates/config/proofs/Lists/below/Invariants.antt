@@ -1,6 +1,5 @@
 -- `config::Lists::below` meets its contract.
 -- Assumes nothing.
-use Prim.Native.Nat.{ℕ}
 use mathlib.Core.Path.{◌≡◌}
 use Rattle.config.specs.Lists.{listed_below}
 use Rattle.config.proofs.Lists.below.Given as goal
