@@ -11,22 +11,19 @@ use reading::Outcome;
 use state::State;
 
 // The line of what was judged.
+#[tactic(auto, unfolding(crate::specs::Showing::judged_shown))]
 fn judged_shown(operation: u8, j: Judged) -> Shown
     ensures { result ≡ judged_shown operation j }
 {
-    let v = j.verdict;
-    match v {
-        Verdict::Accepted => {
-            let st = j.state;
-            let t = st.operations;
-            posting::operation_shown(t.get(operation))
-        }
+    match j.verdict {
+        Verdict::Accepted => posting::operation_shown(j.state.operations.get(operation)),
         Verdict::Refused(_, _) => Shown::Unjudged,
         Verdict::Unfinished => Shown::Unjudged,
     }
 }
 
 // The line for a recording, judged from the start state.
+#[tactic(auto, unfolding(crate::specs::Showing::recording_shown))]
 fn recording_shown(cfg: Config, operation: u8, s: &[u8], allowance: u32) -> Shown
     ensures { result ≡ recording_shown cfg operation s.now allowance }
 {
@@ -37,11 +34,11 @@ fn recording_shown(cfg: Config, operation: u8, s: &[u8], allowance: u32) -> Show
 }
 
 // Shows a recording on the board, by its plan operation. An operation that is not there is refused before anything is judged, and the board stays.
+#[tactic(auto, unfolding(crate::specs::Showing::show_of))]
 pub fn show(cfg: Config, operation: u32, s: &[u8], allowance: u32, board: Board) -> Posted
     ensures { result ≡ show_of cfg operation s.now allowance board }
 {
-    let t = cfg.operations;
-    if operation < t.n as u32 {
+    if operation < u32::from(cfg.operations.n) {
         let x = recording_shown(cfg, operation as u8, s, allowance);
         return Posted {
             told: Told::Line(x),
@@ -52,6 +49,7 @@ pub fn show(cfg: Config, operation: u32, s: &[u8], allowance: u32, board: Board)
 }
 
 // The same for the bytes of a configuration and of a recording.
+#[tactic(auto, unfolding(crate::specs::Showing::show_files_of))]
 pub fn show_files(config: &[u8], operation: u32, recording: &[u8], board: Board) -> Posted
     ensures { result ≡ show_files_of config.now operation recording.now board }
 {
@@ -59,8 +57,7 @@ pub fn show_files(config: &[u8], operation: u32, recording: &[u8], board: Board)
         return posting::leaves(board, Told::TooLong);
     }
     let g = reading::read_config(config);
-    let o = g.outcome;
-    match o {
+    match g.outcome {
         Outcome::Refused(place, k) => posting::leaves(board, Told::Configuration(place, k)),
         Outcome::Whole => show(g.config, operation, recording, ALLOWED, board),
     }
