@@ -1,245 +1,204 @@
-// The calls of a recording as its steps go by: for each operation where the latest call stands, where it ended and how, and what came too late; and for
+// The calls of a recording as its steps go by: for each operation its latest call, where it stands, where it ended and how, and what came too late; and for
 // each slot whether its instance has failed.
-use crate::putting::{byte_at, put_byte};
 use config::Config;
 use recording::Field;
 use state::State;
 use values::{Step, Value};
 
-const OPERATIONS: usize = 8;
+// The most steps that are looked at.
+pub const MOST: usize = 4096;
 
-const SLOTS: usize = 32;
+// How a call ended: by its timeout, or by the instance in a slot, which handed something back or had failed.
+#[derive(Clone, Copy)]
+pub enum How {
+    TimedOut,
+    HandedBack(u8, Value),
+    Failed(u8),
+}
 
-// One operation. Places count from 1, and 0 is none. It ended by its timeout (1), or by the instance in a slot, which handed something back (2) or had
-// failed (3).
+// The step that ended a call, and how.
+#[derive(Clone, Copy)]
+pub struct Ended {
+    pub place: usize,
+    pub how: How,
+}
+
+// A call: its step, who called and when, its end, and the step that handed something back too late.
 #[derive(Clone, Copy)]
 pub struct Told {
     pub called: usize,
     pub caller: u8,
     pub at: u64,
-    pub ended: usize,
-    pub how: u8,
-    pub by: u8,
-    pub back: Value,
-    pub late: usize,
-}
-
-impl Told {
-    pub const BLANK: Told = Told {
-        called: 0,
-        caller: 0,
-        at: 0,
-        ended: 0,
-        how: 0,
-        by: 0,
-        back: Value::VOID,
-        late: 0,
-    };
+    pub ended: Option<Ended>,
+    pub late: Option<usize>,
 }
 
 #[derive(Clone, Copy)]
 pub struct Calls {
-    pub of: [Told; OPERATIONS],
-    pub failed: [bool; SLOTS],
+    pub of: [Option<Told>; Calls::OPERATIONS],
+    pub failed: [bool; Calls::SLOTS],
 }
 
 impl Calls {
+    pub const OPERATIONS: usize = 8;
+
+    const SLOTS: usize = 32;
+
     pub const NONE: Calls = Calls {
-        of: [Told::BLANK; OPERATIONS],
-        failed: [false; SLOTS],
+        of: [None; Calls::OPERATIONS],
+        failed: [false; Calls::SLOTS],
     };
 
-    pub(crate) fn get(self, o: u8) -> Told {
-        let k = o as usize;
-        if k < OPERATIONS {
-            return self.of[k];
-        }
-        Told::BLANK
+    // The latest call of an operation.
+    pub(crate) fn get(&self, o: u8) -> Option<Told> {
+        self.of.get(o as usize).copied().flatten()
     }
 
-    fn with(self, o: u8, x: Told) -> Calls {
-        let k = o as usize;
-        let mut next = self;
-        if k < OPERATIONS {
-            next.of[k] = x;
-            return next;
-        }
-        next
-    }
-
-    fn has_failed(self, i: u8) -> bool {
-        let k = i as usize;
-        if k < SLOTS {
-            return self.failed[k];
-        }
-        false
+    fn has_failed(&self, i: u8) -> bool {
+        self.failed.get(i as usize).copied().unwrap_or(false)
     }
 
     // The instance in a slot fails, or a new one starts there.
-    fn marked(self, i: u32, failed: bool) -> Calls {
-        let k = i as usize;
-        let mut next = self;
-        if k < SLOTS {
-            next.failed[k] = failed;
-            return next;
+    fn mark(&mut self, i: u32, failed: bool) {
+        if let Some(mark) = self.failed.get_mut(i as usize) {
+            *mark = failed;
         }
-        next
     }
 
     // A call starts: nothing of the one before it is kept.
-    fn started(self, o: u8, place: usize, caller: u8, ms: u64) -> Calls {
-        let mut x = Told::BLANK;
-        x.called = place;
-        x.caller = caller;
-        x.at = ms;
-        self.with(o, x)
+    fn start(&mut self, o: u8, call: Told) {
+        if let Some(told) = self.of.get_mut(o as usize) {
+            *told = Some(call);
+        }
     }
 
-    fn timed_out(self, o: u8, place: usize) -> Calls {
-        let mut x = self.get(o);
-        x.ended = place;
-        x.how = 1;
-        self.with(o, x)
+    fn end(&mut self, o: u8, place: usize, how: How) {
+        if let Some(Some(told)) = self.of.get_mut(o as usize) {
+            told.ended = Some(Ended { place, how });
+        }
     }
 
     // An instance that has failed ends its call with ServerErr, whatever it hands back.
-    fn handed_back(self, o: u8, place: usize, by: u8, v: Value) -> Calls {
+    fn hand_back(&mut self, o: u8, place: usize, by: u8, v: Value) {
         if self.has_failed(by) {
-            return self.ended_by(o, place, by, 3, Value::SERVER_ERR);
+            self.end(o, place, How::Failed(by));
+        } else {
+            self.end(o, place, How::HandedBack(by, v));
         }
-        self.ended_by(o, place, by, 2, v)
     }
 
-    fn ended_by(self, o: u8, place: usize, by: u8, how: u8, v: Value) -> Calls {
-        let mut x = self.get(o);
-        x.ended = place;
-        x.how = how;
-        x.by = by;
-        x.back = v;
-        self.with(o, x)
-    }
-
-    fn came_late(self, o: u8, place: usize) -> Calls {
-        let mut x = self.get(o);
-        x.late = place;
-        self.with(o, x)
+    fn come_late(&mut self, o: u8, place: usize) {
+        if let Some(Some(told)) = self.of.get_mut(o as usize) {
+            told.late = Some(place);
+        }
     }
 
     // After an accepted step about this operation: a call answered Ok starts one, a timeout and a hand back answered 1 end one, a hand back answered 0 is
     // late; a fail marks its slot, and a spawn takes the mark away.
-    pub(crate) fn after(self, o: u8, s: Step, place: usize, ms: u64) -> Calls {
-        let code = s.code;
+    pub(crate) fn after(&mut self, operation: Option<u8>, s: Step, place: usize, ms: u64) {
         let claim = s.claim;
-        if code == 11 {
-            if claim.kind == 2 {
-                return self.started(o, place, s.who, ms);
+        match (s.code, operation) {
+            (numbers::CODE_CALL, Some(o)) => {
+                if claim.kind == Value::OK.kind {
+                    self.start(
+                        o,
+                        Told {
+                            called: place,
+                            caller: s.who,
+                            at: ms,
+                            ended: None,
+                            late: None,
+                        },
+                    );
+                }
             }
-            return self;
-        }
-        if code == 16 {
-            return self.timed_out(o, place);
-        }
-        if code == 13 {
-            if claim.number == 1 {
-                return self.handed_back(o, place, s.who, s.argument);
+            (numbers::CODE_TIMEOUT, Some(o)) => self.end(o, place, How::TimedOut),
+            (numbers::CODE_HAND_BACK, Some(o)) => {
+                if claim.number == 1 {
+                    self.hand_back(o, place, s.who, s.argument);
+                } else {
+                    self.come_late(o, place);
+                }
             }
-            return self.came_late(o, place);
+            (numbers::CODE_SPAWN, _) => self.mark(claim.number, false),
+            (numbers::CODE_FAIL, _) => self.mark(s.who as u32, true),
+            _ => {}
         }
-        if code == 15 {
-            return self.marked(claim.number, false);
-        }
-        if code == 19 {
-            return self.marked(s.who as u32, true);
-        }
-        self
     }
 }
 
-// The operation that a step is about, 255 for none: a hand back is about the one whose call its instance serves.
-fn operation_of(st: State, s: Step) -> u8 {
-    let code = s.code;
-    match code {
-        11 | 12 | 16 => s.what,
-        13 => served(st, s.who),
-        _ => 255,
+// The step in the 16 bytes of a field, if it is one.
+pub(crate) fn step_in(field: &[u8]) -> Option<Step> {
+    match recording::read_field(field, 0) {
+        Field::Step(x, _) => Some(x),
+        _ => None,
+    }
+}
+
+// The operation that a step is about: a hand back is about the one whose call its instance serves.
+fn operation_of(st: State, s: Step) -> Option<u8> {
+    match s.code {
+        numbers::CODE_CALL | numbers::CODE_RESULT | numbers::CODE_TIMEOUT => Some(s.what),
+        numbers::CODE_HAND_BACK => served(st, s.who),
+        _ => None,
     }
 }
 
 // Notes for each accepted step the operation that it is about; the state that they lead to.
-pub(crate) fn note_operations(cfg: Config, s: &[u8], steps: usize, ops: &mut [u8]) -> State {
+pub(crate) fn note_operations(
+    cfg: Config,
+    recording: &[u8],
+    operations: &mut [Option<u8>],
+) -> State {
     let mut st = State::start(cfg);
-    let mut k: usize = 0;
-    while k < 4096 {
-        if steps <= k {
-            return st;
-        }
-        let f = recording::read_field(s, k * 16);
-        let Field::Step(x, _) = f else {
-            return st;
+    for (field, o) in recording.chunks_exact(16).zip(operations.iter_mut()) {
+        let Some(x) = step_in(field) else {
+            break;
         };
-        put_byte(ops, k, operation_of(st, x));
-        let r = machine::inner(cfg, st, x);
-        st = r.state;
-        k = k + 1;
+        *o = operation_of(st, x);
+        st = machine::inner(cfg, st, x).state;
     }
     st
 }
 
-// The calls after so many steps.
-pub(crate) fn calls_until(s: &[u8], steps: usize, ops: &[u8]) -> Calls {
-    let mut t = Calls::NONE;
-    let mut k: usize = 0;
-    while k < 4096 {
-        if steps <= k {
-            return t;
-        }
-        let f = recording::read_field(s, k * 16);
-        let Field::Step(x, _) = f else {
-            return t;
+// The calls after so many steps as have their operation noted.
+pub(crate) fn calls_until(recording: &[u8], operations: &[Option<u8>]) -> Calls {
+    let mut calls = Calls::NONE;
+    for (k, (field, o)) in recording.chunks_exact(16).zip(operations).enumerate() {
+        let Some(x) = step_in(field) else {
+            break;
         };
-        t = t.after(byte_at(ops, k), x, k + 1, 0);
-        k = k + 1;
+        calls.after(*o, x, k + 1, 0);
     }
-    t
+    calls
 }
 
-// The operation whose call the instance in a slot serves; 255 where it serves none.
-pub(crate) fn served(st: State, i: u8) -> u8 {
-    let slots = st.slots;
-    let x = slots.get(i);
-    let w = x.owed;
-    if w.serving {
-        let c = w.client;
-        return c.operation;
+// The operation whose call the instance in a slot serves.
+pub(crate) fn served(st: State, i: u8) -> Option<u8> {
+    let owed = st.slots.get(i).owed;
+    if owed.serving {
+        Some(owed.client.operation)
+    } else {
+        None
     }
-    255
 }
 
-// The slot whose instance waits on an operation, and so has not collected yet; 255 where none does.
-pub(crate) fn waiter(st: State, o: u8) -> u8 {
-    let slots = st.slots;
-    let mut i: u8 = 0;
-    while i < 32 {
-        let x = slots.get(i);
-        let l = x.life;
-        let a = l.awaited;
-        if a.part == numbers::TAG_OPERATION {
-            if a.on == o {
-                return i;
-            }
+// The slot whose instance waits on an operation, and so has not collected yet.
+pub(crate) fn waiter(st: State, o: u8) -> Option<u8> {
+    for i in 0u8..32 {
+        let awaited = st.slots.get(i).life.awaited;
+        if awaited.part == numbers::TAG_OPERATION && awaited.on == o {
+            return Some(i);
         }
-        i = i + 1;
     }
-    255
+    None
 }
 
 // The time after a step.
 pub(crate) fn later(ms: u64, s: Step) -> u64 {
-    let v = s.argument;
-    if s.code == 18 {
-        if ms < 1000000000000000000 {
-            return ms + v.number as u64;
-        }
+    if s.code == numbers::CODE_WAIT {
+        ms.saturating_add(s.argument.number as u64)
+    } else {
+        ms
     }
-    ms
 }

@@ -4,6 +4,7 @@
 #![tactic(auto)]
 
 mod calls;
+mod case;
 mod damaged;
 mod names;
 mod page;
@@ -16,557 +17,390 @@ mod words;
 ghost use Rattle.std.specs.Prelude.{length};
 ghost use Rattle.program_io.specs.Got.{Fits};
 
-use config::Config;
+use case::{Asked, Case};
 use judging::Line;
+use names::Names;
 use program_io::Got;
-use putting::{put, put_with, say, show};
-use recording::Field;
+use putting::{Text, say};
+use reasons::Why;
 use state::State;
 use std::env::Env;
 use std::io::Input;
 use std::rt::Files;
-use table::{Focus, Plan, Walk, Widths};
-use values::{Step, Value};
+use table::{Focus, Refused, Rows, Widths};
+use values::Step;
 use whys::Cause;
-
-// What the call asks for.
-#[derive(Clone, Copy)]
-struct Asked {
-    all: bool,
-    page: bool,
-}
 
 // ---- the focus of a refusal
 
 fn focus_of(st: State, s: Step) -> Focus {
-    let mut f = Focus {
-        slot: 255,
-        operation: 255,
-        runnable: 255,
-        area: 255,
-        timer: 255,
+    let none = Focus {
+        slot: if words::is_slots(s.code) {
+            Some(s.who)
+        } else {
+            None
+        },
+        ..Focus::NONE
     };
-    let code = s.code;
-    if words::is_slots(code) {
-        f.slot = s.who;
+    let what = Some(s.what);
+    match s.code {
+        numbers::CODE_ENTER | numbers::CODE_EXIT => Focus { area: what, ..none },
+        numbers::CODE_CALL | numbers::CODE_RESULT | numbers::CODE_TIMEOUT => Focus {
+            operation: what,
+            ..none
+        },
+        numbers::CODE_HAND_BACK | numbers::CODE_END | numbers::CODE_FAIL => Focus {
+            operation: calls::served(st, s.who),
+            ..none
+        },
+        numbers::CODE_SPAWN => Focus {
+            runnable: what,
+            ..none
+        },
+        numbers::CODE_TICK => Focus {
+            timer: what,
+            ..none
+        },
+        _ => none,
     }
-    match code {
-        3 | 4 => {
-            f.area = s.what;
-        }
-        11 | 12 | 16 => {
-            f.operation = s.what;
-        }
-        13 | 14 | 19 => {
-            f.operation = calls::served(st, s.who);
-        }
-        15 => {
-            f.runnable = s.what;
-        }
-        17 => {
-            f.timer = s.what;
-        }
-        _ => {}
-    }
-    f
 }
 
 // What the cause adds to the focus.
 fn focused(f: Focus, c: Cause) -> Focus {
-    let mut g = f;
     match c {
-        Cause::WaitsOn(o) => {
-            g.operation = o;
-        }
-        Cause::HeldBy(i) => {
-            g.slot = i;
-        }
-        Cause::StillHeld(a) => {
-            g.area = a;
-        }
-        Cause::OnTop(a) => {
-            g.area = a;
-        }
-        Cause::QueueFull(r, _) => {
-            g.runnable = r;
-        }
-        Cause::Stops(tag, k, _) => {
-            if tag == 0x16 {
-                g.operation = k;
-            }
-            if tag == 0x17 {
-                g.timer = k;
-            }
-        }
-        _ => {}
+        Cause::WaitsOn(o) | Cause::Stops(numbers::TAG_OPERATION, o, _) => Focus {
+            operation: Some(o),
+            ..f
+        },
+        Cause::Stops(numbers::TAG_TIMER, t, _) => Focus {
+            timer: Some(t),
+            ..f
+        },
+        Cause::HeldBy(i) => Focus { slot: Some(i), ..f },
+        Cause::StillHeld(a) | Cause::OnTop(a) => Focus { area: Some(a), ..f },
+        Cause::QueueFull(r, _) => Focus {
+            runnable: Some(r),
+            ..f
+        },
+        _ => f,
     }
-    g
 }
 
 // ---- a refused step
 
-fn show_verdict<R: Print>(rt: &R, s: &[u8], names: &[u8], x: Step, c: Cause, place: usize, k: u8) {
-    let mut line = [0u8; 1024];
-    let mut at = put_with(&mut line, 0, b"REFUSED at step ", place as u64);
-    at = put_with(&mut line, at, b" of ", (s.len() / 16) as u64);
-    at = put_with(&mut line, at, b", by rule ", k as u64);
-    at = put(&mut line, at, b" (");
-    at = reasons::put_rule(&mut line, at, k);
-    at = put(&mut line, at, b"). ");
-    at = put_headline(&mut line, at, names, x, c);
-    at = put(&mut line, at, b"\n\n");
-    show(rt, &line, at);
+fn show_verdict<R: Print>(rt: &R, case: Case, refused: Refused) {
+    let steps = case.recording.len() / numbers::SIZE_STEP;
+    let mut line = Headline::new();
+    line.put_with("REFUSED at step ", refused.place as u64);
+    line.put_with(" of ", steps as u64);
+    line.put_with(", by rule ", refused.rule as u64);
+    line.put(" (");
+    line.put(reasons::rule_of(refused.rule));
+    line.put("). ");
+    put_headline(&mut line, case.names, refused);
+    line.put("\n\n");
+    line.show(rt);
 }
+
+type Headline = Text<1024>;
 
 // Who says or does what it can't.
-fn put_headline(out: &mut [u8], at: usize, names: &[u8], x: Step, c: Cause) -> usize {
+fn put_headline(line: &mut Headline, names: &Names, refused: Refused) {
+    let x = refused.step;
     if words::is_slots(x.code) {
-        let a = put_with(out, at, b"Slot ", x.who as u64);
-        return put_claimed(out, a, names, x, c);
+        line.put_with("Slot ", x.who as u64);
+    } else {
+        line.put("The scheduler");
     }
-    let a = put(out, at, b"The scheduler");
-    put_claimed(out, a, names, x, c)
-}
-
-fn put_claimed(out: &mut [u8], at: usize, names: &[u8], x: Step, c: Cause) -> usize {
-    match c {
-        Cause::Differs(v) => {
-            let a = put(out, at, b" says that `");
-            let b = words::put_deed(out, a, names, x);
-            let d = put(out, b, b"` answered ");
-            let e = table::put_meant(out, d, names, x.code, x.claim);
-            let f = put(out, e, b". It can't have: the answer is ");
-            let g = table::put_meant(out, f, names, x.code, v);
-            put(out, g, b".")
-        }
-        _ => {
-            let a = put(out, at, b" can't `");
-            let b = words::put_deed(out, a, names, x);
-            put(out, b, b"` here.")
-        }
+    if let Cause::Differs(v) = refused.cause {
+        line.put(" says that `");
+        line.put_deed(names, x);
+        line.put("` answered ");
+        line.put_meant(names, x.code, x.claim);
+        line.put(". It can't have: the answer is ");
+        line.put_meant(names, x.code, v);
+        line.put(".");
+    } else {
+        line.put(" can't `");
+        line.put_deed(names, x);
+        line.put("` here.");
     }
 }
 
 // Why, with what the calls before it came to.
 fn show_why<R: Print>(
     rt: &R,
-    names: &[u8],
+    names: &Names,
     st: State,
-    t: calls::Calls,
-    f: Focus,
-    x: Step,
-    c: Cause,
-    k: u8,
+    calls: &calls::Calls,
+    focus: Focus,
+    refused: Refused,
 ) {
-    let mut line = [0u8; 2048];
-    let mut at = put_with(&mut line, 0, b"\nWhy: rule ", k as u64);
-    at = put(&mut line, at, b": ");
-    at = reasons::put_cause(&mut line, at, names, x, c);
-    at = sections::put_story(&mut line, at, names, st, t, f.operation);
-    at = put(&mut line, at, b"\n");
-    show(rt, &line, at);
+    let mut why = Why::new();
+    why.put_with("\nWhy: rule ", refused.rule as u64);
+    why.put(": ");
+    reasons::put_cause(&mut why, names, refused.step, refused.cause);
+    if let Some(o) = focus.operation {
+        sections::put_story(&mut why, names, st, calls, o);
+    }
+    why.put("\n");
+    why.show(rt);
 }
 
-fn plan_of(a: Asked, steps: usize, f: Focus) -> Plan {
-    let mut all = a.all;
-    if a.page {
-        all = true;
-    }
-    if steps < 31 {
-        all = true;
-    }
-    Plan {
-        steps: steps,
-        all: all,
-        page: a.page,
-        narrow: false,
-        from: 0,
-        focus: f,
-    }
-}
-
-// The plan with its first row: the last 24 that bear on the focus are shown, or all.
-fn cut(p: Plan, bearing: usize) -> Plan {
-    let mut q = p;
-    if !p.all {
-        if 24 < bearing {
-            q.from = bearing - 24;
-        }
-    }
-    q
-}
-
-fn narrowed(p: Plan, w: Widths) -> Plan {
-    let mut q = p;
-    q.narrow = 4 < table::lanes_of(w);
-    q
-}
-
-// The table of accepted steps: counted, measured, shown.
-fn show_table<R: Print>(rt: &R, cfg: Config, names: &[u8], s: &[u8], p: Plan, ops: &[u8]) -> Walk {
-    let w = table::NO_WIDTHS;
-    let q = cut(p, table::bearing_of(s, p, ops));
-    let measured = table::go_through(rt, cfg, names, s, q, ops, table::new_walk(cfg, false, w));
-    let u = measured.widths;
-    let r = narrowed(q, u);
-    if p.page {
-        page::show_head(rt, names, u);
+// All rows of a few steps, of a page, and where they are asked for.
+fn rows_of(case: Case, operations: &[Option<u8>], focus: Focus) -> Rows {
+    if case.asked != Asked::Text || operations.len() < FEW {
+        Rows::All
     } else {
-        table::show_head(rt, names, r, u);
+        Rows::last(case.recording, operations, focus)
     }
-    table::go_through(rt, cfg, names, s, r, ops, table::new_walk(cfg, true, u))
+}
+
+// How many steps are too many to be all shown unasked.
+const FEW: usize = 31;
+
+// The table of accepted steps: measured, then shown. Its columns, and the time behind the last step.
+fn show_table<R: Print>(
+    rt: &R,
+    case: Case,
+    operations: &[Option<u8>],
+    rows: Rows,
+) -> (Widths, u64) {
+    let widths = table::measured(case, operations, rows);
+    if case.asked.is_page() {
+        page::show_head(rt, case.names, &widths);
+    } else {
+        table::show_head(rt, case.names, &widths);
+    }
+    let ms = table::show_rows(rt, case, operations, rows, &widths);
+    (widths, ms)
 }
 
 // What stands around the table of a refused step.
 fn show_reasons<R: Print>(
     rt: &R,
-    cfg: Config,
-    s: &[u8],
-    names: &[u8],
-    a: Asked,
-    t: calls::Calls,
+    case: Case,
+    operations: &[Option<u8>],
     st: State,
-    x: Step,
-    place: usize,
-    k: u8,
+    focus: Focus,
+    refused: Refused,
 ) {
-    let c = causes::cause_of(cfg, st, x);
-    start_text(rt, a);
-    show_why(rt, names, st, t, focused(focus_of(st, x), c), x, c, k);
-    sections::show_allowed(rt, cfg, st, names);
-    sections::show_place(rt, s, place);
-    sections::show_rest(rt, s, place);
-    sections::show_guess(rt, cfg, st, names, x);
-    end_text(rt, a);
+    let calls = calls::calls_until(case.recording, operations);
+    start_text(rt, case.asked);
+    show_why(rt, case.names, st, &calls, focus, refused);
+    sections::show_allowed(rt, case, st);
+    sections::show_place(rt, case.recording, refused.place);
+    sections::show_rest(rt, case.recording, refused.place);
+    sections::show_guess(rt, case, st, refused.step);
+    end_text(rt, case.asked);
 }
 
 // The accepted steps, and the refused one behind them.
 fn show_steps<R: Print>(
     rt: &R,
-    cfg: Config,
-    s: &[u8],
-    names: &[u8],
-    a: Asked,
-    ops: &[u8],
-    st: State,
-    x: Step,
-    steps: usize,
-    place: usize,
+    case: Case,
+    operations: &[Option<u8>],
+    focus: Focus,
+    refused: Refused,
 ) {
-    let c = causes::cause_of(cfg, st, x);
-    let p = plan_of(a, steps, focused(focus_of(st, x), c));
-    let t = show_table(rt, cfg, names, s, p, ops);
-    let w = t.widths;
-    if a.page {
-        page::show_refused(rt, names, x, c, place, t.ms);
+    let rows = rows_of(case, operations, focus);
+    let (widths, ms) = show_table(rt, case, operations, rows);
+    if case.asked.is_page() {
+        page::show_refused(rt, case.names, refused, ms);
         page::show_foot(rt);
-        return;
+    } else {
+        table::show_refused(rt, case.names, &widths, refused, ms);
     }
-    table::show_refused(rt, names, narrowed(p, w), w, x, c, place, t.ms);
 }
 
-// A step that the machine refuses. On a page the reasons stand before the steps, which may be many.
+// A step that the machine refuses behind so many accepted ones. On a page the reasons stand before the steps, which may be many.
 fn tell_step<R: Print>(
     rt: &R,
-    cfg: Config,
-    s: &[u8],
-    names: &[u8],
-    a: Asked,
-    ops: &mut [u8],
+    case: Case,
+    operations: &mut [Option<u8>],
     x: Step,
-    steps: usize,
     place: usize,
-    k: u8,
+    rule: u8,
 ) {
-    let st = calls::note_operations(cfg, s, steps, ops);
-    let t = calls::calls_until(s, steps, ops);
-    start_text(rt, a);
-    show_verdict(rt, s, names, x, causes::cause_of(cfg, st, x), place, k);
-    end_text(rt, a);
-    if a.page {
-        show_reasons(rt, cfg, s, names, a, t, st, x, place, k);
-        say(rt, b"<p><a href=\"#x\">To the refused step</a></p>\n");
-        show_steps(rt, cfg, s, names, a, ops, st, x, steps, place);
-        return;
+    let st = calls::note_operations(case.cfg, case.recording, operations);
+    let refused = Refused {
+        step: x,
+        cause: causes::cause_of(case.cfg, st, x),
+        place,
+        rule,
+    };
+    let focus = focused(focus_of(st, x), refused.cause);
+    start_text(rt, case.asked);
+    show_verdict(rt, case, refused);
+    end_text(rt, case.asked);
+    if case.asked.is_page() {
+        show_reasons(rt, case, operations, st, focus, refused);
+        say(rt, "<p><a href=\"#x\">To the refused step</a></p>\n");
+        show_steps(rt, case, operations, focus, refused);
+    } else {
+        show_steps(rt, case, operations, focus, refused);
+        show_reasons(rt, case, operations, st, focus, refused);
     }
-    show_steps(rt, cfg, s, names, a, ops, st, x, steps, place);
-    show_reasons(rt, cfg, s, names, a, t, st, x, place, k);
 }
 
-fn start_text<R: Print>(rt: &R, a: Asked) {
-    if a.page {
+fn start_text<R: Print>(rt: &R, asked: Asked) {
+    if asked.is_page() {
         page::open_text(rt);
     }
 }
 
-fn end_text<R: Print>(rt: &R, a: Asked) {
-    if a.page {
+fn end_text<R: Print>(rt: &R, asked: Asked) {
+    if asked.is_page() {
         page::close_text(rt);
     }
 }
 
 // A field that can't be read, behind the accepted steps.
-fn tell_damaged<R: Print>(
-    rt: &R,
-    cfg: Config,
-    s: &[u8],
-    names: &[u8],
-    a: Asked,
-    ops: &mut [u8],
-    steps: usize,
-    place: usize,
-) {
-    calls::note_operations(cfg, s, steps, ops);
-    show_damaged(rt, a, steps, place);
-    show_all(rt, cfg, s, names, a, ops, steps);
-    end_damaged(rt, s, a, steps, place);
-}
-
-fn show_damaged<R: Print>(rt: &R, a: Asked, steps: usize, place: usize) {
-    let mut line = [0u8; 256];
-    let mut at = put_with(&mut line, 0, b"REFUSED at field ", place as u64);
-    at = put(&mut line, at, b", by rule 18 (a damaged field). The ");
-    at = words::put_count(&mut line, at, steps as u64, b"step");
-    at = put(
-        &mut line,
-        at,
-        b" before it were allowed; the recording can't be read from there on.\n\n",
-    );
-    start_text(rt, a);
-    show(rt, &line, at);
-    end_text(rt, a);
-}
-
-fn end_damaged<R: Print>(rt: &R, s: &[u8], a: Asked, steps: usize, place: usize) {
-    end_table(rt, a);
-    start_text(rt, a);
-    damaged::show_recording(rt, s, steps, place);
-    end_text(rt, a);
-}
-
-fn end_table<R: Print>(rt: &R, a: Asked) {
-    if a.page {
+fn tell_damaged<R: Print>(rt: &R, case: Case, operations: &mut [Option<u8>], place: usize) {
+    calls::note_operations(case.cfg, case.recording, operations);
+    show_damaged(rt, case.asked, operations.len(), place);
+    show_all(rt, case, operations);
+    if case.asked.is_page() {
         page::show_foot(rt);
     }
+    start_text(rt, case.asked);
+    damaged::show_recording(rt, case.recording, operations.len(), place);
+    end_text(rt, case.asked);
 }
 
-fn nothing() -> Step {
-    Step {
-        code: 18,
-        who: 0,
-        what: 0,
-        argument: Value::VOID,
-        claim: Value::VOID,
-    }
+fn show_damaged<R: Print>(rt: &R, asked: Asked, steps: usize, place: usize) {
+    let mut line = Text::<256>::new();
+    line.put_with("REFUSED at field ", place as u64);
+    line.put(", by rule 18 (a damaged field). The ");
+    line.put_count(steps as u64, "step");
+    line.put(" before it were allowed; the recording can't be read from there on.\n\n");
+    start_text(rt, asked);
+    line.show(rt);
+    end_text(rt, asked);
 }
 
 // How many steps can be read from the front.
-fn readable(s: &[u8], most: usize) -> usize {
-    let mut k: usize = 0;
-    while k < 4096 {
-        if most <= k {
-            return k;
-        }
-        let f = recording::read_field(s, k * 16);
-        match f {
-            Field::Step(_, _) => {
-                k = k + 1;
-            }
-            _ => {
-                return k;
-            }
-        }
-    }
-    k
+fn readable(recording: &[u8], most: usize) -> usize {
+    recording
+        .chunks_exact(numbers::SIZE_STEP)
+        .take(most)
+        .take_while(|field| calls::step_in(field).is_some())
+        .count()
 }
 
-fn tell_refused<R: Print>(
-    rt: &R,
-    cfg: Config,
-    s: &[u8],
-    names: &[u8],
-    a: Asked,
-    ops: &mut [u8],
-    place: usize,
-    k: u8,
-) {
-    if place == 0 {
-        say(rt, b"REFUSED: the first state is not sound.\n");
+fn tell_refused<R: Print>(rt: &R, case: Case, place: usize, rule: u8) {
+    let Some(before) = place.checked_sub(1) else {
+        return say(rt, "REFUSED: the first state is not sound.\n");
+    };
+    let mut room = [None; calls::MOST];
+    if rule == numbers::BAD_FIELD {
+        if let Some(operations) = room.get_mut(..readable(case.recording, before)) {
+            tell_damaged(rt, case, operations, place);
+        }
         return;
     }
-    if 4097 < place {
-        return;
-    }
-    if k == 18 {
-        tell_damaged(rt, cfg, s, names, a, ops, readable(s, place - 1), place);
-        return;
-    }
-    let f = recording::read_field(s, (place - 1) * 16);
-    if let Field::Step(x, _) = f {
-        tell_step(rt, cfg, s, names, a, ops, x, place - 1, place, k);
+    let field = case.recording.chunks_exact(numbers::SIZE_STEP).nth(before);
+    if let Some(x) = field.and_then(calls::step_in) {
+        if let Some(operations) = room.get_mut(..before) {
+            tell_step(rt, case, operations, x, place, rule);
+        }
     }
 }
 
-fn put_taken(out: &mut [u8], at: usize, steps: usize, whole: bool) -> usize {
+type Taken = Text<256>;
+
+fn put_taken(line: &mut Taken, steps: usize, whole: bool) {
     if steps == 0 {
-        return put(
-            out,
-            at,
-            b"ACCEPTED: the recording is whole, and has no steps. Nothing was done, and nothing was wrong.\n\n",
+        return line.put(
+            "ACCEPTED: the recording is whole, and has no steps. Nothing was done, and nothing was wrong.\n\n",
         );
     }
-    if whole {
-        let a = put(
-            out,
-            at,
-            b"ACCEPTED: the recording is whole, and nothing in its ",
-        );
-        let b = words::put_count(out, a, steps as u64, b"step");
-        return put(
-            out,
-            b,
-            b" is against the rules. How each call ended stands below.\n\n",
-        );
-    }
-    let a = put(out, at, b"UNFINISHED: the first ");
-    let b = words::put_count(out, a, steps as u64, b"step");
-    put(
-        out,
-        b,
-        b" were allowed, and no more were looked at. ./judge --long judges all of them.\n\n",
-    )
+    line.put(if whole {
+        "ACCEPTED: the recording is whole, and nothing in its "
+    } else {
+        "UNFINISHED: the first "
+    });
+    line.put_count(steps as u64, "step");
+    line.put(if whole {
+        " is against the rules. How each call ended stands below.\n\n"
+    } else {
+        " were allowed, and no more were looked at. ./judge --long judges all of them.\n\n"
+    });
 }
 
 // Every step allowed, to the end or to the allowance.
-fn tell_taken<R: Print>(
-    rt: &R,
-    cfg: Config,
-    s: &[u8],
-    names: &[u8],
-    a: Asked,
-    ops: &mut [u8],
-    steps: usize,
-    whole: bool,
-) {
-    calls::note_operations(cfg, s, steps, ops);
-    let mut line = [0u8; 256];
-    let at = put_taken(&mut line, 0, steps, whole);
-    start_text(rt, a);
-    show(rt, &line, at);
-    end_text(rt, a);
-    if a.page {
-        start_text(rt, a);
-        sections::show_calls(rt, cfg, names, s, steps, ops, a.all);
-        end_text(rt, a);
-        show_all(rt, cfg, s, names, a, ops, steps);
+fn tell_taken<R: Print>(rt: &R, case: Case, steps: usize, whole: bool) {
+    let mut room = [None; calls::MOST];
+    let Some(operations) = room.get_mut(..steps) else {
+        return;
+    };
+    calls::note_operations(case.cfg, case.recording, operations);
+    let mut line = Taken::new();
+    put_taken(&mut line, steps, whole);
+    start_text(rt, case.asked);
+    line.show(rt);
+    end_text(rt, case.asked);
+    if case.asked.is_page() {
+        start_text(rt, case.asked);
+        sections::show_calls(rt, case, operations);
+        end_text(rt, case.asked);
+        show_all(rt, case, operations);
         page::show_foot(rt);
         return;
     }
-    if steps < 31 {
-        show_all(rt, cfg, s, names, a, ops, steps);
-        say(rt, b"\n");
-    } else if a.all {
-        show_all(rt, cfg, s, names, a, ops, steps);
-        say(rt, b"\n");
+    if steps < FEW || case.asked.is_all() {
+        show_all(rt, case, operations);
+        say(rt, "\n");
     }
-    sections::show_calls(rt, cfg, names, s, steps, ops, a.all);
+    sections::show_calls(rt, case, operations);
 }
 
 // The table of steps that are all accepted.
-fn show_all<R: Print>(
-    rt: &R,
-    cfg: Config,
-    s: &[u8],
-    names: &[u8],
-    a: Asked,
-    ops: &[u8],
-    steps: usize,
-) {
-    show_table(
-        rt,
-        cfg,
-        names,
-        s,
-        plan_of(a, steps, focus_of(State::start(cfg), nothing())),
-        ops,
-    );
+fn show_all<R: Print>(rt: &R, case: Case, operations: &[Option<u8>]) {
+    show_table(rt, case, operations, rows_of(case, operations, Focus::NONE));
 }
 
 // ---- the two files
 
-fn tell_line<R: Print>(
-    rt: &R,
-    config: &[u8],
-    s: &[u8],
-    names: &[u8],
-    a: Asked,
-    ops: &mut [u8],
-    line: Line,
-) {
-    let r = reading::read_config(config);
-    let cfg = r.config;
+fn tell_line<R: Print>(rt: &R, case: Case, config: &[u8], line: Line) {
     match line {
-        Line::Accepted(n) => tell_taken(rt, cfg, s, names, a, ops, n, true),
-        Line::Unfinished(n) => tell_taken(rt, cfg, s, names, a, ops, n, false),
-        Line::Refused(place, k) => tell_refused(rt, cfg, s, names, a, ops, place, k),
-        Line::Configuration(place, k) => tell_config(rt, config, a, place, k),
-        Line::TooLong => tell_long(rt, a),
+        Line::Accepted(n) => tell_taken(rt, case, n, true),
+        Line::Unfinished(n) => tell_taken(rt, case, n, false),
+        Line::Refused(place, k) => tell_refused(rt, case, place, k),
+        Line::Configuration(place, k) => tell_config(rt, config, case.asked, place, k),
+        Line::TooLong => tell_long(rt, case.asked),
     }
 }
 
-fn tell_config<R: Print>(rt: &R, config: &[u8], a: Asked, place: usize, k: u8) {
-    start_text(rt, a);
+fn tell_config<R: Print>(rt: &R, config: &[u8], asked: Asked, place: usize, k: u8) {
+    start_text(rt, asked);
     damaged::show_config(rt, config, place, k);
-    end_text(rt, a);
+    end_text(rt, asked);
 }
 
-fn tell_long<R: Print>(rt: &R, a: Asked) {
-    start_text(rt, a);
+fn tell_long<R: Print>(rt: &R, asked: Asked) {
+    start_text(rt, asked);
     say(
         rt,
-        b"INPUT TOO LONG: a configuration has at most 4,096 bytes, and a recording at most 65,536. ./judge --long judges a longer recording.\n",
+        "INPUT TOO LONG: a configuration has at most 4,096 bytes, and a recording at most 65,536. ./judge --long judges a longer recording.\n",
     );
-    end_text(rt, a);
+    end_text(rt, asked);
 }
 
-fn tell<R: Print>(rt: &R, config: &[u8], s: &[u8], names: &[u8], a: Asked) {
-    let line = judging::line_of(config, s);
-    if a.page {
+fn tell<R: Print>(rt: &R, config: &[u8], recording: &[u8], names: &Names, asked: Asked) {
+    let line = judging::line_of(config, recording);
+    let case = Case {
+        cfg: reading::read_config(config).config,
+        recording,
+        names,
+        asked,
+    };
+    if asked.is_page() {
         page::show_top(rt);
     }
-    let mut ops = [255u8; 4096];
-    tell_line(rt, config, s, names, a, &mut ops, line);
-    if a.page {
+    tell_line(rt, case, config, line);
+    if asked.is_page() {
         page::show_end(rt);
-    }
-}
-
-// The same for the first bytes of two buffers.
-fn tell_recording<R: Print>(rt: &R, config: &[u8], s: &[u8], m: usize, names: &[u8], a: Asked) {
-    if m <= s.len() {
-        tell(rt, config, &s[..m], names, a);
-    }
-}
-
-fn tell_front<R: Print>(
-    rt: &R,
-    config: &[u8],
-    n: usize,
-    s: &[u8],
-    m: usize,
-    names: &[u8],
-    a: Asked,
-) {
-    if n <= config.len() {
-        tell_recording(rt, &config[..n], s, m, names, a);
-    }
-}
-
-// The word of the call, by its first letter: text, all or page.
-fn asked_of(b: u8) -> Asked {
-    Asked {
-        all: b == b'a',
-        page: b == b'p',
     }
 }
 
@@ -590,7 +424,7 @@ fn read_arg<R: Env + Files + Input, E: Print>(rt: &R, stderr: &E, i: usize, buf:
 fn load_names<R: Env + Files + Input, E: Print>(
     rt: &R,
     stderr: &E,
-    names: &mut [u8],
+    names: &mut Names,
     text: &mut [u8],
     page: bool,
 ) -> bool {
@@ -598,17 +432,17 @@ fn load_names<R: Env + Files + Input, E: Print>(
         return true;
     }
     let got = read_arg(rt, stderr, 4, text);
-    let Got::Bytes(size) = got else {
+    let Got::Bytes(n) = got else {
         return false;
     };
-    names::take_names(names, text, size, page);
+    names.take(&text[..n], page);
     true
 }
 
 fn ask<R: Env>(rt: &R) -> Asked {
     let mut word = [0u8; 8];
     program_io::arg(rt, 1, &mut word);
-    asked_of(word[0])
+    Asked::of(word[0])
 }
 
 fn run<R: Env + Files + Input + Print, E: Print>(
@@ -616,11 +450,11 @@ fn run<R: Env + Files + Input + Print, E: Print>(
     stderr: &E,
     config: &mut [u8],
     recording: &mut [u8],
-    names: &mut [u8],
+    names: &mut Names,
     text: &mut [u8],
 ) {
-    let a = ask(rt);
-    if !load_names(rt, stderr, names, text, a.page) {
+    let asked = ask(rt);
+    if !load_names(rt, stderr, names, text, asked.is_page()) {
         return;
     }
     let c = read_arg(rt, stderr, 2, config);
@@ -631,13 +465,13 @@ fn run<R: Env + Files + Input + Print, E: Print>(
     let Got::Bytes(m) = r else {
         return;
     };
-    tell_front(rt, config, n, recording, m, names, a);
+    tell(rt, &config[..n], &recording[..m], names, asked);
 }
 
 fn main(rt: HostRuntime) {
     let mut config = [0u8; judging::CONFIG_ROOM];
     let mut recording = [0u8; judging::RECORDING_ROOM];
-    let mut names = [0u8; names::ROOM];
+    let mut names = Names::new();
     let mut text = [0u8; 65536];
     run(
         &rt,

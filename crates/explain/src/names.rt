@@ -1,253 +1,170 @@
-// Names of parts: a run of bytes, 201 for each of 16 parts of eight kinds, a name's length and the name as it is shown.
+// Names of parts, as they are shown, of 16 parts of eight kinds.
 // A name is made harmless once, where it is taken: no control character is kept, and for a page nothing that could be markup.
-ghost use Rattle.std.specs.Prelude.{◌≤◌};
+ghost use Rattle.std.specs.Prelude.{◌<◌, IfSome};
 
-use crate::putting::{byte_at, put, put_byte};
+use crate::putting::{Text, byte_at};
 
-pub const ROOM: usize = 25728;
+// Of a name 32 bytes are kept, and on a page each takes six at most.
+type Name = Text<200>;
 
-const SIZE: usize = 201;
+const LETTERS: usize = 32;
+
+const KINDS: usize = 8;
+
+const EACH: usize = 16;
+
+const PARTS: usize = KINDS * EACH;
+
+#[derive(Clone, Copy)]
+pub struct Names {
+    of: [Name; PARTS],
+}
+
+impl Names {
+    pub(crate) fn new() -> Names {
+        Names {
+            of: [Text::new(); PARTS],
+        }
+    }
+
+    // The name of a part; no bytes where it has none.
+    pub(crate) fn name_of(&self, tag: u8, number: u8) -> &[u8] {
+        match self.of.get(place_of(tag, number)) {
+            Some(name) => name.as_bytes(),
+            None => &[],
+        }
+    }
+
+    // Takes every name line of a text.
+    pub(crate) fn take(&mut self, text: &[u8], page: bool) {
+        let mut rest = text;
+        for _ in 0..4096 {
+            if rest.is_empty() {
+                return;
+            }
+            self.take_line(rest, page);
+            rest = next_line(rest);
+        }
+    }
+
+    // Takes the line at the front of a text, if it names a part.
+    fn take_line(&mut self, text: &[u8], page: bool) {
+        if let Some((tag, rest)) = kind_in(without_blanks(text)) {
+            if let Some((number, rest)) = number_in(without_blanks(rest)) {
+                if let Some((b'"', quoted)) = without_blanks(rest).split_first() {
+                    self.keep(tag, number, quoted, page);
+                }
+            }
+        }
+    }
+
+    // Keeps the name at the front of a text, which ends at the next quotation mark.
+    fn keep(&mut self, tag: u8, number: u8, text: &[u8], page: bool) {
+        if let Some(name) = self.of.get_mut(place_of(tag, number)) {
+            *name = shown(text, page);
+        }
+    }
+}
 
 // Where the name of a part stands; past the end if it can't have one.
-fn place_of(tag: u8, number: u8) -> usize
-    ensures { result ≤ 25728 }
+fn place_of(tag: u8, number: u8) -> usize {
+    match tag {
+        numbers::TAG_RUNNABLE..=numbers::TAG_TIMER if (number as usize) < EACH => {
+            (tag - numbers::TAG_RUNNABLE) as usize * EACH + number as usize
+        }
+        _ => PARTS,
+    }
+}
+
+// The words of the kinds of parts that can be named, with their tags.
+const WORDS: [(&str, u8); 7] = [
+    ("runnable ", numbers::TAG_RUNNABLE),
+    ("variable ", numbers::TAG_VARIABLE),
+    ("area ", numbers::TAG_AREA),
+    ("required ", numbers::TAG_REQUIRED),
+    ("provided ", numbers::TAG_PROVIDED),
+    ("operation ", numbers::TAG_OPERATION),
+    ("timer ", numbers::TAG_TIMER),
+];
+
+// The kind of part that a text begins with, and what follows.
+fn kind_in(text: &[u8]) -> Option<(u8, &[u8])> {
+    for (word, tag) in WORDS {
+        if let Some(rest) = text.strip_prefix(word.as_bytes()) {
+            return Some((tag, rest));
+        }
+    }
+    None
+}
+
+// The number of one or two digits that a text begins with, and what follows.
+fn number_in(text: &[u8]) -> Option<(u8, &[u8])> {
+    let (high, rest) = digit_in(text)?;
+    match digit_in(rest) {
+        Some((low, behind)) => Some((high * 10 + low, behind)),
+        None => Some((high, rest)),
+    }
+}
+
+fn digit_in(text: &[u8]) -> Option<(u8, &[u8])>
+    ensures { IfSome result (λ p. p.0 < 10) }
 {
-    if tag < 0x10 {
-        return ROOM;
-    }
-    if 0x17 < tag {
-        return ROOM;
-    }
-    if 15 < number {
-        return ROOM;
-    }
-    ((tag - 0x10) as usize * 16 + number as usize) * SIZE
-}
-
-// The name of a part, behind a space and in quotation marks, if it has one.
-pub(crate) fn put_name(out: &mut [u8], at: usize, names: &[u8], tag: u8, number: u8) -> usize {
-    let p = place_of(tag, number);
-    let n = byte_at(names, p) as usize;
-    if n == 0 {
-        return at;
-    }
-    let a = p + 1;
-    let b = a + n;
-    if b <= names.len() {
-        let x = put(out, at, b" \"");
-        let y = put(out, x, &names[a..b]);
-        return put_byte(out, y, b'"');
-    }
-    at
-}
-
-// Whether the word stands at a place of a text.
-fn starts(text: &[u8], at: usize, word: &[u8]) -> bool {
-    let mut i: usize = 0;
-    while i < word.len() {
-        if byte_at(text, behind(text, at, i)) != word[i] {
-            return false;
-        }
-        i = i + 1;
-    }
-    true
-}
-
-// A place behind another, and no further than the end.
-fn behind(text: &[u8], at: usize, n: usize) -> usize {
-    let size = text.len();
-    if size < n {
-        return size;
-    }
-    if size - n < at {
-        return size;
-    }
-    at + n
-}
-
-// A kind of part and where its word ends; tag 0 where there is none.
-#[derive(Clone, Copy)]
-struct Word {
-    tag: u8,
-    end: usize,
-}
-
-fn word_of(tag: u8, end: usize) -> Word {
-    Word { tag: tag, end: end }
-}
-
-fn word_at(text: &[u8], at: usize) -> Word {
-    if starts(text, at, b"runnable ") {
-        return word_of(0x10, behind(text, at, 9));
-    }
-    if starts(text, at, b"variable ") {
-        return word_of(0x11, behind(text, at, 9));
-    }
-    if starts(text, at, b"area ") {
-        return word_of(0x12, behind(text, at, 5));
-    }
-    if starts(text, at, b"required ") {
-        return word_of(0x13, behind(text, at, 9));
-    }
-    if starts(text, at, b"provided ") {
-        return word_of(0x14, behind(text, at, 9));
-    }
-    if starts(text, at, b"operation ") {
-        return word_of(0x16, behind(text, at, 10));
-    }
-    if starts(text, at, b"timer ") {
-        return word_of(0x17, behind(text, at, 6));
-    }
-    word_of(0, at)
-}
-
-// The digit that a byte is, or 255.
-fn digit_of(b: u8) -> u8 {
-    if b < b'0' {
-        return 255;
-    }
-    if b'9' < b {
-        return 255;
-    }
-    b - b'0'
-}
-
-fn is_blank(b: u8) -> bool {
-    if b == b' ' {
-        return true;
-    }
-    b == b'\t'
-}
-
-// The next place that is no blank.
-fn skip(text: &[u8], at: usize) -> usize {
-    let mut i = at;
-    while i < text.len() {
-        if !is_blank(text[i]) {
-            return i;
-        }
-        i = i + 1;
-    }
-    i
-}
-
-// A letter of a name as it is shown. A line, or a page, can't be changed by it.
-fn put_letter(names: &mut [u8], at: usize, b: u8, before: u8, page: bool) -> usize {
-    if b < 32 {
-        return put_byte(names, at, b'?');
-    }
-    if b == 127 {
-        return put_byte(names, at, b'?');
-    }
-    if before == 0xc2 {
-        if b < 0xa0 {
-            return put_byte(names, at, b'?');
-        }
-    }
-    if page {
-        return put_escaped(names, at, b);
-    }
-    put_byte(names, at, b)
-}
-
-fn put_escaped(names: &mut [u8], at: usize, b: u8) -> usize {
-    match b {
-        b'&' => put(names, at, b"&amp;"),
-        b'<' => put(names, at, b"&lt;"),
-        b'>' => put(names, at, b"&gt;"),
-        b'"' => put(names, at, b"&quot;"),
-        b'\'' => put(names, at, b"&#39;"),
-        _ => put_byte(names, at, b),
+    match text.split_first() {
+        Some((b @ b'0'..=b'9', rest)) => Some((*b - b'0', rest)),
+        _ => None,
     }
 }
 
-// Keeps the name that stands in a text behind a quotation mark, up to the next one: 32 bytes of it at most.
-fn keep(names: &mut [u8], p: usize, text: &[u8], at: usize, page: bool) {
-    if ROOM <= p {
-        return;
+// A text from its first byte on that is no blank.
+fn without_blanks(text: &[u8]) -> &[u8] {
+    let n = text
+        .iter()
+        .position(|b| !matches!(*b, b' ' | b'\t'))
+        .unwrap_or(text.len());
+    &text[n..]
+}
+
+// A text behind its next line feed.
+fn next_line(text: &[u8]) -> &[u8] {
+    match text.iter().position(|b| *b == b'\n') {
+        Some(n) => &text[n + 1..],
+        None => &[],
     }
-    let from = p + 1;
-    let mut next = from;
+}
+
+// The name at the front of a text as it is shown. One that the text does not end is filled up.
+fn shown(text: &[u8], page: bool) -> Name {
+    let mut name = Text::new();
     let mut before: u8 = 0;
-    let mut i: usize = 0;
-    while i < 32 {
-        let b = byte_at(text, behind(text, at, i));
-        if ends_name(b) {
-            set_length(names, p, from, next);
-            return;
+    for i in 0..LETTERS {
+        let b = byte_at(text, i);
+        if matches!(b, b'"' | b'\n') {
+            return name;
         }
-        next = put_letter(names, next, b, before, page);
+        put_letter(&mut name, b, before, page);
         before = b;
-        i = i + 1;
     }
-    set_length(names, p, from, next);
+    name
 }
 
-fn ends_name(b: u8) -> bool {
-    if b == b'"' {
-        return true;
-    }
-    b == b'\n'
-}
-
-fn set_length(names: &mut [u8], p: usize, from: usize, next: usize) {
-    if from <= next {
-        let n = next - from;
-        if n < 200 {
-            put_byte(names, p, n as u8);
-        }
+// A letter of a name. A line, or a page, can't be changed by it.
+fn put_letter(name: &mut Name, b: u8, before: u8, page: bool) {
+    if b < 32 || b == 127 || before == 0xc2 && b < 0xa0 {
+        name.put("?");
+    } else if page {
+        put_escaped(name, b);
+    } else {
+        name.put_byte(b);
     }
 }
 
-// Takes the line at a place, if it names a part.
-fn take_line(names: &mut [u8], text: &[u8], at: usize, page: bool) {
-    let w = word_at(text, skip(text, at));
-    if w.tag == 0 {
-        return;
-    }
-    let a = skip(text, w.end);
-    let d = digit_of(byte_at(text, a));
-    if 9 < d {
-        return;
-    }
-    let b = behind(text, a, 1);
-    let e = digit_of(byte_at(text, b));
-    if e < 10 {
-        take_quoted(names, text, behind(text, b, 1), w.tag, d * 10 + e, page);
-        return;
-    }
-    take_quoted(names, text, b, w.tag, d, page);
-}
-
-fn take_quoted(names: &mut [u8], text: &[u8], at: usize, tag: u8, number: u8, page: bool) {
-    let a = skip(text, at);
-    if byte_at(text, a) == b'"' {
-        keep(names, place_of(tag, number), text, behind(text, a, 1), page);
-    }
-}
-
-// The place behind the next line feed.
-fn next_line(text: &[u8], at: usize) -> usize {
-    let mut i = at;
-    while i < text.len() {
-        if text[i] == b'\n' {
-            return i + 1;
-        }
-        i = i + 1;
-    }
-    text.len()
-}
-
-// Takes every name line of the first bytes of a text.
-pub(crate) fn take_names(names: &mut [u8], text: &[u8], n: usize, page: bool) {
-    let mut at: usize = 0;
-    let mut left: u32 = 4096;
-    while left > 0 {
-        if n <= at {
-            return;
-        }
-        take_line(names, text, at, page);
-        at = next_line(text, at);
-        left = left - 1;
+fn put_escaped(name: &mut Name, b: u8) {
+    match b {
+        b'&' => name.put("&amp;"),
+        b'<' => name.put("&lt;"),
+        b'>' => name.put("&gt;"),
+        b'"' => name.put("&quot;"),
+        b'\'' => name.put("&#39;"),
+        _ => name.put_byte(b),
     }
 }

@@ -1,150 +1,148 @@
-// Text put into a lent line, as far as it has room, and a line shown.
+// A text of fixed room that grows by pieces, as far as it has room, and is shown in one write.
+ghost use Rattle.std.specs.Prelude.{◌≤◌};
+
 use wire::Wrote;
 
 // The byte at a place, 0 past the end.
 pub(crate) fn byte_at(s: &[u8], i: usize) -> u8 {
-    if i < s.len() {
-        return s[i];
-    }
-    0
+    s.get(i).copied().unwrap_or(0)
 }
 
-// A byte more, where there is room; where the text goes on.
-pub(crate) fn put_byte(out: &mut [u8], at: usize, b: u8) -> usize {
-    if at < out.len() {
-        out[at] = b;
-        return at + 1;
-    }
-    at
+#[derive(Clone, Copy)]
+pub struct Text<const ROOM: usize> {
+    bytes: [u8; ROOM],
+    size: usize,
+    ghost inside: { size ≤ ROOM },
 }
 
-// The bytes of s, all of them or, without room, none.
-pub(crate) fn put(out: &mut [u8], at: usize, s: &[u8]) -> usize {
-    let w = wire::write(out, at, s);
-    match w {
-        Wrote::To(next) => next,
-        Wrote::Refused(_) => at,
-    }
-}
-
-pub(crate) fn put_number(out: &mut [u8], at: usize, n: u64) -> usize {
-    let w = lines::put_decimal(out, at, n);
-    match w {
-        Wrote::To(next) => next,
-        Wrote::Refused(_) => at,
-    }
-}
-
-// Bytes and a number behind them.
-pub(crate) fn put_with(out: &mut [u8], at: usize, s: &[u8], n: u64) -> usize {
-    let next = put(out, at, s);
-    put_number(out, next, n)
-}
-
-// How many letters stand from one place to another, and no more than 65,535: a byte that goes on with a letter does not count.
-pub(crate) fn letters(out: &[u8], from: usize, to: usize) -> u16 {
-    let mut n: u16 = 0;
-    let mut i = from;
-    while i < to {
-        n = one_more(n, byte_at(out, i));
-        i = i + 1;
-    }
-    n
-}
-
-fn one_more(n: u16, b: u8) -> u16 {
-    if 127 < b {
-        if b < 192 {
-            return n;
+// Kept: no `write!`, as it stops at the first piece that finds no room, and `put` leaves that piece out and goes on; and names are bytes, not always a str.
+impl<const ROOM: usize> Text<ROOM> {
+    pub(crate) fn new() -> Self {
+        Text {
+            bytes: [0; ROOM],
+            size: 0,
         }
     }
-    if n < 65535 {
-        return n + 1;
+
+    pub(crate) fn len(&self) -> usize {
+        self.size
     }
-    n
-}
 
-// Spaces behind what stands from a place on, until it is as wide as is said.
-pub(crate) fn pad(out: &mut [u8], from: usize, at: usize, width: u16) -> usize {
-    let mut n = letters(out, from, at);
-    let mut next = at;
-    while n < width {
-        next = put_byte(out, next, b' ');
-        n = n + 1;
+    pub(crate) fn as_bytes(&self) -> &[u8] {
+        &self.bytes[..self.size]
     }
-    next
-}
 
-// A number at the right end of so many letters.
-pub(crate) fn put_right(out: &mut [u8], at: usize, n: u64, width: u16) -> usize {
-    let mut digits = [0u8; 32];
-    let size = put_number(&mut digits, 0, n);
-    let wide = letters(&digits, 0, size);
-    let mut next = at;
-    let mut k = wide;
-    while k < width {
-        next = put_byte(out, next, b' ');
-        k = k + 1;
-    }
-    put_number(out, next, n)
-}
-
-const DIGITS: [u8; 16] = [
-    b'0', b'1', b'2', b'3', b'4', b'5', b'6', b'7', b'8', b'9', b'a', b'b', b'c', b'd', b'e', b'f',
-];
-
-// A byte as two digits to the base 16, behind a space.
-fn put_hex(out: &mut [u8], at: usize, b: u8) -> usize {
-    let high = (b / 16) as usize;
-    let low = (b % 16) as usize;
-    let x = put_byte(out, at, b' ');
-    let y = put_byte(out, x, DIGITS[high]);
-    put_byte(out, y, DIGITS[low])
-}
-
-// The bytes of s from one place up to another, 20 at most.
-pub(crate) fn put_bytes(out: &mut [u8], at: usize, s: &[u8], from: usize, to: usize) -> usize {
-    let mut next = at;
-    let mut i = from;
-    let mut left: u8 = 20;
-    while left > 0 {
-        if to <= i {
-            return next;
+    // The bytes of s, all of them or, without room, none.
+    pub(crate) fn put_all(&mut self, s: &[u8]) {
+        if s.len() <= ROOM - self.size {
+            let end = self.size + s.len();
+            let bytes = &mut self.bytes[..];
+            bytes[self.size..end].copy_from_slice(s);
+            self.size = end;
         }
-        next = put_hex(out, next, byte_at(s, i));
-        i = i + 1;
-        left = left - 1;
     }
-    put(out, next, b" ..")
-}
 
-// Shows a line in one write.
-pub(crate) fn show<R: Print>(rt: &R, out: &[u8], at: usize) {
-    if at <= out.len() {
-        let _ = rt.write_all(&out[..at]);
+    pub(crate) fn put(&mut self, words: &str) {
+        self.put_all(words.as_bytes());
     }
-}
 
-// Where a line ends without the spaces at its end.
-fn trimmed(out: &[u8], at: usize) -> usize {
-    let mut n = at;
-    while n > 0 {
-        if byte_at(out, n - 1) != b' ' {
-            return n;
+    pub(crate) fn put_byte(&mut self, b: u8) {
+        self.put_all(&[b]);
+    }
+
+    pub(crate) fn put_number(&mut self, n: u64) {
+        let mut digits = [0u8; 20];
+        if let Wrote::To(size) = lines::put_decimal(&mut digits, 0, n) {
+            self.put_all(digits.get(..size).unwrap_or(&[]));
         }
-        n = n - 1;
     }
-    n
+
+    // Words and a number behind them.
+    pub(crate) fn put_with(&mut self, words: &str, n: u64) {
+        self.put(words);
+        self.put_number(n);
+    }
+
+    // Another byte in the place of one that was put.
+    pub(crate) fn replace(&mut self, place: usize, b: u8) {
+        if place < self.size {
+            self.bytes[place] = b;
+        }
+    }
+
+    // How many letters stand from a place on: a byte that goes on with a letter does not count.
+    pub(crate) fn letters_from(&self, from: usize) -> usize {
+        self.as_bytes()
+            .iter()
+            .skip(from)
+            .filter(|b| !matches!(**b, 128..=191))
+            .count()
+    }
+
+    // Spaces behind what stands from a place on, until it is as wide as is said.
+    fn pad(&mut self, from: usize, width: usize) {
+        for _ in self.letters_from(from)..width {
+            self.put_byte(b' ');
+        }
+    }
+
+    // Ends a cell that begins at a place: it is made as wide as its column, and two spaces follow.
+    pub(crate) fn end_cell(&mut self, from: usize, width: usize) {
+        self.pad(from, width);
+        self.put("  ");
+    }
+
+    // A number at the right end of so many letters.
+    pub(crate) fn put_right(&mut self, n: u64, width: usize) {
+        let mut digits = Text::<20>::new();
+        digits.put_number(n);
+        for _ in digits.len()..width {
+            self.put_byte(b' ');
+        }
+        self.put_all(digits.as_bytes());
+    }
+
+    // The first bytes of s, 20 at most, each as two digits to the base 16 behind a space.
+    pub(crate) fn put_bytes(&mut self, s: &[u8]) {
+        for b in s.iter().take(MOST_BYTES) {
+            self.put_all(&[b' ', digit(*b / 16), digit(*b % 16)]);
+        }
+        if MOST_BYTES <= s.len() {
+            self.put(" ..");
+        }
+    }
+
+    pub(crate) fn show<R: Print>(&self, rt: &R) {
+        let _ = rt.write_all(self.as_bytes());
+    }
+
+    // Takes the spaces at its end away.
+    fn trim(&mut self) {
+        while self.size > 0 && self.bytes[self.size - 1] == b' ' {
+            self.size -= 1;
+        }
+    }
+
+    // Shows it as a line, without the spaces at its end.
+    pub(crate) fn show_line<R: Print>(&mut self, rt: &R) {
+        self.trim();
+        self.put("\n");
+        self.show(rt);
+    }
 }
 
-// Shows a line without the spaces at its end, and with its line feed.
-pub(crate) fn show_trimmed<R: Print>(rt: &R, out: &mut [u8], at: usize) {
-    let n = trimmed(out, at);
-    let m = put(out, n, b"\n");
-    show(rt, out, m);
+const MOST_BYTES: usize = 20;
+
+// The digit of a number below 16.
+fn digit(n: u8) -> u8 {
+    match n {
+        0..=9 => b'0' + n,
+        10..=15 => b'a' - 10 + n,
+        _ => b'?',
+    }
 }
 
 // Shows fixed words in one write.
-pub(crate) fn say<R: Print>(rt: &R, s: &[u8]) {
-    let _ = rt.write_all(s);
+pub(crate) fn say<R: Print>(rt: &R, words: &str) {
+    let _ = rt.write_all(words.as_bytes());
 }

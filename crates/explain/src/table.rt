@@ -1,833 +1,658 @@
 // The steps as a table: a row for each, with the time that has passed, the scheduler, a lane for each slot, and the operations that matter.
-use crate::calls::{later, waiter};
-use crate::putting::{
-    byte_at, letters, pad, put, put_byte, put_right, put_with, show, show_trimmed,
-};
-use crate::words::{
-    is_slots, put_answer, put_answered, put_count, put_deed, put_part, put_slot, put_value,
-};
+use crate::calls::{later, step_in, waiter};
+use crate::case::Case;
+use crate::names::Names;
+use crate::putting::Text;
+use crate::words::is_slots;
 use config::Config;
-use recording::Field;
-use state::{Copies, State};
+use state::State;
 use values::{Answer, Step, Value};
 use whys::Cause;
 
 // How wide each column is; 0 for one that is not shown.
 #[derive(Clone, Copy)]
 pub struct Widths {
-    pub scheduler: u16,
-    pub lanes: [u16; 32],
-    pub operations: [u16; 8],
+    pub scheduler: usize,
+    lanes: [usize; Widths::LANES],
+    operations: [usize; Widths::OPERATIONS],
 }
 
-// What the refused step is about; 255 for nothing of the kind.
+impl Widths {
+    const LANES: usize = 32;
+
+    const OPERATIONS: usize = 8;
+
+    const NONE: Widths = Widths {
+        scheduler: 9,
+        lanes: [0; Widths::LANES],
+        operations: [0; Widths::OPERATIONS],
+    };
+
+    // One column for all slots.
+    const SHARED: usize = 52;
+
+    pub(crate) fn lane(&self, i: u8) -> usize {
+        self.lanes.get(i as usize).copied().unwrap_or(0)
+    }
+
+    pub(crate) fn operation(&self, o: u8) -> usize {
+        self.operations.get(o as usize).copied().unwrap_or(0)
+    }
+
+    // More than four lanes share one column.
+    fn are_shared(&self) -> bool {
+        4 < self.lanes.iter().filter(|width| **width != 0).count()
+    }
+
+    fn widen_lane(&mut self, i: u32, n: usize) {
+        if let Some(width) = self.lanes.get_mut(i as usize) {
+            *width = n.max(*width).max(8);
+        }
+    }
+
+    fn widen_operation(&mut self, o: u8, n: usize) {
+        if let Some(width) = self.operations.get_mut(o as usize) {
+            *width = n.max(*width).max(12);
+        }
+    }
+
+    // The columns with room for one more row. Of an operation that the step is about 20 letters have room for its longest count.
+    fn widen(&mut self, case: Case, row: Row) {
+        let x = row.step;
+        let n = cell_width(case, row);
+        if is_slots(x.code) {
+            self.widen_lane(x.who as u32, n);
+        } else {
+            self.scheduler = self.scheduler.max(done_width(case.names, x));
+            if x.code == numbers::CODE_SPAWN {
+                self.widen_lane(x.claim.number, n);
+            }
+        }
+        if let Some(o) = row.operation {
+            self.widen_operation(o, operation_width(row.after, o).max(20));
+        }
+    }
+}
+
+// What the refused step is about.
 #[derive(Clone, Copy)]
 pub struct Focus {
-    pub slot: u8,
-    pub operation: u8,
-    pub runnable: u8,
-    pub area: u8,
-    pub timer: u8,
+    pub slot: Option<u8>,
+    pub operation: Option<u8>,
+    pub runnable: Option<u8>,
+    pub area: Option<u8>,
+    pub timer: Option<u8>,
 }
 
-// What is shown: how many steps were accepted; whether all rows are, or those that bear on the focus, from which of them on; whether it is a page; whether
-// slots share one column.
-#[derive(Clone, Copy)]
-pub struct Plan {
-    pub steps: usize,
-    pub all: bool,
-    pub page: bool,
-    pub narrow: bool,
-    pub from: usize,
-    pub focus: Focus,
+impl Focus {
+    pub const NONE: Focus = Focus {
+        slot: None,
+        operation: None,
+        runnable: None,
+        area: None,
+        timer: None,
+    };
+
+    fn bears_slot(self, s: Step) -> bool {
+        if is_slots(s.code) {
+            return self.slot == Some(s.who);
+        }
+        s.code == numbers::CODE_SPAWN
+            && (self.slot.is_some_and(|i| i as u32 == s.claim.number)
+                || self.runnable == Some(s.what))
+    }
+
+    fn bears_part(self, o: Option<u8>, s: Step) -> bool {
+        match s.code {
+            numbers::CODE_ENTER | numbers::CODE_EXIT => self.area == Some(s.what),
+            numbers::CODE_CALL
+            | numbers::CODE_RESULT
+            | numbers::CODE_HAND_BACK
+            | numbers::CODE_TIMEOUT => self.operation == o,
+            numbers::CODE_TICK => self.timer == Some(s.what),
+            numbers::CODE_WAIT => true,
+            _ => false,
+        }
+    }
+
+    // Whether a step, which is about this operation, bears on it.
+    fn bears(self, o: Option<u8>, s: Step) -> bool {
+        self.bears_slot(s) || self.bears_part(o, s)
+    }
 }
 
-// A walk through the steps, to measure the columns of those that bear on the focus, or to show them.
+// Which accepted steps are shown: all, or those that bear on a focus, without the first so many of them.
 #[derive(Clone, Copy)]
-pub struct Walk {
-    pub shows: bool,
-    pub state: State,
+pub enum Rows {
+    All,
+    Bearing(Focus, usize),
+}
+
+impl Rows {
+    // The last 24 that bear on a focus.
+    pub(crate) fn last(recording: &[u8], operations: &[Option<u8>], focus: Focus) -> Rows {
+        let mut n: usize = 0;
+        for (field, o) in recording.chunks_exact(numbers::SIZE_STEP).zip(operations) {
+            let Some(x) = step_in(field) else {
+                break;
+            };
+            if focus.bears(*o, x) {
+                n = n.saturating_add(1);
+            }
+        }
+        Rows::Bearing(focus, n.saturating_sub(24))
+    }
+}
+
+// A row: its place, a step with the answer to it, the operation that it is about, and the state and the time after it.
+#[derive(Clone, Copy)]
+pub struct Row {
+    pub place: usize,
+    pub step: Step,
+    pub operation: Option<u8>,
+    pub after: State,
     pub ms: u64,
-    pub bearing: usize,
-    pub skipped: usize,
-    pub widths: Widths,
 }
 
-fn wider(a: u16, b: u16) -> u16 {
-    if a < b {
-        return b;
-    }
-    a
+// What a row shows of a slot: its step, its start, that it has failed, that it is held, or only that it lives.
+#[derive(Clone, Copy)]
+pub enum Lane {
+    Acts,
+    Starts,
+    Failed,
+    Held,
+    Lives,
+    Empty,
 }
 
-// ---- which steps bear on the focus
-
-fn bears_slot(f: Focus, s: Step) -> bool {
-    if is_slots(s.code) {
-        return s.who == f.slot;
-    }
-    if s.code == 15 {
-        let v = s.claim;
-        if v.number == f.slot as u32 {
-            return true;
-        }
-        return s.what == f.runnable;
-    }
-    false
-}
-
-fn bears_part(o: u8, f: Focus, s: Step) -> bool {
-    let code = s.code;
-    match code {
-        3 | 4 => s.what == f.area,
-        11 | 12 | 13 | 16 => o == f.operation,
-        17 => s.what == f.timer,
-        18 => true,
-        _ => false,
-    }
-}
-
-fn bears(o: u8, p: Plan, s: Step) -> bool {
-    if p.all {
-        return true;
-    }
-    let f = p.focus;
-    if bears_slot(f, s) {
-        return true;
-    }
-    bears_part(o, f, s)
-}
-
-fn counted(n: usize, b: bool) -> usize {
-    if b {
-        if n < 4096 {
-            return n + 1;
+impl Row {
+    pub(crate) fn lane(self, i: u8) -> Lane {
+        let x = self.step;
+        let slot = self.after.slots.get(i);
+        if is_slots(x.code) && x.who == i {
+            Lane::Acts
+        } else if x.code == numbers::CODE_SPAWN && x.claim.number == i as u32 {
+            Lane::Starts
+        } else if slot.life.failed {
+            Lane::Failed
+        } else if slot.life.awaited.part == numbers::TAG_REQUIRED {
+            Lane::Held
+        } else if slot.used {
+            Lane::Lives
+        } else {
+            Lane::Empty
         }
     }
-    n
 }
 
-// How many of the accepted steps bear on the focus.
-pub(crate) fn bearing_of(s: &[u8], p: Plan, ops: &[u8]) -> usize {
-    let mut n: usize = 0;
-    let mut k: usize = 0;
-    while k < 4096 {
-        if p.steps <= k {
-            return n;
-        }
-        let f = recording::read_field(s, k * 16);
-        let Field::Step(x, _) = f else {
-            return n;
-        };
-        n = counted(n, bears(byte_at(ops, k), p, x));
-        k = k + 1;
-    }
-    n
+// The refused step, with its cause, its place, and the rule.
+#[derive(Clone, Copy)]
+pub struct Refused {
+    pub step: Step,
+    pub cause: Cause,
+    pub place: usize,
+    pub rule: u8,
 }
 
 // ---- cells
 
 // The step of the call that has this number on an operation: of so many calls that were started there, the last.
-fn place_of_call(s: &[u8], o: u8, number: u16) -> usize {
+fn place_of_call(recording: &[u8], o: u8, number: u16) -> usize {
     let mut left = number;
-    let mut k: usize = 0;
-    while k < 4096 {
-        let f = recording::read_field(s, k * 16);
-        let Field::Step(x, _) = f else {
-            return 0;
+    for (k, field) in recording.chunks_exact(numbers::SIZE_STEP).enumerate() {
+        let Some(x) = step_in(field) else {
+            break;
         };
         if starts_call(x, o) {
             if left == 0 {
                 return k + 1;
             }
-            left = left - 1;
+            left -= 1;
         }
-        k = k + 1;
     }
     0
 }
 
 fn starts_call(x: Step, o: u8) -> bool {
-    let v = x.claim;
-    if x.code == 11 {
-        if x.what == o {
-            return v.kind == 2;
+    x.code == numbers::CODE_CALL && x.what == o && x.claim.kind == Value::OK.kind
+}
+
+impl<const ROOM: usize> Text<ROOM> {
+    // What a new instance is for, or how many activations are pending behind it, where they are counted.
+    pub(crate) fn put_start(&mut self, recording: &[u8], after: State, i: u8) {
+        let slot = after.slots.get(i);
+        self.put("starts");
+        if slot.owed.serving {
+            let client = slot.owed.client;
+            self.put_with(
+                ", for the call of step ",
+                place_of_call(recording, client.operation, client.number) as u64,
+            );
+        } else {
+            self.put_left(after.runnables.get(slot.life.runnable).pending);
         }
     }
-    false
-}
 
-// What a new instance is for.
-pub(crate) fn put_start(out: &mut [u8], at: usize, s: &[u8], after: State, i: u8) -> usize {
-    let slots = after.slots;
-    let x = slots.get(i);
-    let w = x.owed;
-    let a = put(out, at, b"starts");
-    if w.serving {
-        let c = w.client;
-        let b = put(out, a, b", for the call of step ");
-        return put_with(out, b, b"", place_of_call(s, c.operation, c.number) as u64);
-    }
-    let l = x.life;
-    put_left(out, a, after, l.runnable)
-}
-
-// How many activations are pending behind a start, where they are counted.
-fn put_left(out: &mut [u8], at: usize, after: State, r: u8) -> usize {
-    let runnables = after.runnables;
-    let x = runnables.get(r);
-    if x.pending == 0 {
-        return at;
-    }
-    let a = put_with(out, at, b", ", x.pending as u64);
-    put(out, a, b" more pending")
-}
-
-// What a hand back came to.
-fn put_remark(out: &mut [u8], at: usize, code: u8, v: Value) -> usize {
-    if code == 13 {
-        if v.number == 0 {
-            return put(out, at, b", too late");
-        }
-        if v.number == 1 {
-            return put(out, at, b", in time");
+    fn put_left(&mut self, pending: u8) {
+        if pending != 0 {
+            self.put_with(", ", pending as u64);
+            self.put(" more pending");
         }
     }
-    at
-}
 
-// An answer, and what it means.
-pub(crate) fn put_meant(out: &mut [u8], at: usize, names: &[u8], code: u8, v: Value) -> usize {
-    let a = put_answered(out, at, names, v);
-    put_remark(out, a, code, v)
-}
-
-// How many values an end writes; none goes without saying.
-fn put_given(out: &mut [u8], at: usize, n: u8) -> usize {
-    if n == 0 {
-        return at;
-    }
-    let a = put(out, at, b", writes ");
-    put_count(out, a, n as u64, b"value")
-}
-
-// What an accepted step came to: a copy holds what its element held at the start, and what is set is written at the end.
-fn put_outcome(out: &mut [u8], at: usize, x: Step) -> usize {
-    let code = x.code;
-    match code {
-        14 => put_given(out, at, x.what),
-        22 => put(out, at, b", as at its start"),
-        23 => put(out, at, b", for its end"),
-        _ => put_remark(out, at, code, x.claim),
-    }
-}
-
-// An accepted step in its lane or in the scheduler's column.
-pub(crate) fn put_done(out: &mut [u8], at: usize, names: &[u8], x: Step) -> usize {
-    if x.code == 19 {
-        return put(out, at, b"fails");
-    }
-    let a = put_deed(out, at, names, x);
-    let b = put_answer(out, a, names, x.claim);
-    put_outcome(out, b, x)
-}
-
-// The refused step there: what was recorded and what is right, or that it is not possible.
-pub(crate) fn put_refused(out: &mut [u8], at: usize, names: &[u8], x: Step, c: Cause) -> usize {
-    let a = put_deed(out, at, names, x);
-    match c {
-        Cause::Differs(v) => {
-            let b = put(out, a, b": RECORDED ");
-            let d = put_meant(out, b, names, x.code, x.claim);
-            let e = put(out, d, b"; RIGHT ");
-            put_meant(out, e, names, x.code, v)
-        }
-        _ => put(out, a, b": NOT POSSIBLE"),
-    }
-}
-
-// The lane of a slot in a row: its step, its start, that it has failed, that it is held, or that it lives.
-fn put_lane(
-    out: &mut [u8],
-    at: usize,
-    names: &[u8],
-    s: &[u8],
-    after: State,
-    x: Step,
-    i: u8,
-) -> usize {
-    if is_slots(x.code) {
-        if x.who == i {
-            return put_done(out, at, names, x);
+    // What a hand back came to.
+    fn put_remark(&mut self, code: u8, v: Value) {
+        match (code, v.number) {
+            (numbers::CODE_HAND_BACK, 0) => self.put(", too late"),
+            (numbers::CODE_HAND_BACK, 1) => self.put(", in time"),
+            _ => {}
         }
     }
-    let v = x.claim;
-    if x.code == 15 {
-        if v.number == i as u32 {
-            return put_start(out, at, s, after, i);
+
+    // An answer, and what it means.
+    pub(crate) fn put_meant(&mut self, names: &Names, code: u8, v: Value) {
+        self.put_answered(names, v);
+        self.put_remark(code, v);
+    }
+
+    // How many values an end writes; none goes without saying.
+    fn put_given(&mut self, n: u8) {
+        if n != 0 {
+            self.put(", writes ");
+            self.put_count(n as u64, "value");
         }
     }
-    let slots = after.slots;
-    let y = slots.get(i);
-    let l = y.life;
-    if l.failed {
-        return put(out, at, b"(failed)");
-    }
-    let w = l.awaited;
-    if w.part == numbers::TAG_REQUIRED {
-        return put(out, at, b"(held)");
-    }
-    if y.used {
-        return put_byte(out, at, b'|');
-    }
-    at
-}
 
-// An operation after a step; what its call ended with may wait for its caller.
-pub(crate) fn put_operation(out: &mut [u8], at: usize, st: State, o: u8) -> usize {
-    let t = st.operations;
-    let x = t.get(o);
-    if x.calling {
-        let a = put_with(out, at, b"open, ", x.count as u64);
-        return put(out, a, b" ms left");
+    // What an accepted step came to: a copy holds what its element held at the start, and what is set is written at the end.
+    fn put_outcome(&mut self, x: Step) {
+        match x.code {
+            numbers::CODE_END => self.put_given(x.what),
+            numbers::CODE_READ_COPY => self.put(", as at its start"),
+            numbers::CODE_WRITE_COPY => self.put(", for its end"),
+            code => self.put_remark(code, x.claim),
+        }
     }
-    if x.number == 0 {
-        return put(out, at, b"not called yet");
+
+    // An accepted step in its lane or in the scheduler's column.
+    pub(crate) fn put_done(&mut self, names: &Names, x: Step) {
+        if x.code == numbers::CODE_FAIL {
+            return self.put("fails");
+        }
+        self.put_deed(names, x);
+        self.put_answer(names, x.claim);
+        self.put_outcome(x);
     }
-    let b = put(out, at, b"closed: ");
-    let c = put_value(out, b, x.done);
-    if waiter(st, o) < 32 {
-        return put(out, c, b", not collected");
+
+    // The scheduler's step, if it is one.
+    pub(crate) fn put_scheduled(&mut self, names: &Names, x: Step) {
+        if !is_slots(x.code) {
+            self.put_done(names, x);
+        }
     }
-    c
+
+    // The refused step there: what was recorded and what is right, or that it is not possible.
+    pub(crate) fn put_refused(&mut self, names: &Names, refused: Refused) {
+        let x = refused.step;
+        self.put_deed(names, x);
+        if let Cause::Differs(v) = refused.cause {
+            self.put(": RECORDED ");
+            self.put_meant(names, x.code, x.claim);
+            self.put("; RIGHT ");
+            self.put_meant(names, x.code, v);
+        } else {
+            self.put(": NOT POSSIBLE");
+        }
+    }
+
+    // An operation after a step; what its call ended with may wait for its caller.
+    pub(crate) fn put_operation(&mut self, st: State, o: u8) {
+        let operation = st.operations.get(o);
+        if operation.calling {
+            self.put_with("open, ", operation.count as u64);
+            self.put(" ms left");
+        } else if operation.number == 0 {
+            self.put("not called yet");
+        } else {
+            self.put("closed: ");
+            self.put_value(operation.done);
+            if waiter(st, o).is_some() {
+                self.put(", not collected");
+            }
+        }
+    }
 }
 
 // ---- columns measured
 
-fn cell_width(names: &[u8], s: &[u8], after: State, x: Step) -> u16 {
-    let mut cell = [0u8; 512];
-    let v = x.claim;
-    if x.code == 15 {
-        let n = put_start(&mut cell, 0, s, after, (v.number % 32) as u8);
-        return letters(&cell, 0, n);
+type Cell = Text<512>;
+
+// A spawn claims the slot that it starts an instance in.
+fn started(x: Step) -> u8 {
+    (x.claim.number % 32) as u8
+}
+
+fn cell_width(case: Case, row: Row) -> usize {
+    let x = row.step;
+    if x.code != numbers::CODE_SPAWN {
+        return done_width(case.names, x);
     }
-    let n = put_done(&mut cell, 0, names, x);
-    letters(&cell, 0, n)
+    let mut cell = Cell::new();
+    cell.put_start(case.recording, row.after, started(x));
+    cell.letters_from(0)
 }
 
-fn widened_lane(w: Widths, i: u32, n: u16) -> Widths {
-    let mut u = w;
-    if i < 32 {
-        let k = i as usize;
-        let old = u.lanes[k];
-        u.lanes[k] = wider(wider(old, n), 8);
-        return u;
-    }
-    u
+fn done_width(names: &Names, x: Step) -> usize {
+    let mut cell = Cell::new();
+    cell.put_done(names, x);
+    cell.letters_from(0)
 }
 
-fn widened_operation(w: Widths, o: u8, n: u16) -> Widths {
-    let mut u = w;
-    if o < 8 {
-        let k = o as usize;
-        let old = u.operations[k];
-        u.operations[k] = wider(wider(old, n), 12);
-        return u;
-    }
-    u
-}
-
-fn scheduler_width(names: &[u8], x: Step) -> u16 {
-    let mut cell = [0u8; 512];
-    let n = put_done(&mut cell, 0, names, x);
-    letters(&cell, 0, n)
-}
-
-// An operation that the step is about is shown: 20 letters have room for its longest count.
-fn state_width(after: State, o: u8) -> u16 {
-    let mut cell = [0u8; 512];
-    let n = put_operation(&mut cell, 0, after, o);
-    wider(letters(&cell, 0, n), 20)
-}
-
-// The columns with room for one more row.
-pub(crate) fn widened(w: Widths, names: &[u8], s: &[u8], o: u8, after: State, x: Step) -> Widths {
-    let mut u = w;
-    let v = x.claim;
-    let n = cell_width(names, s, after, x);
-    if is_slots(x.code) {
-        u = widened_lane(u, x.who as u32, n);
-    } else {
-        let old = u.scheduler;
-        u.scheduler = wider(old, scheduler_width(names, x));
-        if x.code == 15 {
-            u = widened_lane(u, v.number, n);
-        }
-    }
-    widened_operation(u, o, state_width(after, o))
+fn operation_width(after: State, o: u8) -> usize {
+    let mut cell = Cell::new();
+    cell.put_operation(after, o);
+    cell.letters_from(0)
 }
 
 // ---- rows
 
-// What stands from a place on, made as wide as its column, and two spaces.
-fn end_cell(out: &mut [u8], from: usize, at: usize, width: u16) -> usize {
-    let a = pad(out, from, at, width);
-    put(out, a, b"  ")
+// A row as it is shown.
+type Shown = Text<8192>;
+
+fn put_lane(line: &mut Shown, case: Case, row: Row, i: u8) {
+    match row.lane(i) {
+        Lane::Acts => line.put_done(case.names, row.step),
+        Lane::Starts => line.put_start(case.recording, row.after, i),
+        Lane::Failed => line.put("(failed)"),
+        Lane::Held => line.put("(held)"),
+        Lane::Lives => line.put("|"),
+        Lane::Empty => {}
+    }
 }
 
-pub(crate) fn width_of(w: Widths, i: u8) -> u16 {
-    if i < 32 {
-        let k = i as usize;
-        return w.lanes[k];
+fn put_cell(line: &mut Shown, case: Case, row: Row, i: u8, width: usize) {
+    if width != 0 {
+        let from = line.len();
+        put_lane(line, case, row, i);
+        line.end_cell(from, width);
     }
-    0
 }
 
-pub(crate) fn operation_width(w: Widths, o: u8) -> u16 {
-    if o < 8 {
-        let k = o as usize;
-        return w.operations[k];
+fn put_state(line: &mut Shown, st: State, o: u8, width: usize) {
+    if width != 0 {
+        let from = line.len();
+        line.put_operation(st, o);
+        line.end_cell(from, width);
     }
-    0
-}
-
-fn put_cell(
-    out: &mut [u8],
-    at: usize,
-    names: &[u8],
-    s: &[u8],
-    after: State,
-    x: Step,
-    i: u8,
-    width: u16,
-) -> usize {
-    if width == 0 {
-        return at;
-    }
-    let a = put_lane(out, at, names, s, after, x, i);
-    end_cell(out, at, a, width)
-}
-
-fn put_cells(
-    out: &mut [u8],
-    at: usize,
-    names: &[u8],
-    s: &[u8],
-    after: State,
-    x: Step,
-    w: Widths,
-) -> usize {
-    let mut next = at;
-    let mut i: u8 = 0;
-    while i < 32 {
-        next = put_cell(out, next, names, s, after, x, i, width_of(w, i));
-        i = i + 1;
-    }
-    next
-}
-
-fn put_state(out: &mut [u8], at: usize, st: State, o: u8, width: u16) -> usize {
-    if width == 0 {
-        return at;
-    }
-    let a = put_operation(out, at, st, o);
-    end_cell(out, at, a, width)
-}
-
-fn put_states(out: &mut [u8], at: usize, st: State, w: Widths) -> usize {
-    let mut next = at;
-    let mut o: u8 = 0;
-    while o < 8 {
-        next = put_state(out, next, st, o, operation_width(w, o));
-        o = o + 1;
-    }
-    next
 }
 
 // One column for all slots.
-fn put_shared_step(
-    out: &mut [u8],
-    at: usize,
-    names: &[u8],
-    s: &[u8],
-    after: State,
-    x: Step,
-) -> usize {
-    let v = x.claim;
+fn put_shared(line: &mut Shown, case: Case, row: Row) {
+    let x = row.step;
+    let from = line.len();
     if is_slots(x.code) {
-        let a = put_slot(out, at, x.who);
-        let b = put(out, a, b": ");
-        return put_done(out, b, names, x);
+        line.put_slot(x.who);
+        line.put(": ");
+        line.put_done(case.names, x);
+    } else if x.code == numbers::CODE_SPAWN {
+        line.put_slot(started(x));
+        line.put(": ");
+        line.put_start(case.recording, row.after, started(x));
     }
-    if x.code == 15 {
-        let i = (v.number % 32) as u8;
-        let a = put_slot(out, at, i);
-        let b = put(out, a, b": ");
-        return put_start(out, b, s, after, i);
-    }
-    at
+    line.end_cell(from, Widths::SHARED);
 }
 
 // The slots of a row: in one column, or each in its own.
-fn put_slots(
-    out: &mut [u8],
-    at: usize,
-    names: &[u8],
-    s: &[u8],
-    p: Plan,
-    w: Widths,
-    after: State,
-    x: Step,
-) -> usize {
-    if p.narrow {
-        let a = put_shared_step(out, at, names, s, after, x);
-        return end_cell(out, at, a, 52);
+fn put_slots(line: &mut Shown, case: Case, widths: &Widths, row: Row) {
+    if widths.are_shared() {
+        return put_shared(line, case, row);
     }
-    put_cells(out, at, names, s, after, x, w)
-}
-
-// The scheduler's step, if it is one.
-pub(crate) fn put_scheduled(out: &mut [u8], at: usize, names: &[u8], x: Step) -> usize {
-    if is_slots(x.code) {
-        return at;
+    for i in 0u8..32 {
+        put_cell(line, case, row, i, widths.lane(i));
     }
-    put_done(out, at, names, x)
 }
 
 // The front of a row: its mark, the step and the time.
-pub(crate) fn put_front(out: &mut [u8], mark: u8, place: usize, ms: u64) -> usize {
-    let a = put_byte(out, 0, mark);
-    let b = put_right(out, a, place as u64, 5);
-    let c = put_right(out, b, ms, 8);
-    put(out, c, b"  ")
+fn put_front(line: &mut Shown, mark: &str, place: usize, ms: u64) {
+    line.put(mark);
+    line.put_right(place as u64, 5);
+    line.put_right(ms, 8);
+    line.put("  ");
 }
 
-pub(crate) fn show_row<R: Print>(
-    rt: &R,
-    names: &[u8],
-    s: &[u8],
-    p: Plan,
-    w: Widths,
-    after: State,
-    x: Step,
-    place: usize,
-    ms: u64,
-) {
-    let mut line = [0u8; 8192];
-    let from = put_front(&mut line, b' ', place, ms);
-    let mut at = put_scheduled(&mut line, from, names, x);
-    at = end_cell(&mut line, from, at, w.scheduler);
-    at = put_slots(&mut line, at, names, s, p, w, after, x);
-    at = put_states(&mut line, at, after, w);
-    show_trimmed(rt, &mut line, at);
-}
-
-fn put_lane_head(out: &mut [u8], at: usize, i: u8, width: u16) -> usize {
-    if width == 0 {
-        return at;
+fn show_row<R: Print>(rt: &R, case: Case, widths: &Widths, row: Row) {
+    let mut line = Shown::new();
+    put_front(&mut line, " ", row.place, row.ms);
+    let from = line.len();
+    line.put_scheduled(case.names, row.step);
+    line.end_cell(from, widths.scheduler);
+    put_slots(&mut line, case, widths, row);
+    for o in 0u8..8 {
+        put_state(&mut line, row.after, o, widths.operation(o));
     }
-    let a = put_slot(out, at, i);
-    end_cell(out, at, a, width)
+    line.show_line(rt);
 }
 
-fn put_lane_heads(out: &mut [u8], at: usize, w: Widths) -> usize {
-    let mut next = at;
-    let mut i: u8 = 0;
-    while i < 32 {
-        next = put_lane_head(out, next, i, width_of(w, i));
-        i = i + 1;
+fn put_lane_head(line: &mut Shown, i: u8, width: usize) {
+    if width != 0 {
+        let from = line.len();
+        line.put_slot(i);
+        line.end_cell(from, width);
     }
-    next
 }
 
-fn put_operation_head(out: &mut [u8], at: usize, names: &[u8], o: u8, width: u16) -> usize {
-    if width == 0 {
-        return at;
+fn put_operation_head(line: &mut Shown, names: &Names, o: u8, width: usize) {
+    if width != 0 {
+        let from = line.len();
+        line.put_part(names, numbers::TAG_OPERATION, o);
+        line.end_cell(from, width);
     }
-    let a = put_part(out, at, names, 0x16, o);
-    end_cell(out, at, a, width)
 }
 
-fn put_operation_heads(out: &mut [u8], at: usize, names: &[u8], w: Widths) -> usize {
-    let mut next = at;
-    let mut o: u8 = 0;
-    while o < 8 {
-        next = put_operation_head(out, next, names, o, operation_width(w, o));
-        o = o + 1;
+fn put_slot_heads(line: &mut Shown, widths: &Widths) {
+    if widths.are_shared() {
+        let from = line.len();
+        line.put("slots");
+        return line.end_cell(from, Widths::SHARED);
     }
-    next
+    for i in 0u8..32 {
+        put_lane_head(line, i, widths.lane(i));
+    }
 }
 
-fn put_slot_heads(out: &mut [u8], at: usize, p: Plan, w: Widths) -> usize {
-    if p.narrow {
-        let a = put(out, at, b"slots");
-        return end_cell(out, at, a, 52);
+pub(crate) fn show_head<R: Print>(rt: &R, names: &Names, widths: &Widths) {
+    let mut line = Shown::new();
+    line.put("  step      ms  ");
+    let from = line.len();
+    line.put("scheduler");
+    line.end_cell(from, widths.scheduler);
+    put_slot_heads(&mut line, widths);
+    for o in 0u8..8 {
+        put_operation_head(&mut line, names, o, widths.operation(o));
     }
-    put_lane_heads(out, at, w)
+    line.show_line(rt);
 }
 
-pub(crate) fn show_head<R: Print>(rt: &R, names: &[u8], p: Plan, w: Widths) {
-    let mut line = [0u8; 8192];
-    let from = put(&mut line, 0, b"  step      ms  ");
-    let mut at = put(&mut line, from, b"scheduler");
-    at = end_cell(&mut line, from, at, w.scheduler);
-    at = put_slot_heads(&mut line, at, p, w);
-    at = put_operation_heads(&mut line, at, names, w);
-    show_trimmed(rt, &mut line, at);
-}
-
-// The empty lane of a slot before the one that acts.
-fn put_empty(out: &mut [u8], at: usize, i: u8, who: u8, width: u16) -> usize {
-    if who <= i {
-        return at;
+// The empty lanes of the slots before the one that acts.
+fn put_before(line: &mut Shown, widths: &Widths, who: u8) {
+    for i in 0..who.min(32) {
+        if widths.lane(i) != 0 {
+            let from = line.len();
+            line.end_cell(from, widths.lane(i));
+        }
     }
-    if width == 0 {
-        return at;
-    }
-    end_cell(out, at, at, width)
-}
-
-fn put_before(out: &mut [u8], at: usize, w: Widths, who: u8) -> usize {
-    let mut next = at;
-    let mut i: u8 = 0;
-    while i < 32 {
-        next = put_empty(out, next, i, who, width_of(w, i));
-        i = i + 1;
-    }
-    next
 }
 
 // What stands before a refused step in its row.
-fn put_margin(out: &mut [u8], at: usize, p: Plan, w: Widths, x: Step) -> usize {
-    if is_slots(x.code) {
-        let a = end_cell(out, at, at, w.scheduler);
-        if p.narrow {
-            let b = put_slot(out, a, x.who);
-            return put(out, b, b": ");
-        }
-        return put_before(out, a, w, x.who);
+fn put_margin(line: &mut Shown, widths: &Widths, x: Step) {
+    if !is_slots(x.code) {
+        return;
     }
-    at
+    let from = line.len();
+    line.end_cell(from, widths.scheduler);
+    if widths.are_shared() {
+        line.put_slot(x.who);
+        line.put(": ");
+    } else {
+        put_before(line, widths, x.who);
+    }
 }
 
 // The refused step's row, where it would stand.
 pub(crate) fn show_refused<R: Print>(
     rt: &R,
-    names: &[u8],
-    p: Plan,
-    w: Widths,
-    x: Step,
-    c: Cause,
-    place: usize,
+    names: &Names,
+    widths: &Widths,
+    refused: Refused,
     ms: u64,
 ) {
-    let mut line = [0u8; 8192];
-    let mut at = put_front(&mut line, b'X', place, ms);
-    at = put_margin(&mut line, at, p, w, x);
-    at = put_refused(&mut line, at, names, x, c);
-    at = put(&mut line, at, b"\n");
-    show(rt, &line, at);
+    let mut line = Shown::new();
+    put_front(&mut line, "X", refused.place, ms);
+    put_margin(&mut line, widths, refused.step);
+    line.put_refused(names, refused);
+    line.put("\n");
+    line.show(rt);
 }
 
 fn show_skipped<R: Print>(rt: &R, n: usize) {
     if n == 0 {
         return;
     }
-    let mut line = [0u8; 128];
-    let a = put_with(&mut line, 0, b"   ..  ", n as u64);
-    let b = put(&mut line, a, b" not shown here (--all shows them)\n");
-    show(rt, &line, b);
+    let mut line = Text::<128>::new();
+    line.put_with("   ..  ", n as u64);
+    line.put(" not shown here (--all shows them)\n");
+    line.show(rt);
 }
 
 // ---- walks
 
-pub(crate) fn new_walk(cfg: Config, shows: bool, w: Widths) -> Walk {
-    Walk {
-        shows: shows,
-        state: State::start(cfg),
-        ms: 0,
-        bearing: 0,
-        skipped: 0,
-        widths: w,
-    }
+// A walk through the accepted steps: the state and the time, how many steps were met that bear on the focus, and how many were left out since the last row.
+#[derive(Clone, Copy)]
+struct Walk {
+    state: State,
+    ms: u64,
+    bearing: usize,
+    skipped: usize,
 }
 
-// One row of a walk that bears on the focus.
-fn meet<R: Print>(
-    rt: &R,
-    names: &[u8],
-    s: &[u8],
-    p: Plan,
-    t: Walk,
-    o: u8,
-    x: Step,
-    place: usize,
-) -> Walk {
-    let after = t.state;
-    let w = t.widths;
-    let mut u = t;
-    if t.shows {
-        show_skipped(rt, t.skipped);
-        u.skipped = 0;
-        if p.page {
-            crate::page::show_row(rt, names, s, w, after, x, place, t.ms);
-        } else {
-            show_row(rt, names, s, p, w, after, x, place, t.ms);
+impl Walk {
+    fn start(cfg: Config) -> Walk {
+        Walk {
+            state: State::start(cfg),
+            ms: 0,
+            bearing: 0,
+            skipped: 0,
         }
-        return u;
     }
-    u.widths = widened(w, names, s, o, after, x);
-    u
-}
 
-// A step of a walk behind its state: it is met, or skipped.
-fn weigh<R: Print>(
-    rt: &R,
-    names: &[u8],
-    s: &[u8],
-    p: Plan,
-    t: Walk,
-    o: u8,
-    x: Step,
-    place: usize,
-) -> Walk {
-    let mut u = t;
-    if 4096 < t.bearing {
-        return u;
+    // Goes over a step; the step as it is shown.
+    fn pass(&mut self, cfg: Config, x: Step) -> Step {
+        let before = self.state;
+        let r = machine::inner(cfg, before, x);
+        self.state = r.state;
+        self.ms = later(self.ms, x);
+        giving(before, answering(x, r.answer))
     }
-    if 4096 < t.skipped {
-        return u;
-    }
-    if bears(o, p, x) {
-        u.bearing = t.bearing + 1;
-        if t.bearing < p.from {
-            u.skipped = t.skipped + 1;
-            return u;
+
+    // Whether the step that was gone over, as it is shown, is a row.
+    fn meets(&mut self, rows: Rows, o: Option<u8>, x: Step) -> bool {
+        let Rows::Bearing(focus, first) = rows else {
+            return true;
+        };
+        if focus.bears(o, x) {
+            self.bearing = self.bearing.saturating_add(1);
+            if first < self.bearing {
+                return true;
+            }
         }
-        return meet(rt, names, s, p, u, o, x, place);
+        self.skipped = self.skipped.saturating_add(1);
+        false
     }
-    u.skipped = t.skipped + 1;
-    u
+
+    fn row(&self, place: usize, operation: Option<u8>, step: Step) -> Row {
+        Row {
+            place,
+            step,
+            operation,
+            after: self.state,
+            ms: self.ms,
+        }
+    }
 }
 
 // The step with its answer in place of its claim: a send may claim Limit where it answered Full.
 fn answering(x: Step, a: Answer) -> Step {
-    let mut y = x;
     match a {
-        Answer::Taken(v) => {
-            y.claim = v;
-            y
-        }
-        Answer::Refused(_) => y,
+        Answer::Taken(claim) => Step { claim, ..x },
+        Answer::Refused(_) => x,
     }
-}
-
-// A value was set at a place of what an instance writes at its end.
-fn is_set(c: Copies, j: u8) -> bool {
-    let v = c.get(j);
-    v.is_payload()
-}
-
-fn set_of(c: Copies) -> usize {
-    let a = counted(0, is_set(c, 0));
-    let b = counted(a, is_set(c, 1));
-    let d = counted(b, is_set(c, 2));
-    counted(d, is_set(c, 3))
 }
 
 // How many values the end of an instance writes: one that has failed writes none.
 fn given(st: State, i: u8) -> u8 {
-    let slots = st.slots;
-    let x = slots.get(i);
-    let l = x.life;
-    if l.failed {
+    if st.slots.get(i).life.failed {
         return 0;
     }
-    let outgoing = st.outgoing;
-    (set_of(outgoing.get(i)) % 8) as u8
+    let set = st.outgoing.get(i).at;
+    (set.iter().filter(|v| v.is_payload()).count() % 8) as u8
 }
 
 // The step with the number of values that it writes in place of a part, where it is an end, which names none.
 fn giving(st: State, x: Step) -> Step {
-    let mut y = x;
-    if x.code == 14 {
-        y.what = given(st, x.who);
-        return y;
-    }
-    y
-}
-
-// One accepted step of a walk.
-fn pass<R: Print>(
-    rt: &R,
-    cfg: Config,
-    names: &[u8],
-    s: &[u8],
-    p: Plan,
-    t: Walk,
-    o: u8,
-    x: Step,
-    place: usize,
-) -> Walk {
-    let st = t.state;
-    let r = machine::inner(cfg, st, x);
-    let after = r.state;
-    let a = r.answer;
-    let mut u = t;
-    u.state = after;
-    u.ms = later(t.ms, x);
-    weigh(rt, names, s, p, u, o, giving(st, answering(x, a)), place)
-}
-
-// The accepted steps from the start on.
-pub(crate) fn go_through<R: Print>(
-    rt: &R,
-    cfg: Config,
-    names: &[u8],
-    s: &[u8],
-    p: Plan,
-    ops: &[u8],
-    first: Walk,
-) -> Walk {
-    let mut t = first;
-    let mut k: usize = 0;
-    while k < 4096 {
-        if p.steps <= k {
-            return t;
+    if x.code == numbers::CODE_END {
+        Step {
+            what: given(st, x.who),
+            ..x
         }
-        let f = recording::read_field(s, k * 16);
-        let Field::Step(x, _) = f else {
-            return t;
+    } else {
+        x
+    }
+}
+
+// The columns with room for all rows.
+pub(crate) fn measured(case: Case, operations: &[Option<u8>], rows: Rows) -> Widths {
+    let mut widths = Widths::NONE;
+    let mut walk = Walk::start(case.cfg);
+    let steps = case.recording.chunks_exact(numbers::SIZE_STEP);
+    for (k, (field, o)) in steps.zip(operations).enumerate() {
+        let Some(x) = step_in(field) else {
+            break;
         };
-        t = pass(rt, cfg, names, s, p, t, byte_at(ops, k), x, k + 1);
-        k = k + 1;
+        let y = walk.pass(case.cfg, x);
+        if walk.meets(rows, *o, y) {
+            widths.widen(case, walk.row(k + 1, *o, y));
+        }
     }
-    t
+    widths
 }
 
-pub const NO_WIDTHS: Widths = Widths {
-    scheduler: 9,
-    lanes: [0; 32],
-    operations: [0; 8],
-};
-
-// How many lanes are shown.
-pub(crate) fn lanes_of(w: Widths) -> u8 {
-    let mut n: u8 = 0;
-    let mut i: u8 = 0;
-    while i < 32 {
-        n = one_lane(n, width_of(w, i));
-        i = i + 1;
+// Shows the rows under these columns; the time behind the last step.
+pub(crate) fn show_rows<R: Print>(
+    rt: &R,
+    case: Case,
+    operations: &[Option<u8>],
+    rows: Rows,
+    widths: &Widths,
+) -> u64 {
+    let mut walk = Walk::start(case.cfg);
+    let steps = case.recording.chunks_exact(numbers::SIZE_STEP);
+    for (k, (field, o)) in steps.zip(operations).enumerate() {
+        let Some(x) = step_in(field) else {
+            break;
+        };
+        let y = walk.pass(case.cfg, x);
+        if walk.meets(rows, *o, y) {
+            show_skipped(rt, walk.skipped);
+            walk.skipped = 0;
+            show_either_row(rt, case, widths, walk.row(k + 1, *o, y));
+        }
     }
-    n
+    walk.ms
 }
 
-fn one_lane(n: u8, width: u16) -> u8 {
-    if width == 0 {
-        return n;
+fn show_either_row<R: Print>(rt: &R, case: Case, widths: &Widths, row: Row) {
+    if case.asked.is_page() {
+        crate::page::show_row(rt, case, widths, row);
+    } else {
+        show_row(rt, case, widths, row);
     }
-    if n < 32 {
-        return n + 1;
-    }
-    n
 }
