@@ -113,8 +113,11 @@ pub fn read_recording<'a, R: Input, E: Print>(
 ) -> io::Result<&'a [u8]>
     ensures { IfOk result (λ text. length text.now ≤ length recording.old) }
 {
-    let size = read_whole(&mut rt.reader(), recording)
-        .inspect_err(|e| fail(stderr, b"standard input", *e))?;
+    let size = read_whole(&mut rt.reader(), recording).inspect_err(|e| fail(
+        stderr,
+        b"standard input",
+        *e,
+    ))?;
     Ok(&recording[..size])
 }
 
@@ -127,8 +130,7 @@ pub fn read_both<'a, R: Files + Input, E: Print>(
 ) -> io::Result<(&'a [u8], &'a [u8])>
     ensures { IfOk result (λ texts. (length texts.0.now ≤ length config.old) × (length texts.1.now ≤ length recording.old)) }
 {
-    let size =
-        read_file(rt, b"rte.cfg", config).inspect_err(|e| fail(stderr, b"rte.cfg", *e))?;
+    let size = read_file(rt, b"rte.cfg", config).inspect_err(|e| fail(stderr, b"rte.cfg", *e))?;
     let recording = read_recording(rt, stderr, recording)?;
     Ok((&config[..size], recording))
 }
