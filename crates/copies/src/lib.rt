@@ -1,8 +1,9 @@
 // Copies of elements that live with an instance: steps 22 and 23, and what spawn and end do with them. Each does what its definition in crate effects says, test for test.
 #![tactic(auto)]
 
-ghost use Rattle.std.specs.Prelude.{◌≡◌};
+ghost use Rattle.std.specs.Prelude.{◌≡◌, ◌≤◌, length, ℕ};
 ghost use Rattle.laws.specs.Choice.{pick};
+ghost use Rattle.laws.specs.Row.{each_below};
 ghost use Rattle.config.specs.Tables.{max_listed};
 ghost use Rattle.config.specs.Lists.{element_at};
 ghost use Rattle.state.specs.Tables.{copy_in};
@@ -19,6 +20,19 @@ pub fn lists_some(t: Lists, r: u8) -> bool
     ensures { result ≡ lists_some t r }
 {
     t.lists_at(r, 0)
+}
+
+// The first n places of a row, each changed by f, which knows the place.
+// Kept: as in crate feeding; public it would need a line in crate one_answer, and what it answers is left to the closure.
+fn each<T: Copy, F: Fn(u8, T) -> T>(row: &mut [T], n: u8, f: F)
+    requires room { n ≤ length row.old }
+    requires calls { F.IsAlwaysCallable f }
+    ensures { (g : ℕ → T → T) (d : T) → ((k : ℕ) (x y : T) → F.post f k x y → y ≡ g k x) → row.new ≡ each_below g d n row.old }
+{
+    for k in 0..n {
+        let i = k as usize;
+        row[i] = f(k, row[i]);
+    }
 }
 
 // ---- at end: what was set is written
@@ -74,11 +88,9 @@ fn given_runnables(cfg: Config, rooms: Rooms, r: u8, c: Copies, rs: Runnables) -
 {
     let n = shared_steps::within(cfg.runnables.n, RunnableConfs::MAX as u8);
     let mut u = rs;
-    for k in 0..n {
-        let i = k as usize;
-        let wakes = is_given_to(cfg, rooms, r, c, k);
-        u.at[i] = shared_steps::woken_if(wakes, cfg.runnables.at[i], u.at[i]);
-    }
+    each(&mut u.at, n, |k, x| {
+        shared_steps::woken_if(is_given_to(cfg, rooms, r, c, k), cfg.runnables.get(k), x)
+    });
     u
 }
 
@@ -140,9 +152,7 @@ fn copies_of(t: Lists, r: u8, es: Elements) -> Copies
     ensures { result ≡ copies_of t r es }
 {
     let mut c = Copies::BLANK;
-    for j in 0..Lists::MAX_LISTED {
-        c.at[j as usize] = copy_of(t, r, es, j);
-    }
+    each(&mut c.at, Lists::MAX_LISTED, |j, _| copy_of(t, r, es, j));
     c
 }
 
@@ -165,10 +175,7 @@ fn seen_elements(cfg: Config, r: u8, es: Elements) -> Elements
 {
     let n = shared_steps::within(cfg.required.n, RequiredConfs::MAX as u8);
     let mut u = es;
-    for q in 0..n {
-        let k = q as usize;
-        u.at[k] = seen_if(cfg.incoming.has(r, q), u.at[k]);
-    }
+    each(&mut u.at, n, |q, x| seen_if(cfg.incoming.has(r, q), x));
     u
 }
 

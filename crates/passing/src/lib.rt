@@ -1,8 +1,8 @@
 // How far time may go, and which count lets no more of it pass.
 #![tactic(auto)]
 
-ghost use Rattle.std.specs.Prelude.{◌≡◌};
-ghost use Rattle.passing.specs.Passing.{operation_left, slot_left, operations_pass, timers_pass, slots_pass, passes_of, operation_stops, timer_stops, slot_stops, operation_stop, timer_stop, slot_stop};
+ghost use Rattle.std.specs.Prelude.{◌≡◌, ℕ};
+ghost use Rattle.passing.specs.Passing.{least_below, operation_left, slot_left, operations_pass, timers_pass, slots_pass, passes_of, operation_stops, timer_stops, slot_stops, operation_stop, timer_stop, slot_stop};
 
 use config::Config;
 use state::{Operation, Operations, Slot, Slots, State, Timer, Timers};
@@ -29,34 +29,34 @@ fn slot_left(t: u32, x: Slot) -> u32
     }
 }
 
+// The least of t and of what f gives at the numbers below n.
+fn least_of<F: Fn(u8) -> u32>(n: u8, t: u32, f: F) -> u32
+    requires { F.IsAlwaysCallable f }
+    ensures { (g : ℕ → ℕ) → ((k y : ℕ) → F.post f k y → y ≡ g k) → result ≡ least_below g t n }
+{
+    let mut u = t;
+    for k in 0..n {
+        u = u.min(f(k));
+    }
+    u
+}
+
 fn operations_pass(cfg: Config, os: Operations, t: u32) -> u32
     ensures { result ≡ operations_pass cfg os t }
 {
-    let mut u = t;
-    for o in 0..cfg.operations.n {
-        u = u.min(operation_left(t, os.get(o)));
-    }
-    u
+    least_of(cfg.operations.n, t, |o| operation_left(t, os.get(o)))
 }
 
 fn timers_pass(cfg: Config, ts: Timers, t: u32) -> u32
     ensures { result ≡ timers_pass cfg ts t }
 {
-    let mut u = t;
-    for k in 0..cfg.timers.n {
-        u = u.min(ts.get(k).count);
-    }
-    u
+    least_of(cfg.timers.n, t, |k| ts.get(k).count)
 }
 
 fn slots_pass(ss: Slots, t: u32) -> u32
     ensures { result ≡ slots_pass ss t }
 {
-    let mut u = t;
-    for i in 0..SLOTS {
-        u = u.min(slot_left(t, ss.get(i)));
-    }
-    u
+    least_of(SLOTS, t, |i| slot_left(t, ss.get(i)))
 }
 
 // How much of t milliseconds may pass: all of it, or as much as the least count of an open call, a timer or a held instance lets.

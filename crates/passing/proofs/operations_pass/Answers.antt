@@ -1,19 +1,13 @@
 -- `passing::operations_pass` meets its contract.
 -- Assumes nothing.
-use mathlib.Core.Path.{◌≡◌, sym}
-use native.Mathlib.Omega.{arith}
-use Rattle.passing.specs.Passing.{operations_pass}
-use Rattle.passing.proofs.Passing.{least-none, least_more, min_least}
+use Prim.Native.Nat.{ℕ}
+use Rattle.std.proofs.Common.{rules, tests}
+use Rattle.state.specs.Tables.{operation_in}
+use Rattle.passing.specs.Passing.{operation_left, operations_pass}
 use Rattle.passing.proofs.operations_pass.Goals as goal
-
-pub loop-o-init : goal.loop-o-init
-loop-o-init c = sym (least-none _ _)
-
-pub loop-o-preserved : goal.loop-o-preserved
-loop-o-preserved c = rw (c.min-u.ensures, c.operation_left.ensures, c.get.ensures, c.loop-o.invariant, min_least, least_more)
 
 pub returns : goal.returns
 unfolding operations_pass
 returns c =
-    let e : c.loop-o.o ≡ c.args.cfg.operations.n = omega arith in
-    rw e at c.loop-o.invariant
+    let a = c.args in
+    c.least_of.ensures (λ (k : ℕ). operation_left a.t (operation_in a.os k)) (λ k y q. search (rules, tests))

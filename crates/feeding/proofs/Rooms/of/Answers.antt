@@ -1,31 +1,18 @@
--- `feeding::Rooms::of` meets its contract. The loop has noted the elements below its counter (`each_below`).
+-- `feeding::Rooms::of` meets its contract.
 -- Assumes nothing.
-use Prim.Native.Nat.{◌<◌}
+use Prim.Native.Nat.{ℕ}
 use borrow.Author.Rules.{rules}
-use lib.ListN.{length}
-use mathlib.Core.Bool.{true}
-use mathlib.Core.Path.{◌≡◌, refl}
-use native.Mathlib.Omega.{arith}
+use mathlib.Core.Bool.{Bool, true}
+use Rattle.std.proofs.Common.{tests}
 use Rattle.entries.specs.Faults.{is_queued}
-use Rattle.laws.proofs.Places.{each_none, length-mapped}
+use Rattle.state.specs.Tables.{element_in}
 use Rattle.effects.specs.Steps.{accepts}
-use Rattle.feeding.proofs.Noted.{rooms-made}
-use Rattle.shared_steps.proofs.Stopping.{each-put, element-here}
 use Rattle.feeding.specs.Rooms.{rooms_of}
+use Rattle.feeding.proofs.Noted.{rooms-made}
 use Rattle.feeding.proofs.Rooms.of.Goals as goal
 
-pub loop-k-init : goal.loop-k-init
-loop-k-init c = rw each_none
-
-pub loop-k-preserved : goal.loop-k-preserved
-unfolding accepts is_queued
-loop-k-preserved c =
-    let e : length c.args.t.at ≡ 16 = search (rules, length-mapped, c.well_formed.1) in
-    let b : c.loop-k.k < 16 = omega arith in
-    rw (c.accepts.ensures, c.get-c.ensures, element-here c.args.t) (each-put _ _ _ _ _ true refl b c.loop-k.invariant)
-
 pub returns : goal.returns
-unfolding rooms_of
+unfolding rooms_of accepts is_queued
 returns c =
-    let k : c.loop-k.k ≡ 16 = omega arith in
-    rooms-made (rw k at c.loop-k.invariant)
+    let a = c.args in
+    rooms-made (c.each.ensures (λ (q : ℕ) (b : Bool). accepts a.cfg q (element_in a.t q)) true (λ k x y q. search (rules, tests)))
