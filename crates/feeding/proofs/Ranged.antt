@@ -4,6 +4,7 @@ use Prim.Native.Nat.{ℕ, zero, suc, ◌+◌}
 use mathlib.Core.Bool.{Bool, true, false}
 use mathlib.Core.Path.{◌≡◌, refl, ap, ◌∙◌}
 use native.Mathlib.Omega.{arith}
+use Rattle.std.proofs.Common.{◌||◌}
 use Rattle.std.specs.List.{range_with_len, list_any}
 use Rattle.laws.specs.Choice.{either}
 use Rattle.laws.specs.Loop.{any_below}
