@@ -3,4 +3,3 @@ pub mod Kind
 pub mod Tags
 pub mod Editions
 pub mod Listing
-pub mod Ranges

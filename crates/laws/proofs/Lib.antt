@@ -4,3 +4,4 @@ pub mod Looping
 pub mod Masks
 pub mod Places
 pub mod Twice
+pub mod Ranges

@@ -1,3 +1,2 @@
 -- Laws of the least, and the theorems of this crate.
 pub mod Passing
-pub mod Ranged

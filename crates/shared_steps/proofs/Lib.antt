@@ -1,3 +1,2 @@
 -- Laws of loops over tables, which the proofs of the steps cite.
-pub mod Asked
 pub mod Stopping

@@ -1,5 +1,4 @@
 -- Laws that the proofs of this crate cite.
-pub mod Ranges
 pub mod Whole
 pub mod Tallying
 pub mod Test

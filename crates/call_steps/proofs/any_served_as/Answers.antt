@@ -3,7 +3,7 @@
 use Rattle.std.proofs.Common.{ℕ, ltb, ◌∙◌, rules, tests}
 use Rattle.state.specs.Tables.{slot_in}
 use Rattle.rules.specs.Sound.{served_as}
-use Rattle.shared_steps.proofs.Asked.{any-ran}
+use Rattle.laws.proofs.Ranges.{any-ran}
 use Rattle.call_steps.proofs.Some.{some-count}
 use Rattle.call_steps.proofs.any_served_as.Goals as goal
 

@@ -3,7 +3,7 @@
 use Rattle.std.proofs.Common.{ℕ, ◌∙◌, rules, tests}
 use Rattle.state.specs.Tables.{slot_in}
 use Rattle.rules.specs.Sound.{waits_on, waiters_of}
-use Rattle.shared_steps.proofs.Asked.{any-ran}
+use Rattle.laws.proofs.Ranges.{any-ran}
 use Rattle.call_steps.proofs.Some.{some-pass}
 use Rattle.call_steps.proofs.is_bound.Goals as goal
 

@@ -3,7 +3,7 @@
 use Rattle.std.proofs.Common.{ℕ, get_or, ◌∙◌, rules, tests}
 use Rattle.state.specs.Parts.{no_client}
 use Rattle.rules.specs.Sound.{is_client, queued_as}
-use Rattle.shared_steps.proofs.Asked.{any-ran}
+use Rattle.laws.proofs.Ranges.{any-ran}
 use Rattle.call_steps.proofs.Some.{some-pass}
 use Rattle.call_steps.proofs.is_queued_as.Goals as goal
 

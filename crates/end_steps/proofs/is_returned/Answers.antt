@@ -3,7 +3,7 @@
 use Rattle.std.proofs.Common.{ℕ, eqb, rules, tests}
 use Rattle.config.specs.Tables.{return_event_in}
 use Rattle.laws.specs.Choice.{both}
-use Rattle.shared_steps.proofs.Asked.{any-ran}
+use Rattle.laws.proofs.Ranges.{any-ran}
 use Rattle.end_steps.proofs.is_returned.Goals as goal
 
 pub returns : goal.returns

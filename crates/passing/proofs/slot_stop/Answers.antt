@@ -7,7 +7,7 @@ use Rattle.std.proofs.Common.{rules, tests}
 use Rattle.std.proofs.lemmas.Iterator.{first_from_Range}
 use Rattle.state.specs.Tables.{slot_in}
 use Rattle.passing.specs.Passing.{slot_stops, slot_stop}
-use Rattle.passing.proofs.Ranged.{found_first}
+use Rattle.laws.proofs.Ranges.{found_first}
 use Rattle.passing.proofs.slot_stop.Goals as goal
 
 pub returns : goal.returns

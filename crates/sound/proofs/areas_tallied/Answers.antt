@@ -3,7 +3,7 @@
 use Rattle.std.proofs.Common.{ℕ, get_or, rules, tests}
 use Rattle.state.specs.Tables.{area_in}
 use Rattle.sound.specs.Walk.{area_tallied, areas_tallied}
-use Rattle.sound.proofs.Ranges.{all_in}
+use Rattle.laws.proofs.Ranges.{all_in}
 use Rattle.sound.proofs.areas_tallied.Goals as goal
 
 pub returns : goal.returns

@@ -3,7 +3,7 @@
 use Rattle.std.proofs.Common.{◌≡◌, length, ◌∙◌, rules, tests, eq-eqb}
 use Rattle.laws.proofs.Places.{length-mapped}
 use Rattle.rules.specs.Sound.{copy_sound, copies_sound}
-use Rattle.sound.proofs.Ranges.{all_in}
+use Rattle.laws.proofs.Ranges.{all_in}
 use Rattle.sound.proofs.copies_sound.Goals as goal
 
 pub returns : goal.returns

@@ -4,7 +4,7 @@ use Rattle.std.proofs.Common.{ℕ, rules, tests}
 use Rattle.state.specs.Tables.{element_in}
 use Rattle.rules.specs.Sound.{element_sound, elements_sound}
 use Rattle.sound.specs.Only.{only_required}
-use Rattle.sound.proofs.Ranges.{all_in}
+use Rattle.laws.proofs.Ranges.{all_in}
 use Rattle.sound.proofs.elements_sound.Goals as goal
 
 pub returns : goal.returns

@@ -6,7 +6,7 @@ use Rattle.std.proofs.lemmas.Iterator.Adapters.{YieldsList-from_skip}
 use Rattle.std.proofs.lemmas.Iterator.Search.{all_from_yields_List}
 use Rattle.std.specs.List.{list_all}
 use Rattle.laws.specs.Choice.{both}
-use Rattle.sound.proofs.Ranges.{row_filled}
+use Rattle.laws.proofs.Ranges.{row_filled}
 use Rattle.sound.proofs.filled.Goals as goal
 
 pub returns-then-all : goal.returns-then-all

@@ -4,7 +4,7 @@ use Rattle.std.proofs.Common.{◌≡◌, length, ◌∙◌, rules, tests, eq-eqb
 use Rattle.std.proofs.lemmas.Iterator.{YieldsList-from_slice}
 use Rattle.std.proofs.lemmas.Iterator.Search.{all_from_yields_List}
 use Rattle.rules.specs.Sound.{is_zero, is_no_stack}
-use Rattle.sound.proofs.Ranges.{row_filled}
+use Rattle.laws.proofs.Ranges.{row_filled}
 use Rattle.sound.proofs.is_no_stack.Goals as goal
 
 pub returns-then-s-eq0 : goal.returns-then-s-eq0

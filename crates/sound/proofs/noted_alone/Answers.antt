@@ -4,7 +4,7 @@ use Rattle.std.proofs.Common.{ℕ, rules, tests}
 use Rattle.state.specs.Parts.{no_requests}
 use Rattle.sound.specs.Tally.{noted_at}
 use Rattle.sound.specs.Walk.{client_alone, noted_alone}
-use Rattle.sound.proofs.Ranges.{all_in}
+use Rattle.laws.proofs.Ranges.{all_in}
 use Rattle.sound.proofs.noted_alone.Goals as goal
 
 pub returns : goal.returns

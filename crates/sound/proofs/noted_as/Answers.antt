@@ -3,7 +3,7 @@
 use Rattle.std.proofs.Common.{ℕ, rules, tests}
 use Rattle.rules.specs.Sound.{is_client}
 use Rattle.sound.specs.Tally.{noted_at, noted_as}
-use Rattle.sound.proofs.Ranges.{count_in}
+use Rattle.laws.proofs.Ranges.{count_in}
 use Rattle.sound.proofs.noted_as.Goals as goal
 
 pub returns : goal.returns

@@ -4,7 +4,7 @@ use Rattle.std.proofs.Common.{ℕ, get_or, rules, tests}
 use Rattle.state.specs.Tables.{operation_in}
 use Rattle.sound.specs.Only.{only_operations}
 use Rattle.sound.specs.Walk.{operation_tallied, operations_tallied}
-use Rattle.sound.proofs.Ranges.{all_in}
+use Rattle.laws.proofs.Ranges.{all_in}
 use Rattle.sound.proofs.operations_tallied.Goals as goal
 
 pub returns : goal.returns

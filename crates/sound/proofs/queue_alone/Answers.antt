@@ -3,7 +3,7 @@
 use Rattle.std.proofs.Common.{ℕ, get_or, rules, tests}
 use Rattle.state.specs.Parts.{no_client}
 use Rattle.sound.specs.Walk.{client_alone, queue_alone}
-use Rattle.sound.proofs.Ranges.{all_in}
+use Rattle.laws.proofs.Ranges.{all_in}
 use Rattle.sound.proofs.queue_alone.Goals as goal
 
 pub returns : goal.returns

@@ -3,7 +3,7 @@
 use Rattle.std.proofs.Common.{ℕ, get_or, rules, tests}
 use Rattle.state.specs.Parts.{no_client}
 use Rattle.rules.specs.Sound.{is_client, queued_as}
-use Rattle.sound.proofs.Ranges.{count_in}
+use Rattle.laws.proofs.Ranges.{count_in}
 use Rattle.sound.proofs.queued_as.Goals as goal
 
 pub returns : goal.returns

@@ -3,7 +3,7 @@
 use Rattle.std.proofs.Common.{ℕ, get_or, rules, tests}
 use Rattle.state.specs.Tables.{runnable_in}
 use Rattle.sound.specs.Walk.{runnable_tallied, runnables_tallied}
-use Rattle.sound.proofs.Ranges.{all_in}
+use Rattle.laws.proofs.Ranges.{all_in}
 use Rattle.sound.proofs.runnables_tallied.Goals as goal
 
 pub returns : goal.returns

@@ -4,7 +4,7 @@ use Rattle.std.proofs.Common.{ℕ, rules, tests}
 use Rattle.state.specs.Tables.{timer_in}
 use Rattle.rules.specs.Sound.{timer_sound, timers_sound}
 use Rattle.sound.specs.Only.{only_timers}
-use Rattle.sound.proofs.Ranges.{all_in}
+use Rattle.laws.proofs.Ranges.{all_in}
 use Rattle.sound.proofs.timers_sound.Goals as goal
 
 pub returns : goal.returns

@@ -4,7 +4,7 @@ use Rattle.std.proofs.Common.{ℕ, rules, tests}
 use Rattle.state.specs.Tables.{variable_in}
 use Rattle.rules.specs.Sound.{variable_sound, variables_sound}
 use Rattle.sound.specs.Only.{only_variables}
-use Rattle.sound.proofs.Ranges.{all_in}
+use Rattle.laws.proofs.Ranges.{all_in}
 use Rattle.sound.proofs.variables_sound.Goals as goal
 
 pub returns : goal.returns

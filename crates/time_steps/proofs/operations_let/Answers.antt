@@ -2,7 +2,7 @@
 -- Assumes nothing.
 use Rattle.std.proofs.Common.{ℕ, rules, tests}
 use Rattle.effects.specs.Steps.{operation_lets, operations_let}
-use Rattle.shared_steps.proofs.Asked.{all-ran}
+use Rattle.laws.proofs.Ranges.{all-ran}
 use Rattle.state.specs.Tables.{operation_in}
 use Rattle.time_steps.proofs.operations_let.Goals as goal
 

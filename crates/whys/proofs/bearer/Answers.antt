@@ -6,7 +6,7 @@ use mathlib.Core.Path.{◌≡◌}
 use Rattle.std.proofs.Common.{rules, tests}
 use Rattle.std.proofs.lemmas.Iterator.{first_from_Range}
 use Rattle.state.specs.Tables.{slot_in}
-use Rattle.passing.proofs.Ranged.{first_found}
+use Rattle.laws.proofs.Ranges.{first_found}
 use Rattle.whys.specs.Whys.{serves_as, bearer_of}
 use Rattle.whys.proofs.bearer.Goals as goal
 

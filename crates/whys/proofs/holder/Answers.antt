@@ -6,7 +6,7 @@ use mathlib.Core.Path.{◌≡◌, ◌∙◌}
 use Rattle.std.proofs.Common.{rules, tests}
 use Rattle.std.proofs.lemmas.Iterator.{first_from_Range}
 use Rattle.state.specs.Tables.{slot_in}
-use Rattle.passing.proofs.Ranged.{found_first}
+use Rattle.laws.proofs.Ranges.{found_first}
 use Rattle.whys.specs.Whys.{holds_of, holder_of}
 use Rattle.whys.proofs.holder.Goals as goal
 

@@ -8,7 +8,7 @@ use native.Mathlib.Omega.{arith}
 use Rattle.std.proofs.Common.{rules, tests}
 use Rattle.std.proofs.lemmas.Iterator.{YieldsList-from_range}
 use Rattle.std.proofs.lemmas.Iterator.Search.{any_from_yields_List}
-use Rattle.passing.proofs.Ranged.{any_ranged}
+use Rattle.laws.proofs.Ranges.{any-asked}
 use Rattle.whys.specs.Whys.{holds_of}
 use Rattle.whys.proofs.holds.Goals as goal
 
@@ -17,4 +17,4 @@ unfolding holds_of
 returns c =
     let s = c.args.s in
     let p = λ (k : ℕ). eqb (get_or s.at k 0) c.args.a in
-    any_from_yields_List p _ _ _ c.any.ensures.ran (YieldsList-from_range 0 s.held s.held refl (omega arith)) (λ x b q k. search (rules, tests)) ∙ any_ranged p s.held
+    any_from_yields_List p _ _ _ c.any.ensures.ran (YieldsList-from_range 0 s.held s.held refl (omega arith)) (λ x b q k. search (rules, tests)) ∙ any-asked p s.held
