@@ -1,8 +1,9 @@
 // The calls of a recording as its steps go by: for each operation its latest call, where it stands, where it ended and how, and what came too late; and for
 // each slot whether its instance has failed.
-use config::Config;
+use crate::case::Case;
+use config::OperationConfs;
 use recording::Field;
-use state::State;
+use state::{Slots, State};
 use values::{Step, Value};
 
 // The most steps that are looked at.
@@ -35,14 +36,14 @@ pub struct Told {
 
 #[derive(Clone, Copy)]
 pub struct Calls {
-    pub of: [Option<Told>; Calls::OPERATIONS],
-    pub failed: [bool; Calls::SLOTS],
+    of: [Option<Told>; Calls::OPERATIONS],
+    failed: [bool; Calls::SLOTS],
 }
 
 impl Calls {
-    pub const OPERATIONS: usize = 8;
+    pub const OPERATIONS: usize = OperationConfs::MAX;
 
-    const SLOTS: usize = 32;
+    const SLOTS: usize = Slots::MAX;
 
     pub const NONE: Calls = Calls {
         of: [None; Calls::OPERATIONS],
@@ -66,9 +67,15 @@ impl Calls {
     }
 
     // A call starts: nothing of the one before it is kept.
-    fn start(&mut self, o: u8, call: Told) {
+    fn start(&mut self, o: u8, called: usize, caller: u8, at: u64) {
         if let Some(told) = self.of.get_mut(o as usize) {
-            *told = Some(call);
+            *told = Some(Told {
+                called,
+                caller,
+                at,
+                ended: None,
+                late: None,
+            });
         }
     }
 
@@ -95,31 +102,17 @@ impl Calls {
 
     // After an accepted step about this operation: a call answered Ok starts one, a timeout and a hand back answered 1 end one, a hand back answered 0 is
     // late; a fail marks its slot, and a spawn takes the mark away.
-    pub(crate) fn after(&mut self, operation: Option<u8>, s: Step, place: usize, ms: u64) {
+    pub(crate) fn after(&mut self, about: Option<u8>, s: Step, place: usize, ms: u64) {
         let claim = s.claim;
-        match (s.code, operation) {
-            (numbers::CODE_CALL, Some(o)) => {
-                if claim.kind == Value::OK.kind {
-                    self.start(
-                        o,
-                        Told {
-                            called: place,
-                            caller: s.who,
-                            at: ms,
-                            ended: None,
-                            late: None,
-                        },
-                    );
-                }
+        match (s.code, about) {
+            (numbers::CODE_CALL, Some(o)) if claim.kind == Value::OK.kind => {
+                self.start(o, place, s.who, ms);
             }
             (numbers::CODE_TIMEOUT, Some(o)) => self.end(o, place, How::TimedOut),
-            (numbers::CODE_HAND_BACK, Some(o)) => {
-                if claim.number == 1 {
-                    self.hand_back(o, place, s.who, s.argument);
-                } else {
-                    self.come_late(o, place);
-                }
+            (numbers::CODE_HAND_BACK, Some(o)) if claim.number == 1 => {
+                self.hand_back(o, place, s.who, s.argument);
             }
+            (numbers::CODE_HAND_BACK, Some(o)) => self.come_late(o, place),
             (numbers::CODE_SPAWN, _) => self.mark(claim.number, false),
             (numbers::CODE_FAIL, _) => self.mark(s.who as u32, true),
             _ => {}
@@ -145,29 +138,27 @@ fn operation_of(st: State, s: Step) -> Option<u8> {
 }
 
 // Notes for each accepted step the operation that it is about; the state that they lead to.
-pub(crate) fn note_operations(
-    cfg: Config,
-    recording: &[u8],
-    operations: &mut [Option<u8>],
-) -> State {
-    let mut st = State::start(cfg);
-    for (field, o) in recording.chunks_exact(16).zip(operations.iter_mut()) {
-        let Some(x) = step_in(field) else {
-            break;
-        };
+pub(crate) fn note_operations(case: Case, operations: &mut [Option<u8>]) -> State {
+    let mut st = State::start(case.cfg);
+    let recording = case.recording;
+    let steps = recording
+        .chunks_exact(numbers::SIZE_STEP)
+        .map_while(step_in);
+    for (x, o) in steps.zip(operations.iter_mut()) {
         *o = operation_of(st, x);
-        st = machine::inner(cfg, st, x).state;
+        st = machine::inner(case.cfg, st, x).state;
     }
     st
 }
 
-// The calls after so many steps as have their operation noted.
-pub(crate) fn calls_until(recording: &[u8], operations: &[Option<u8>]) -> Calls {
+// The calls after the accepted steps.
+pub(crate) fn calls_of(case: Case) -> Calls {
     let mut calls = Calls::NONE;
-    for (k, (field, o)) in recording.chunks_exact(16).zip(operations).enumerate() {
-        let Some(x) = step_in(field) else {
-            break;
-        };
+    let recording = case.recording;
+    let steps = recording
+        .chunks_exact(numbers::SIZE_STEP)
+        .map_while(step_in);
+    for (k, (x, o)) in steps.zip(case.operations).enumerate() {
         calls.after(*o, x, k + 1, 0);
     }
     calls
@@ -185,7 +176,7 @@ pub(crate) fn served(st: State, i: u8) -> Option<u8> {
 
 // The slot whose instance waits on an operation, and so has not collected yet.
 pub(crate) fn waiter(st: State, o: u8) -> Option<u8> {
-    for i in 0u8..32 {
+    for i in 0..Slots::MAX as u8 {
         let awaited = st.slots.get(i).life.awaited;
         if awaited.part == numbers::TAG_OPERATION && awaited.on == o {
             return Some(i);

@@ -29,11 +29,12 @@ impl Asked {
     }
 }
 
-// The configuration that was read, the recording, and the names of the parts.
+// The configuration that was read, the recording, the operation that each accepted step is about, and the names of the parts.
 #[derive(Clone, Copy)]
 pub struct Case<'a> {
     pub cfg: Config,
     pub recording: &'a [u8],
+    pub operations: &'a [Option<u8>],
     pub names: &'a Names,
     pub asked: Asked,
 }

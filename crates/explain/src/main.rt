@@ -148,11 +148,11 @@ fn show_why<R: Print>(
 }
 
 // All rows of a few steps, of a page, and where they are asked for.
-fn rows_of(case: Case, operations: &[Option<u8>], focus: Focus) -> Rows {
-    if case.asked != Asked::Text || operations.len() < FEW {
+fn rows_of(case: Case, focus: Focus) -> Rows {
+    if case.asked != Asked::Text || case.operations.len() < FEW {
         Rows::All
     } else {
-        Rows::last(case.recording, operations, focus)
+        Rows::last(case, focus)
     }
 }
 
@@ -160,32 +160,20 @@ fn rows_of(case: Case, operations: &[Option<u8>], focus: Focus) -> Rows {
 const FEW: usize = 31;
 
 // The table of accepted steps: measured, then shown. Its columns, and the time behind the last step.
-fn show_table<R: Print>(
-    rt: &R,
-    case: Case,
-    operations: &[Option<u8>],
-    rows: Rows,
-) -> (Widths, u64) {
-    let widths = table::measured(case, operations, rows);
+fn show_table<R: Print>(rt: &R, case: Case, rows: Rows) -> (Widths, u64) {
+    let widths = table::measured(case, rows);
     if case.asked.is_page() {
         page::show_head(rt, case.names, &widths);
     } else {
         table::show_head(rt, case.names, &widths);
     }
-    let ms = table::show_rows(rt, case, operations, rows, &widths);
+    let ms = table::show_rows(rt, case, rows, &widths);
     (widths, ms)
 }
 
 // What stands around the table of a refused step.
-fn show_reasons<R: Print>(
-    rt: &R,
-    case: Case,
-    operations: &[Option<u8>],
-    st: State,
-    focus: Focus,
-    refused: Refused,
-) {
-    let calls = calls::calls_until(case.recording, operations);
+fn show_reasons<R: Print>(rt: &R, case: Case, st: State, focus: Focus, refused: Refused) {
+    let calls = calls::calls_of(case);
     start_text(rt, case.asked);
     show_why(rt, case.names, st, &calls, focus, refused);
     sections::show_allowed(rt, case, st);
@@ -196,15 +184,8 @@ fn show_reasons<R: Print>(
 }
 
 // The accepted steps, and the refused one behind them.
-fn show_steps<R: Print>(
-    rt: &R,
-    case: Case,
-    operations: &[Option<u8>],
-    focus: Focus,
-    refused: Refused,
-) {
-    let rows = rows_of(case, operations, focus);
-    let (widths, ms) = show_table(rt, case, operations, rows);
+fn show_steps<R: Print>(rt: &R, case: Case, focus: Focus, refused: Refused) {
+    let (widths, ms) = show_table(rt, case, rows_of(case, focus));
     if case.asked.is_page() {
         page::show_refused(rt, case.names, refused, ms);
         page::show_foot(rt);
@@ -222,7 +203,8 @@ fn tell_step<R: Print>(
     place: usize,
     rule: u8,
 ) {
-    let st = calls::note_operations(case.cfg, case.recording, operations);
+    let st = calls::note_operations(case, operations);
+    let case = Case { operations, ..case };
     let refused = Refused {
         step: x,
         cause: causes::cause_of(case.cfg, st, x),
@@ -234,12 +216,12 @@ fn tell_step<R: Print>(
     show_verdict(rt, case, refused);
     end_text(rt, case.asked);
     if case.asked.is_page() {
-        show_reasons(rt, case, operations, st, focus, refused);
+        show_reasons(rt, case, st, focus, refused);
         say(rt, "<p><a href=\"#x\">To the refused step</a></p>\n");
-        show_steps(rt, case, operations, focus, refused);
+        show_steps(rt, case, focus, refused);
     } else {
-        show_steps(rt, case, operations, focus, refused);
-        show_reasons(rt, case, operations, st, focus, refused);
+        show_steps(rt, case, focus, refused);
+        show_reasons(rt, case, st, focus, refused);
     }
 }
 
@@ -257,9 +239,10 @@ fn end_text<R: Print>(rt: &R, asked: Asked) {
 
 // A field that can't be read, behind the accepted steps.
 fn tell_damaged<R: Print>(rt: &R, case: Case, operations: &mut [Option<u8>], place: usize) {
-    calls::note_operations(case.cfg, case.recording, operations);
+    calls::note_operations(case, operations);
+    let case = Case { operations, ..case };
     show_damaged(rt, case.asked, operations.len(), place);
-    show_all(rt, case, operations);
+    show_all(rt, case);
     if case.asked.is_page() {
         page::show_foot(rt);
     }
@@ -283,8 +266,8 @@ fn show_damaged<R: Print>(rt: &R, asked: Asked, steps: usize, place: usize) {
 fn readable(recording: &[u8], most: usize) -> usize {
     recording
         .chunks_exact(numbers::SIZE_STEP)
+        .map_while(calls::step_in)
         .take(most)
-        .take_while(|field| calls::step_in(field).is_some())
         .count()
 }
 
@@ -334,7 +317,8 @@ fn tell_taken<R: Print>(rt: &R, case: Case, steps: usize, whole: bool) {
     let Some(operations) = room.get_mut(..steps) else {
         return;
     };
-    calls::note_operations(case.cfg, case.recording, operations);
+    calls::note_operations(case, operations);
+    let case = Case { operations, ..case };
     let mut line = Taken::new();
     put_taken(&mut line, steps, whole);
     start_text(rt, case.asked);
@@ -342,22 +326,22 @@ fn tell_taken<R: Print>(rt: &R, case: Case, steps: usize, whole: bool) {
     end_text(rt, case.asked);
     if case.asked.is_page() {
         start_text(rt, case.asked);
-        sections::show_calls(rt, case, operations);
+        sections::show_calls(rt, case);
         end_text(rt, case.asked);
-        show_all(rt, case, operations);
+        show_all(rt, case);
         page::show_foot(rt);
         return;
     }
     if steps < FEW || case.asked.is_all() {
-        show_all(rt, case, operations);
+        show_all(rt, case);
         say(rt, "\n");
     }
-    sections::show_calls(rt, case, operations);
+    sections::show_calls(rt, case);
 }
 
 // The table of steps that are all accepted.
-fn show_all<R: Print>(rt: &R, case: Case, operations: &[Option<u8>]) {
-    show_table(rt, case, operations, rows_of(case, operations, Focus::NONE));
+fn show_all<R: Print>(rt: &R, case: Case) {
+    show_table(rt, case, rows_of(case, Focus::NONE));
 }
 
 // ---- the two files
@@ -392,6 +376,7 @@ fn tell<R: Print>(rt: &R, config: &[u8], recording: &[u8], names: &Names, asked:
     let case = Case {
         cfg: reading::read_config(config).config,
         recording,
+        operations: &[],
         names,
         asked,
     };
@@ -411,13 +396,10 @@ fn read_arg<R: Env + Files + Input, E: Print>(rt: &R, stderr: &E, i: usize, buf:
     let mut name = [0u8; program_io::NAME_ROOM];
     let n = program_io::arg(rt, i, &mut name);
     let got = program_io::read_named(rt, &name[..n], buf);
-    match got {
-        Got::Bytes(k) => Got::Bytes(k),
-        Got::Failed(e) => {
-            program_io::fail(stderr, &name[..n], e);
-            got
-        }
+    if let Got::Failed(e) = got {
+        program_io::fail(stderr, &name[..n], e);
     }
+    got
 }
 
 // Takes the names of the file that the fourth argument names, if there is one; whether it could be read.
@@ -431,8 +413,7 @@ fn load_names<R: Env + Files + Input, E: Print>(
     if program_io::arg_count(rt) < 5 {
         return true;
     }
-    let got = read_arg(rt, stderr, 4, text);
-    let Got::Bytes(n) = got else {
+    let Got::Bytes(n) = read_arg(rt, stderr, 4, text) else {
         return false;
     };
     names.take(&text[..n], page);
@@ -457,12 +438,10 @@ fn run<R: Env + Files + Input + Print, E: Print>(
     if !load_names(rt, stderr, names, text, asked.is_page()) {
         return;
     }
-    let c = read_arg(rt, stderr, 2, config);
-    let Got::Bytes(n) = c else {
+    let Got::Bytes(n) = read_arg(rt, stderr, 2, config) else {
         return;
     };
-    let r = read_arg(rt, stderr, 3, recording);
-    let Got::Bytes(m) = r else {
+    let Got::Bytes(m) = read_arg(rt, stderr, 3, recording) else {
         return;
     };
     tell(rt, &config[..n], &recording[..m], names, asked);

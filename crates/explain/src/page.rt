@@ -4,6 +4,8 @@ use crate::names::Names;
 use crate::putting::{Text, say};
 use crate::table::{Lane, Refused, Row, Widths};
 use crate::words::is_slots;
+use config::OperationConfs;
+use state::Slots;
 
 // The page up to its table.
 pub(crate) fn show_top<R: Print>(rt: &R) {
@@ -79,7 +81,7 @@ fn put_operation_head(heads: &mut Heads, names: &Names, o: u8, width: usize) {
 }
 
 fn put_lane_heads(heads: &mut Heads, widths: &Widths) {
-    for i in 0u8..32 {
+    for i in 0..Slots::MAX as u8 {
         put_lane_head(heads, i, widths.lane(i));
     }
 }
@@ -98,7 +100,7 @@ fn show_part<R: Print>(rt: &R, names: &Names, widths: &Widths) {
     put_wide(&mut heads, widths.scheduler);
     heads.put("scheduler</th>");
     put_lane_heads(&mut heads, widths);
-    for o in 0u8..8 {
+    for o in 0..OperationConfs::MAX as u8 {
         put_operation_head(&mut heads, names, o, widths.operation(o));
     }
     heads.put("</tr></thead><tbody>\n");
@@ -136,7 +138,7 @@ fn put_lane(line: &mut Shown, case: Case, row: Row, i: u8) {
 }
 
 fn put_lanes(line: &mut Shown, case: Case, widths: &Widths, row: Row) {
-    for i in 0u8..32 {
+    for i in 0..Slots::MAX as u8 {
         if widths.lane(i) != 0 {
             put_lane(line, case, row, i);
         }
@@ -175,7 +177,7 @@ pub(crate) fn show_row<R: Print>(rt: &R, case: Case, widths: &Widths, row: Row) 
     put_front(&mut line, row);
     line.put_scheduled(case.names, row.step);
     put_lanes(&mut line, case, widths, row);
-    for o in 0u8..8 {
+    for o in 0..OperationConfs::MAX as u8 {
         if widths.operation(o) != 0 {
             put_state(&mut line, row, o);
         }

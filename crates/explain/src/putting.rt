@@ -118,9 +118,9 @@ impl<const ROOM: usize> Text<ROOM> {
 
     // Takes the spaces at its end away.
     fn trim(&mut self) {
-        while self.size > 0 && self.bytes[self.size - 1] == b' ' {
-            self.size -= 1;
-        }
+        let text = self.as_bytes();
+        let spaces = text.iter().rev().take_while(|b| **b == b' ').count();
+        self.size = self.size.saturating_sub(spaces);
     }
 
     // Shows it as a line, without the spaces at its end.

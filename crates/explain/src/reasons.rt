@@ -1,6 +1,7 @@
 // The cause of a refusal in words, with what tells it from its neighbours.
 use crate::names::Names;
 use crate::putting::Text;
+use crate::words::{A_PAYLOAD, A_TIME, NOTHING};
 use values::{Step, Value};
 use whys::Cause;
 
@@ -46,9 +47,9 @@ fn put_instance(why: &mut Why, s: Step) {
 // 2: the entries of the step.
 fn put_argued(why: &mut Why, kind: u8, s: Step) {
     why.put(match kind {
-        0 => "this step takes no argument, and here is ",
-        1 => "this step hands over Void or a Number, and here is ",
-        3 => "this step takes a Number of 1 to 3,600,000 ms, and here is ",
+        NOTHING => "this step takes no argument, and here is ",
+        A_PAYLOAD => "this step hands over Void or a Number, and here is ",
+        A_TIME => "this step takes a Number of 1 to 3,600,000 ms, and here is ",
         _ => "this step takes a Number, and here is ",
     });
     why.put_value(s.argument);

@@ -6,7 +6,7 @@ use crate::putting::{Text, say};
 use crate::reasons::Why;
 use crate::words::is_slots;
 use gaps::Mended;
-use state::State;
+use state::{Slots, State};
 use values::{Answer, Step, Value};
 
 // ---- what is allowed
@@ -121,7 +121,7 @@ fn put_wait(options: &mut Options, most: u32) {
 pub(crate) fn show_allowed<R: Print>(rt: &R, case: Case, st: State) {
     say(rt, "\nAllowed here (what is handed over is left open):\n");
     show_scheduler(rt, case, st);
-    for i in 0u8..32 {
+    for i in 0..Slots::MAX as u8 {
         show_slot(rt, case, st, i);
     }
 }
@@ -192,9 +192,12 @@ fn show_fill<R: Print>(rt: &R, names: &Names, text: &[u8], steps: usize) {
     lines.show(rt);
 }
 
+// The bytes of a recording of one step.
+const ONE_STEP: usize = numbers::SIZE_STEP + numbers::SIZE_END;
+
 // The fill of the gap before a step, if there is one: a recording of this step alone is mended from the state reached.
 pub(crate) fn show_guess<R: Print>(rt: &R, case: Case, st: State, x: Step) {
-    let mut one = [0u8; 19];
+    let mut one = [0u8; ONE_STEP];
     recording::write_step(&mut one, 0, x);
     recording::write_end(&mut one, numbers::SIZE_STEP);
     let mut text = [0u8; 128];
@@ -325,19 +328,13 @@ impl Sums {
 }
 
 // The sums of an operation; of its calls those behind the first so many are shown where they end, if a number is given.
-fn tally<R: Print>(
-    rt: &R,
-    case: Case,
-    operations: &[Option<u8>],
-    o: u8,
-    first: Option<u32>,
-) -> Sums {
+fn tally<R: Print>(rt: &R, case: Case, o: u8, first: Option<u32>) -> Sums {
     let mut sums = Sums::NONE;
-    let steps = case.recording.chunks_exact(numbers::SIZE_STEP);
-    for (k, (field, about)) in steps.zip(operations).enumerate() {
-        let Some(x) = step_in(field) else {
-            break;
-        };
+    let recording = case.recording;
+    let steps = recording
+        .chunks_exact(numbers::SIZE_STEP)
+        .map_while(step_in);
+    for (k, (x, about)) in steps.zip(case.operations).enumerate() {
         if let Some(call) = sums.add(o, *about, x, k + 1) {
             if first.is_some_and(|n| n < sums.started) {
                 show_call(rt, call, sums.ms);
@@ -377,8 +374,8 @@ fn show_skipped<R: Print>(rt: &R, n: u32) {
 }
 
 // An operation and its calls: the last twelve, or all.
-fn show_operation<R: Print>(rt: &R, case: Case, operations: &[Option<u8>], o: u8) {
-    let sums = tally(rt, case, operations, o, None);
+fn show_operation<R: Print>(rt: &R, case: Case, o: u8) {
+    let sums = tally(rt, case, o, None);
     show_sums(rt, case.names, &sums, o);
     if sums.started == 0 {
         return;
@@ -389,7 +386,7 @@ fn show_operation<R: Print>(rt: &R, case: Case, operations: &[Option<u8>], o: u8
         sums.started.saturating_sub(12)
     };
     show_skipped(rt, first);
-    let told = tally(rt, case, operations, o, Some(first));
+    let told = tally(rt, case, o, Some(first));
     if let Some(last) = told.calls.get(o) {
         if last.ended.is_none() {
             show_call(rt, last, told.ms);
@@ -398,8 +395,8 @@ fn show_operation<R: Print>(rt: &R, case: Case, operations: &[Option<u8>], o: u8
 }
 
 // Every operation and its calls.
-pub(crate) fn show_calls<R: Print>(rt: &R, case: Case, operations: &[Option<u8>]) {
+pub(crate) fn show_calls<R: Print>(rt: &R, case: Case) {
     for o in 0..case.cfg.operations.n.min(Calls::OPERATIONS as u8) {
-        show_operation(rt, case, operations, o);
+        show_operation(rt, case, o);
     }
 }

@@ -4,8 +4,8 @@ use crate::case::Case;
 use crate::names::Names;
 use crate::putting::Text;
 use crate::words::is_slots;
-use config::Config;
-use state::State;
+use config::{Config, OperationConfs};
+use state::{Slots, State};
 use values::{Answer, Step, Value};
 use whys::Cause;
 
@@ -18,9 +18,9 @@ pub struct Widths {
 }
 
 impl Widths {
-    const LANES: usize = 32;
+    const LANES: usize = Slots::MAX;
 
-    const OPERATIONS: usize = 8;
+    const OPERATIONS: usize = OperationConfs::MAX;
 
     const NONE: Widths = Widths {
         scheduler: 9,
@@ -130,12 +130,13 @@ pub enum Rows {
 
 impl Rows {
     // The last 24 that bear on a focus.
-    pub(crate) fn last(recording: &[u8], operations: &[Option<u8>], focus: Focus) -> Rows {
+    pub(crate) fn last(case: Case, focus: Focus) -> Rows {
         let mut n: usize = 0;
-        for (field, o) in recording.chunks_exact(numbers::SIZE_STEP).zip(operations) {
-            let Some(x) = step_in(field) else {
-                break;
-            };
+        let recording = case.recording;
+        let steps = recording
+            .chunks_exact(numbers::SIZE_STEP)
+            .map_while(step_in);
+        for (x, o) in steps.zip(case.operations) {
             if focus.bears(*o, x) {
                 n = n.saturating_add(1);
             }
@@ -199,10 +200,10 @@ pub struct Refused {
 // The step of the call that has this number on an operation: of so many calls that were started there, the last.
 fn place_of_call(recording: &[u8], o: u8, number: u16) -> usize {
     let mut left = number;
-    for (k, field) in recording.chunks_exact(numbers::SIZE_STEP).enumerate() {
-        let Some(x) = step_in(field) else {
-            break;
-        };
+    let steps = recording
+        .chunks_exact(numbers::SIZE_STEP)
+        .map_while(step_in);
+    for (k, x) in steps.enumerate() {
         if starts_call(x, o) {
             if left == 0 {
                 return k + 1;
@@ -406,7 +407,7 @@ fn put_slots(line: &mut Shown, case: Case, widths: &Widths, row: Row) {
     if widths.are_shared() {
         return put_shared(line, case, row);
     }
-    for i in 0u8..32 {
+    for i in 0..Slots::MAX as u8 {
         put_cell(line, case, row, i, widths.lane(i));
     }
 }
@@ -426,7 +427,7 @@ fn show_row<R: Print>(rt: &R, case: Case, widths: &Widths, row: Row) {
     line.put_scheduled(case.names, row.step);
     line.end_cell(from, widths.scheduler);
     put_slots(&mut line, case, widths, row);
-    for o in 0u8..8 {
+    for o in 0..OperationConfs::MAX as u8 {
         put_state(&mut line, row.after, o, widths.operation(o));
     }
     line.show_line(rt);
@@ -454,7 +455,7 @@ fn put_slot_heads(line: &mut Shown, widths: &Widths) {
         line.put("slots");
         return line.end_cell(from, Widths::SHARED);
     }
-    for i in 0u8..32 {
+    for i in 0..Slots::MAX as u8 {
         put_lane_head(line, i, widths.lane(i));
     }
 }
@@ -466,7 +467,7 @@ pub(crate) fn show_head<R: Print>(rt: &R, names: &Names, widths: &Widths) {
     line.put("scheduler");
     line.end_cell(from, widths.scheduler);
     put_slot_heads(&mut line, widths);
-    for o in 0u8..8 {
+    for o in 0..OperationConfs::MAX as u8 {
         put_operation_head(&mut line, names, o, widths.operation(o));
     }
     line.show_line(rt);
@@ -474,7 +475,7 @@ pub(crate) fn show_head<R: Print>(rt: &R, names: &Names, widths: &Widths) {
 
 // The empty lanes of the slots before the one that acts.
 fn put_before(line: &mut Shown, widths: &Widths, who: u8) {
-    for i in 0..who.min(32) {
+    for i in 0..who.min(Slots::MAX as u8) {
         if widths.lane(i) != 0 {
             let from = line.len();
             line.end_cell(from, widths.lane(i));
@@ -609,14 +610,14 @@ fn giving(st: State, x: Step) -> Step {
 }
 
 // The columns with room for all rows.
-pub(crate) fn measured(case: Case, operations: &[Option<u8>], rows: Rows) -> Widths {
+pub(crate) fn measured(case: Case, rows: Rows) -> Widths {
     let mut widths = Widths::NONE;
     let mut walk = Walk::start(case.cfg);
-    let steps = case.recording.chunks_exact(numbers::SIZE_STEP);
-    for (k, (field, o)) in steps.zip(operations).enumerate() {
-        let Some(x) = step_in(field) else {
-            break;
-        };
+    let recording = case.recording;
+    let steps = recording
+        .chunks_exact(numbers::SIZE_STEP)
+        .map_while(step_in);
+    for (k, (x, o)) in steps.zip(case.operations).enumerate() {
         let y = walk.pass(case.cfg, x);
         if walk.meets(rows, *o, y) {
             widths.widen(case, walk.row(k + 1, *o, y));
@@ -626,19 +627,13 @@ pub(crate) fn measured(case: Case, operations: &[Option<u8>], rows: Rows) -> Wid
 }
 
 // Shows the rows under these columns; the time behind the last step.
-pub(crate) fn show_rows<R: Print>(
-    rt: &R,
-    case: Case,
-    operations: &[Option<u8>],
-    rows: Rows,
-    widths: &Widths,
-) -> u64 {
+pub(crate) fn show_rows<R: Print>(rt: &R, case: Case, rows: Rows, widths: &Widths) -> u64 {
     let mut walk = Walk::start(case.cfg);
-    let steps = case.recording.chunks_exact(numbers::SIZE_STEP);
-    for (k, (field, o)) in steps.zip(operations).enumerate() {
-        let Some(x) = step_in(field) else {
-            break;
-        };
+    let recording = case.recording;
+    let steps = recording
+        .chunks_exact(numbers::SIZE_STEP)
+        .map_while(step_in);
+    for (k, (x, o)) in steps.zip(case.operations).enumerate() {
         let y = walk.pass(case.cfg, x);
         if walk.meets(rows, *o, y) {
             show_skipped(rt, walk.skipped);

@@ -3,10 +3,14 @@ use crate::names::Names;
 use crate::putting::Text;
 use values::{Step, Value};
 
-// What a row of the table of codes says of the argument (refusals::row_of).
-const PAYLOAD: u8 = 1;
+// What a row of the table of codes says (refusals::row_of): the step is of an instance; its argument is none, a payload or a time.
+const A_SLOT: u8 = 1;
 
-const TIME: u8 = 3;
+pub const NOTHING: u8 = 0;
+
+pub const A_PAYLOAD: u8 = 1;
+
+pub const A_TIME: u8 = 3;
 
 // The kinds of values that have a number, and those that have none.
 const VOID: u8 = Value::VOID.kind;
@@ -138,11 +142,11 @@ impl<const ROOM: usize> Text<ROOM> {
             return self.put_with(" ", v.number as u64);
         }
         match refusals::row_of(s.code).argument {
-            PAYLOAD => {
+            A_PAYLOAD => {
                 self.put(" ");
                 self.put_value(v);
             }
-            TIME => self.put_with(" for ", v.number as u64),
+            A_TIME => self.put_with(" for ", v.number as u64),
             _ => {}
         }
     }
@@ -199,5 +203,5 @@ impl<const ROOM: usize> Text<ROOM> {
 
 // A code is that of a step which the instance in a slot takes.
 pub(crate) fn is_slots(code: u8) -> bool {
-    refusals::row_of(code).who == 1
+    refusals::row_of(code).who == A_SLOT
 }
