@@ -21,6 +21,10 @@ fn main(rt: HostRuntime) {
     let mut recording = [0u8; judging::RECORDING_ROOM];
     let mut input = rt.reader();
     let mut out = io::writer(&rt);
-    let _ = (0..program_io::CASES)
-        .try_for_each(|_| one_case(&mut input, &mut out, &mut config, &mut recording));
+    let _ = (0..program_io::CASES).try_for_each(|_| one_case(
+        &mut input,
+        &mut out,
+        &mut config,
+        &mut recording,
+    ));
 }

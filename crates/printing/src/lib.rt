@@ -25,12 +25,7 @@ pub fn put_printed(buf: &mut [u8], at: usize, line: Line) -> Wrote
 }
 
 // A line of a word and N numbers.
-fn put_numbers<const N: usize>(
-    buf: &mut [u8],
-    at: usize,
-    word: &[u8],
-    numbers: [u64; N],
-) -> Wrote
+fn put_numbers<const N: usize>(buf: &mut [u8], at: usize, word: &[u8], numbers: [u64; N]) -> Wrote
     requires { N ≤ 5 }
     ensures { Written buf.old at (line_bytes word.now numbers.entry) result buf.new }
 {

@@ -1,7 +1,7 @@
 // What the programs share: how they are called, an input read to its end, and never half of it, packed cases, and a line printed in one write.
 #![tactic(auto)]
 
-ghost use Rattle.std.specs.Prelude.{◌≡◌, ◌%◌, ◌*◌, ◌+◌, ◌≤◌, [], ◌∷◌, fold, length, IfOk};
+ghost use Rattle.std.specs.Prelude.{◌≡◌, ◌%◌, ◌*◌, ◌+◌, ◌<◌, ◌≤◌, [], ◌∷◌, fold, length, IfOk};
 ghost use Rattle.lines.specs.Lines.{line_bytes};
 ghost use Rattle.printing.specs.Printed.{printed_of};
 ghost use Rattle.program_io.specs.Got.{Fits, Reads};
@@ -113,9 +113,29 @@ pub fn read_recording<'a, R: Input, E: Print>(
 ) -> io::Result<&'a [u8]>
     ensures { IfOk result (λ text. length text.now ≤ length recording.old) }
 {
-    let size = read_whole(&mut rt.reader(), recording)
-        .inspect_err(|e| fail(stderr, b"standard input", *e))?;
+    let size = read_whole(&mut rt.reader(), recording).inspect_err(|e| fail(
+        stderr,
+        b"standard input",
+        *e,
+    ))?;
     Ok(&recording[..size])
+}
+
+// Reads a recording on standard input that has to leave some of its room. Of a longer one the line `input too long` is printed, and it is an error too.
+pub fn read_within<'a, R: Input + Print, E: Print>(
+    rt: &R,
+    stderr: &E,
+    room: &'a mut [u8],
+) -> io::Result<&'a [u8]>
+    ensures { IfOk result (λ text. length text.now < length room.old) }
+{
+    let full = room.len();
+    let recording = read_recording(rt, stderr, room)?;
+    if recording.len() == full {
+        print(&mut io::writer(rt), Line::TooLong);
+        return Err(Error::from(ErrorKind::FileTooLarge));
+    }
+    Ok(recording)
 }
 
 // Reads rte.cfg, and a recording on standard input. Where one fails, standard error says which and why.
@@ -127,8 +147,7 @@ pub fn read_both<'a, R: Files + Input, E: Print>(
 ) -> io::Result<(&'a [u8], &'a [u8])>
     ensures { IfOk result (λ texts. (length texts.0.now ≤ length config.old) × (length texts.1.now ≤ length recording.old)) }
 {
-    let size =
-        read_file(rt, b"rte.cfg", config).inspect_err(|e| fail(stderr, b"rte.cfg", *e))?;
+    let size = read_file(rt, b"rte.cfg", config).inspect_err(|e| fail(stderr, b"rte.cfg", *e))?;
     let recording = read_recording(rt, stderr, recording)?;
     Ok((&config[..size], recording))
 }
