@@ -1,57 +1,8 @@
 // The outside cases of mending, packed on standard input as the judge's are. Prints the report of each with its last line, and behind it, where there is one, a sum over the bytes of the mended text.
 #![tactic(auto)]
 
-ghost use Rattle.std.specs.Prelude.{length};
-ghost use Rattle.program_io.specs.Got.{Fits};
-
 use mender::Told;
-use program_io::Got;
-use std::io::{self, Error, ErrorKind, Input, Read, Write};
-
-// The length that stands next, or none at the end of the input.
-fn next_length<I: Read>(input: &mut I) -> Got {
-    let mut head = [0u8; 4];
-    let got = program_io::read_whole(input, &mut head);
-    let Got::Bytes(n) = got else {
-        return got;
-    };
-    if n < 4 {
-        return Got::Failed(Error::from(ErrorKind::UnexpectedEof));
-    }
-    Got::Bytes(wire::number(head[0], head[1], head[2], head[3]) as usize)
-}
-
-// As many bytes as the length says, at the start of buf, or none where buf is too short for them.
-fn next_text<I: Read>(input: &mut I, buf: &mut [u8]) -> Got
-    ensures { Fits result (length buf.new) }
-{
-    let length = next_length(input);
-    let Got::Bytes(n) = length else {
-        return length;
-    };
-    if buf.len() < n {
-        return Got::Failed(Error::from(ErrorKind::InvalidData));
-    }
-    let got = program_io::read_whole(input, &mut buf[..n]);
-    let Got::Bytes(k) = got else {
-        return got;
-    };
-    if buf.len() < k {
-        return Got::Failed(Error::from(ErrorKind::InvalidData));
-    }
-    Got::Bytes(k)
-}
-
-// A sum over bytes in which each place counts by itself.
-fn sum_of(text: &[u8]) -> u32 {
-    let mut sum: u32 = 1;
-    let mut i: usize = 0;
-    while i < text.len() {
-        sum = (sum % 16777213) * 251 + text[i] as u32;
-        i = i + 1;
-    }
-    sum
-}
+use std::io::{self, Input, Read, Write};
 
 // The report, the last line and the sum.
 fn tell<W: Write>(printed: &mut W, config: &[u8], recording: &[u8]) {
@@ -62,56 +13,35 @@ fn tell<W: Write>(printed: &mut W, config: &[u8], recording: &[u8]) {
         mender::print_notes(printed, &report, notes);
         mender::print_told(printed, told);
         let size = mender::size_of(steps, &out);
-        let sum = sum_of(&out[..size]);
+        let sum = program_io::sum_of(&out[..size]);
         let _ = writeln!(printed, "sum {sum}");
     } else {
         mender::print_told(printed, told);
     }
 }
 
-// One case; whether there was one.
+// One case, or an error where there is none.
 fn one_case<I: Read, W: Write>(
     input: &mut I,
     out: &mut W,
     config: &mut [u8],
     recording: &mut [u8],
-) -> bool {
-    let c = next_text(input, config);
-    let Got::Bytes(n) = c else {
-        return false;
-    };
-    let r = next_text(input, recording);
-    let Got::Bytes(m) = r else {
-        return false;
-    };
-    tell(out, &config[..n], &recording[..m]);
-    true
-}
-
-// The cases one after the other. A loop that is proved has to end, so there is a bound that no input meets.
-fn every_case<I: Read, W: Write>(
-    input: &mut I,
-    out: &mut W,
-    config: &mut [u8],
-    recording: &mut [u8],
-) {
-    let mut left: u32 = 1000000;
-    while left > 0 {
-        if one_case(input, out, config, recording) {
-            left = left - 1;
-        } else {
-            return;
-        }
-    }
+) -> io::Result<()> {
+    let config = program_io::next_text(input, config)?;
+    let recording = program_io::next_text(input, recording)?;
+    tell(out, config, recording);
+    Ok(())
 }
 
 fn main(rt: HostRuntime) {
     let mut config = [0u8; judging::CONFIG_ROOM];
     let mut recording = [0u8; judging::RECORDING_ROOM];
-    every_case(
-        &mut rt.reader(),
-        &mut io::writer(&rt),
+    let mut input = rt.reader();
+    let mut out = io::writer(&rt);
+    let _ = (0..program_io::CASES).try_for_each(|_| one_case(
+        &mut input,
+        &mut out,
         &mut config,
         &mut recording,
-    );
+    ));
 }

@@ -1,7 +1,7 @@
 // What the programs share: how they are called, an input read to its end, and never half of it, packed cases, and a line printed in one write.
 #![tactic(auto)]
 
-ghost use Rattle.std.specs.Prelude.{◌≡◌, ◌%◌, ◌*◌, ◌+◌, ◌≤◌, [], ◌∷◌, fold, length, IfOk};
+ghost use Rattle.std.specs.Prelude.{◌≡◌, ◌%◌, ◌*◌, ◌+◌, ◌<◌, ◌≤◌, [], ◌∷◌, fold, length, IfOk};
 ghost use Rattle.lines.specs.Lines.{line_bytes};
 ghost use Rattle.printing.specs.Printed.{printed_of};
 ghost use Rattle.program_io.specs.Got.{Fits, Reads};
@@ -119,6 +119,23 @@ pub fn read_recording<'a, R: Input, E: Print>(
         *e,
     ))?;
     Ok(&recording[..size])
+}
+
+// Reads a recording on standard input that has to leave some of its room. Of a longer one the line `input too long` is printed, and it is an error too.
+pub fn read_within<'a, R: Input + Print, E: Print>(
+    rt: &R,
+    stderr: &E,
+    room: &'a mut [u8],
+) -> io::Result<&'a [u8]>
+    ensures { IfOk result (λ text. length text.now < length room.old) }
+{
+    let full = room.len();
+    let recording = read_recording(rt, stderr, room)?;
+    if recording.len() == full {
+        print(&mut io::writer(rt), Line::TooLong);
+        return Err(Error::from(ErrorKind::FileTooLarge));
+    }
+    Ok(recording)
 }
 
 // Reads rte.cfg, and a recording on standard input. Where one fails, standard error says which and why.
