@@ -225,10 +225,10 @@ module _ (cfg : Config) (c : config_sound cfg ≡ true) (q : ℕ) (y : is_queued
         go (no d) = rw (get_or-set_other st.elements.at k q z no_element d)
 
     -- a send: a linked queue with room has the value as its newest, any other is as it was
-    pushed : (w : List Value) (v : Value) → x.queue.queued < room → Follows st.elements q w
+    put-behind : (w : List Value) (v : Value) → x.queue.queued < room → Follows st.elements q w
         → Beside (λ (a b : Value). a ≡ b) void_v void_v (push_value x.queue v).queued (push_value x.queue v).at (w ++ (v ∷ []))
     unfolding pushed
-    pushed w v l r =
+    put-behind w v l r =
         let e : up_one x.queue.queued ≡ x.queue.queued + 1 = mod-eq_of_lt (omega (arith, l, length_most cfg c q)) in
         rw e (beside-push (λ (a b : Value). a ≡ b) void_v void_v x.queue.queued x.queue.at w v v (omega (arith, l, length_most cfg c q, places)) refl r)
 
@@ -237,7 +237,7 @@ module _ (cfg : Config) (c : config_sound cfg ≡ true) (q : ℕ) (y : is_queued
     unfolding fed_element accepts
     sent p v w false d e f r = rw e r
     sent p v w true false e f r = rw (e, y, f) r
-    sent p v w true true e f r = rw (e, y, f) (pushed w v (ltb-true _ _ f) r)
+    sent p v w true true e f r = rw (e, y, f) (put-behind w v (ltb-true _ _ f) r)
 
     follows-send : (s : Step) (w : List Value) → s.code ≡ send_code → Follows st.elements q w → Follows (fed cfg st s.what s.argument).elements q (values_after cfg q w s)
     unfolding fed values_after
@@ -317,18 +317,18 @@ names-parts cfg before after s st c e =
     there-named cfg m.mid s (first cfg m.mid st s after m.after)
 
 -- the answer to a receive, by its way
-oldest : (cfg : Config) (st : State) (s : Step) (w : List Value) {u : Value} {t : State} → Follows st.elements s.what w → Way cfg st s receive_code u t → u ≡ get_or w 0 no_data_v
+first-came : (cfg : Config) (st : State) (s : Step) (w : List Value) {u : Value} {t : State} → Follows st.elements s.what w → Way cfg st s receive_code u t → u ≡ get_or w 0 no_data_v
 unfolding oldest
-oldest cfg st s [] r (go.receive_none e i) = refl
-oldest cfg st s (v ∷ w) r (go.receive_none e i) = absurd (omega (arith, r.size, eqb-true (element_in st.elements s.what).queue.queued 0 e))
-oldest cfg st s [] r (go.receive z) = absurd (omega (arith, r.size, z.some))
-oldest cfg st s (v ∷ w) r (go.receive z) = r.each 0 z.some
+first-came cfg st s [] r (go.receive_none e i) = refl
+first-came cfg st s (v ∷ w) r (go.receive_none e i) = absurd (omega (arith, r.size, eqb-true (element_in st.elements s.what).queue.queued 0 e))
+first-came cfg st s [] r (go.receive z) = absurd (omega (arith, r.size, z.some))
+first-came cfg st s (v ∷ w) r (go.receive z) = r.each 0 z.some
 
 pub receives-oldest : OfSteps ReceivesOldest
 receives-oldest cfg before after s st c e k =
     let m = halves cfg (start_of cfg) st before (s ∷ after) e in
     let a = first cfg m.mid st s after m.after in
-    oldest cfg m.mid s (values_in cfg s.what before) (follows-at cfg c s.what (received-queued cfg m.mid s a k) before m.mid m.before) (way cfg m.mid s k refl a)
+    first-came cfg m.mid s (values_in cfg s.what before) (follows-at cfg c s.what (received-queued cfg m.mid s a k) before m.mid m.before) (way cfg m.mid s k refl a)
 
 -- who is held and receives finds a value: its queue is not empty, and as many are followed
 pub held-waits : OfSteps HeldWaits

@@ -15,17 +15,15 @@ mod table;
 mod words;
 
 ghost use Rattle.std.specs.Prelude.{length};
-ghost use Rattle.program_io.specs.Got.{Fits};
 
 use case::{Asked, Case};
 use judging::Line;
 use names::Names;
-use program_io::Got;
 use putting::{Text, say};
 use reasons::Why;
 use state::State;
 use std::env::Env;
-use std::io::Input;
+use std::io::{self, Input};
 use std::rt::Files;
 use table::{Focus, Refused, Rows, Widths};
 use values::Step;
@@ -389,41 +387,18 @@ fn tell<R: Print>(rt: &R, config: &[u8], recording: &[u8], names: &Names, asked:
     }
 }
 
-// The file that an argument names, read into buf.
-fn read_arg<R: Env + Files + Input, E: Print>(rt: &R, stderr: &E, i: usize, buf: &mut [u8]) -> Got
-    ensures { Fits result (length buf.new) }
-{
-    let mut name = [0u8; program_io::NAME_ROOM];
-    let n = program_io::arg(rt, i, &mut name);
-    let got = program_io::read_named(rt, &name[..n], buf);
-    if let Got::Failed(e) = got {
-        program_io::fail(stderr, &name[..n], e);
-    }
-    got
-}
-
-// Takes the names of the file that the fourth argument names, if there is one; whether it could be read.
+// Takes the names of the file that the fourth argument names, if there is one.
 fn load_names<R: Env + Files + Input, E: Print>(
     rt: &R,
     stderr: &E,
     names: &mut Names,
     text: &mut [u8],
     page: bool,
-) -> bool {
-    if program_io::arg_count(rt) < 5 {
-        return true;
+) -> io::Result<()> {
+    if 4 < program_io::arg_count(rt) {
+        names.take(program_io::read_arg(rt, stderr, 4, text)?, page);
     }
-    let Got::Bytes(n) = read_arg(rt, stderr, 4, text) else {
-        return false;
-    };
-    names.take(&text[..n], page);
-    true
-}
-
-fn ask<R: Env>(rt: &R) -> Asked {
-    let mut word = [0u8; 8];
-    program_io::arg(rt, 1, &mut word);
-    Asked::of(word[0])
+    Ok(())
 }
 
 fn run<R: Env + Files + Input + Print, E: Print>(
@@ -433,18 +408,13 @@ fn run<R: Env + Files + Input + Print, E: Print>(
     recording: &mut [u8],
     names: &mut Names,
     text: &mut [u8],
-) {
-    let asked = ask(rt);
-    if !load_names(rt, stderr, names, text, asked.is_page()) {
-        return;
-    }
-    let Got::Bytes(n) = read_arg(rt, stderr, 2, config) else {
-        return;
-    };
-    let Got::Bytes(m) = read_arg(rt, stderr, 3, recording) else {
-        return;
-    };
-    tell(rt, &config[..n], &recording[..m], names, asked);
+) -> io::Result<()> {
+    let asked = Asked::of(program_io::first_letter(rt));
+    load_names(rt, stderr, names, text, asked.is_page())?;
+    let config = program_io::read_arg(rt, stderr, 2, config)?;
+    let recording = program_io::read_arg(rt, stderr, 3, recording)?;
+    tell(rt, config, recording, names, asked);
+    Ok(())
 }
 
 fn main(rt: HostRuntime) {
@@ -452,7 +422,8 @@ fn main(rt: HostRuntime) {
     let mut recording = [0u8; judging::RECORDING_ROOM];
     let mut names = Names::new();
     let mut text = [0u8; 65536];
-    run(
+    // What can't be read has been named on standard error.
+    let _ = run(
         &rt,
         &rt.stderr(),
         &mut config,

@@ -16,7 +16,6 @@ mod tripping;
 
 use making::{Mistake, Unmade};
 use names::Known;
-use program_io::Got;
 use room::Room;
 use std::env::Env;
 use std::io::{Input, Write};
@@ -42,10 +41,9 @@ fn read_arg<R: Env + Files + Input, E: Print, const N: usize>(
 ) -> bool {
     let mut name = [0u8; program_io::NAME_ROOM];
     let n = program_io::arg(rt, i, &mut name);
-    let got = program_io::read_named(rt, &name[..n], &mut room.bytes);
-    match got {
-        Got::Bytes(size) => room.size = size,
-        Got::Failed(e) => {
+    match program_io::read_named(rt, &name[..n], &mut room.bytes) {
+        Ok(size) => room.size = size,
+        Err(e) => {
             program_io::fail(stderr, &name[..n], e);
             return false;
         }
@@ -197,20 +195,12 @@ fn trip_input<R: Env + Input + Print, E: Print, const M: usize, const N: usize>(
     text: &mut Room<N>,
 ) {
     let mut shown = Room::<BYTES_ROOM>::new();
-    let got = program_io::read_whole(&mut rt.reader(), &mut text.bytes);
-    let size = match got {
-        Got::Bytes(size) => size,
-        Got::Failed(e) => return program_io::fail(stderr, b"standard input", e),
+    let size = match program_io::read_whole(&mut rt.reader(), &mut text.bytes) {
+        Ok(size) => size,
+        Err(e) => return program_io::fail(stderr, b"standard input", e),
     };
     let tally = tripping::trip(forms, &mut text.bytes[..size], &mut shown, bytes, times(rt));
     print_tally(rt, stderr, tally);
-}
-
-// What the first argument starts with.
-fn first_letter<R: Env>(rt: &R) -> u8 {
-    let mut how = [0u8; 8];
-    program_io::arg(rt, 1, &mut how);
-    how[0]
 }
 
 fn run<R: Env + Files + Input + Print, E: Print, const M: usize, const N: usize>(
@@ -220,7 +210,7 @@ fn run<R: Env + Files + Input + Print, E: Print, const M: usize, const N: usize>
     bytes: &mut Room<M>,
     text: &mut Room<N>,
 ) {
-    match first_letter(rt) {
+    match program_io::first_letter(rt) {
         b's' => show_arg(rt, stderr, forms, bytes, text),
         b'm' => make_arg(rt, stderr, forms, bytes, text),
         b't' => trip_input(rt, stderr, forms, bytes, text),
