@@ -186,7 +186,9 @@ fn field_of(t: &[u8]) -> Field
     }
     match t[0] {
         TAG_SHORT => step_by(refusals::row_of(byte_at(t, 3)), t),
-        numbers::TAG_END if wire::length_of(t[1], t[2]) == numbers::LENGTH_END => recording::end_in(t),
+        numbers::TAG_END if wire::length_of(t[1], t[2]) == numbers::LENGTH_END => recording::end_in(
+            t,
+        ),
         _ => Field::Refused(0, numbers::BAD_FIELD),
     }
 }
