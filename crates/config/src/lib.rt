@@ -14,13 +14,14 @@ use values::Part;
 pub fn bit(b: bool) -> u8
     ensures { result ≡ bit b }
 {
-    if b { 1 } else { 0 }
+    u8::from(b)
 }
 
 // The top of a capacity, and so the places of a queue.
 pub const MAX_CAPACITY: u8 = 16;
 
 // The parts of a kind in a configuration, in the order of the file and counted from 0; the first n places are in use.
+// Kept: a count beside an array, since there is no heap, and the definitions name both fields (no_parts, add_part).
 #[derive(Clone, Copy)]
 pub struct Table<T, const N: usize> {
     pub n: u8,
@@ -123,6 +124,7 @@ impl Part for RunnableConf {
     }
 }
 
+// Kept: a flag beside what it speaks of, since the field of the file and the definition start_variable have both.
 #[derive(Clone, Copy)]
 pub struct VariableConf {
     pub component: u8,
@@ -432,6 +434,7 @@ impl Lists {
     }
 
     // Where the pairs of the runnable r begin, or how many pairs there are.
+    // Kept: the number past the last stands for none, as the definition first_listed has it.
     pub fn first(self, r: u8) -> u8
         ensures { result ≡ first_listed self r }
     {
@@ -475,6 +478,7 @@ impl Lists {
     }
 
     // The place of the element q among those that the runnable r lists, or 4.
+    // Kept: the number past the last stands for none, as the definition place_of has it.
     pub fn place(self, r: u8, q: u8) -> u8
         ensures { result ≡ place_of self r q }
     {

@@ -70,6 +70,7 @@ fn fed_element(cfg: Config, p: u8, v: Value, q: u8, x: Element) -> Element
 }
 
 // The first n places of a row, each changed by f, which knows the place.
+// Kept: each public function has one answer (docs/contracts.md), and what this one answers is left to its closure, so it stays private here and in crate copies.
 fn each<T: Copy, F: Fn(u8, T) -> T>(row: &mut [T], n: u8, f: F)
     requires room { n ≤ length row.old }
     requires calls { F.IsAlwaysCallable f }

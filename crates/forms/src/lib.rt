@@ -4,7 +4,6 @@
 ghost use Rattle.std.specs.Prelude.{◌≡◌, ◌+◌, ◌≤◌, length, get_or, drop, take};
 ghost use Rattle.laws.specs.Choice.{pick};
 ghost use Rattle.wire.specs.Bytes.{put_at, Written};
-ghost use Rattle.recording.specs.Recording.{values_good, end_in};
 ghost use Rattle.forms.specs.Short.{uses_who, uses_what, uses_argument, is_sparing, has_short, keeps_number, short_value, if_used, body_of, short_bytes, short_to, short_written, value_size, short_value_at, what_at, argument_at, claim_at, short_step_at, short_step_by, short_field_of, header_bytes, is_short, is_headed};
 
 use recording::Field;
@@ -37,7 +36,7 @@ fn byte_at(t: &[u8], i: usize) -> u8
 fn keeps_number(k: u8) -> bool
     ensures { result ≡ keeps_number k }
 {
-    k == 1 || k == 8
+    k == Value::NUMBER || k == Value::FULL
 }
 
 // How many bytes a value of a kind has.
@@ -71,7 +70,7 @@ fn value_at(t: &[u8], i: usize) -> Value
 fn uses_who(r: Row) -> bool
     ensures { result ≡ uses_who r }
 {
-    r.who == 1
+    r.who == rules::A_SLOT
 }
 
 // Its step names a part.
@@ -136,26 +135,6 @@ fn claim_at(r: Row, t: &[u8]) -> usize
     }
 }
 
-// Neither the argument nor the claim is a bad value.
-#[tactic(auto, unfolding(recording::specs::Recording::values_good))]
-fn values_good(s: Step) -> bool
-    ensures { result ≡ values_good s }
-{
-    s.argument.is_good() && s.claim.is_good()
-}
-
-// The end field at the front of a text: nothing follows it.
-#[tactic(auto, unfolding(recording::specs::Recording::end_in))]
-fn end_in(t: &[u8]) -> Field
-    ensures { result ≡ end_in t.now }
-{
-    if t.len() == numbers::SIZE_END {
-        Field::End
-    } else {
-        Field::Refused(1, numbers::BAD_FIELD)
-    }
-}
-
 // The step whose field stands first; entries that its code does not use are empty.
 fn step_at(r: Row, t: &[u8]) -> Step
     ensures { result ≡ short_step_at r t.now }
@@ -190,7 +169,7 @@ fn step_by(r: Row, t: &[u8]) -> Field
     let size = numbers::HEAD + wire::length_of(byte_at(t, 1), byte_at(t, 2));
     if 0 < r.who && end == size && end <= t.len() {
         let s = step_at(r, t);
-        if values_good(s) {
+        if recording::values_good(s) {
             return Field::Step(s, end);
         }
     }
@@ -207,7 +186,9 @@ fn field_of(t: &[u8]) -> Field
     }
     match t[0] {
         TAG_SHORT => step_by(refusals::row_of(byte_at(t, 3)), t),
-        numbers::TAG_END if wire::length_of(t[1], t[2]) == numbers::LENGTH_END => end_in(t),
+        numbers::TAG_END if wire::length_of(t[1], t[2]) == numbers::LENGTH_END => recording::end_in(
+            t,
+        ),
         _ => Field::Refused(0, numbers::BAD_FIELD),
     }
 }
@@ -329,7 +310,7 @@ pub fn write_short(buf: &mut [u8], at: usize, s: Step) -> Wrote
     ensures value { result ≡ short_to buf.old at s }
     ensures buf_after { buf.new ≡ short_written buf.old at s }
 {
-    if !values_good(s) {
+    if !recording::values_good(s) {
         return Wrote::Refused(numbers::BAD_FIELD);
     }
     if !has_short(s) {

@@ -228,6 +228,12 @@ wire-write κs a x y s t p q = written_once _ _ _ _ _ _ _ p q
 
 -- ---- recording
 
+pub recording-values-good : One Rattle.recording.proofs.values_good.Kinds.ps Rattle.recording.proofs.values_good.Kinds.r Rattle.recording.proofs.values_good.Reads.Post
+recording-values-good κs a x y s t = same
+
+pub recording-end-in : One Rattle.recording.proofs.end_in.Kinds.ps Rattle.recording.proofs.end_in.Kinds.r Rattle.recording.proofs.end_in.Reads.Post
+recording-end-in κs a x y s t = same
+
 pub recording-read-field : One Rattle.recording.proofs.read_field.Kinds.ps Rattle.recording.proofs.read_field.Kinds.r Rattle.recording.proofs.read_field.Reads.Post
 recording-read-field κs a x y s t = same
 

@@ -93,6 +93,7 @@ fn slot_stops(t: u32, x: Slot) -> bool
 }
 
 // The first operation whose count lets no more than t pass, or how many operations there are; and so for timers and for slots.
+// Kept: the number past the last stands for none, as the definition operation_stop has it.
 pub fn operation_stop(cfg: Config, os: Operations, t: u32) -> u8
     ensures { result ≡ operation_stop cfg os t }
 {
@@ -100,6 +101,7 @@ pub fn operation_stop(cfg: Config, os: Operations, t: u32) -> u8
     (0..n).find(|o| operation_stops(t, os.get(*o))).unwrap_or(n)
 }
 
+// Kept: the number past the last stands for none, as the definition timer_stop has it.
 pub fn timer_stop(cfg: Config, ts: Timers, t: u32) -> u8
     ensures { result ≡ timer_stop cfg ts t }
 {
@@ -107,6 +109,7 @@ pub fn timer_stop(cfg: Config, ts: Timers, t: u32) -> u8
     (0..n).find(|k| timer_stops(t, ts.get(*k))).unwrap_or(n)
 }
 
+// Kept: the number past the last stands for none, as the definition slot_stop has it.
 pub fn slot_stop(ss: Slots, t: u32) -> u8
     ensures { result ≡ slot_stop ss t }
 {

@@ -18,7 +18,7 @@ pub enum Field {
 
 // Neither the argument nor the claim is a bad value.
 #[tactic(auto, unfolding(crate::specs::Recording::values_good))]
-fn values_good(s: Step) -> bool
+pub fn values_good(s: Step) -> bool
     ensures { result ≡ values_good s }
 {
     s.argument.is_good() && s.claim.is_good()
@@ -65,7 +65,7 @@ fn step_in(t: &[u8]) -> Field
 
 // The end field at the front of a text: nothing follows it.
 #[tactic(auto, unfolding(crate::specs::Recording::end_in))]
-fn end_in(t: &[u8]) -> Field
+pub fn end_in(t: &[u8]) -> Field
     ensures { result ≡ end_in t.now }
 {
     if t.len() == numbers::SIZE_END {

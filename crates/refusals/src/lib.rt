@@ -8,38 +8,12 @@ ghost use Rattle.rules.specs.Rows.{row_of};
 ghost use Rattle.rules.specs.Refusals.{argues, formed, part_there, lists_of, listed_there, named_there, queues_as, part_own, asks_synchronous, asks_waiting, finished_lets, failed_lets, ends_waiting, waiting_lets, life_lets, owned_refusal, instance_refusal, scheduler_refusal};
 
 use config::{Config, Lists};
-use rules::Row;
+use rules::{
+    A_NUMBER, A_PAYLOAD, A_SLOT, A_TIME, ANYHOW, COPIED, NO_PART, NOBODY, NOTHING, QUEUED, Row,
+    SCHEDULER, UNQUEUED,
+};
 use state::{Life, Slots};
 use values::{Step, Value};
-
-// Kept: `Row` and the table of steps in specs/ (`rows`) say who, which part, which queueing and which argument by these numbers.
-// Who takes a step.
-const NOBODY: u8 = 0;
-
-const A_SLOT: u8 = 1;
-
-const SCHEDULER: u8 = 2;
-
-// What it names: the tag of the kind of part, or none.
-const NO_PART: u8 = 0;
-
-// Which queueing an element is to have.
-const ANYHOW: u8 = 0;
-
-const UNQUEUED: u8 = 1;
-
-const QUEUED: u8 = 2;
-
-const COPIED: u8 = 3;
-
-// Its argument.
-const NOTHING: u8 = 0;
-
-const A_PAYLOAD: u8 = 1;
-
-const A_NUMBER: u8 = 2;
-
-const A_TIME: u8 = 3;
 
 // A row of the table: who takes the step, the part, the queueing, the argument.
 macro_rules! row {
@@ -100,8 +74,8 @@ fn argues(k: u8, v: Value) -> bool
     match k {
         NOTHING => v.is_void(),
         A_PAYLOAD => v.is_payload(),
-        A_TIME => v.kind == 1 && entries::is_time(v.number),
-        _ => v.kind == 1,
+        A_TIME => v.kind == Value::NUMBER && entries::is_time(v.number),
+        _ => v.kind == Value::NUMBER,
     }
 }
 

@@ -55,11 +55,11 @@ fn filled<T, G: Fn(&T) -> bool, B: Fn(&T) -> bool>(row: &[T], n: u8, good: G, bl
 // ---- clients and queues
 
 // What stands where there is no client.
-#[tactic(auto, using(laws::proofs::Choosing::tests), unfolding(rules::specs::Sound::is_no_client))]
+#[tactic(auto, using(laws::proofs::Choosing::tests), unfolding(rules::specs::Sound::is_no_client, values::specs::Values::is_void))]
 fn is_no_client(c: Client) -> bool
     ensures { result ≡ is_no_client c }
 {
-    c.operation == 0 && c.number == 0 && c.argument.is_void()
+    c == Client::BLANK
 }
 
 // A client names an operation of its server r, and hands over a payload.
@@ -230,7 +230,7 @@ fn timer_sound(t: TimerConfs, k: u8, x: Timer) -> bool
 fn is_no_awaited(a: Awaited) -> bool
     ensures { result ≡ is_no_awaited a }
 {
-    a.part == 0 && a.on == 0 && a.left == 0
+    a == Awaited::BLANK
 }
 
 // A waiter's operation is there, is synchronous, and belongs to the waiter's component; its count is the call's, and none is here.
@@ -332,22 +332,23 @@ fn stack_sound(cfg: Config, l: Life, s: Stack) -> bool
 }
 
 // The life of no instance.
-#[tactic(auto, using(laws::proofs::Choosing::tests), unfolding(rules::specs::Sound::is_no_life, laws::specs::Choice::all_of))]
+#[tactic(auto, using(laws::proofs::Choosing::tests), unfolding(rules::specs::Sound::is_no_life, rules::specs::Sound::is_no_awaited, laws::specs::Choice::all_of))]
 fn is_no_life(l: Life) -> bool
     ensures { result ≡ is_no_life l }
 {
-    l.runnable == 0 && is_no_awaited(l.awaited) && !l.finished && !l.failed
+    l == Life::BLANK
 }
 
 // Nobody is owed.
-#[tactic(auto, using(laws::proofs::Choosing::tests), unfolding(rules::specs::Sound::is_no_owed))]
+#[tactic(auto, using(laws::proofs::Choosing::tests), unfolding(rules::specs::Sound::is_no_owed, rules::specs::Sound::is_no_client, values::specs::Values::is_void))]
 fn is_no_owed(w: Owed) -> bool
     ensures { result ≡ is_no_owed w }
 {
-    !w.serving && is_no_client(w.client)
+    w == Owed::BLANK
 }
 
 // No area is held.
+// Kept: no comparison with Stack::BLANK, since the definition is_no_stack goes over the places as it does in use (filled).
 fn is_no_stack(s: Stack) -> bool
     ensures { result ≡ is_no_stack s }
 {
@@ -390,7 +391,7 @@ fn has_copy(t: Lists, x: Slot, j: u8) -> bool
 fn is_no_copy(v: Value) -> bool
     ensures { result ≡ is_no_copy v }
 {
-    v.kind == Value::NEVER_RECEIVED.kind && v.number == 0
+    v == Value::NEVER_RECEIVED
 }
 
 // A place for a copy holds what an unqueued element may hold, or is blank if the instance has no copy there.

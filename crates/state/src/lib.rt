@@ -53,6 +53,7 @@ impl<T: Part, const N: usize> Places<T, N> {
 }
 
 // What waits, oldest first; the first `queued` places are in use.
+// Kept: a count beside an array, since there is no heap, and definitions name both fields (pushed, without_oldest).
 #[derive(Clone, Copy)]
 pub struct Queue<T> {
     pub queued: u8,
@@ -98,7 +99,7 @@ impl<T: Part> Queue<T> {
 }
 
 // A client: the operation called, the number of the call, and what the caller handed over.
-#[derive(Clone, Copy)]
+#[derive(Clone, Copy, PartialEq, Eq)]
 pub struct Client {
     pub operation: u8,
     pub number: u16,
@@ -232,6 +233,7 @@ impl Part for Element {
 }
 
 // The state of an operation: the number of its next or open call; Calling with a count, or Done with a value.
+// Kept: a flag beside what it speaks of, since a lent state may hold any of both, and step answers 1 for it (is_sound); see DECISIONS 144.
 #[derive(Clone, Copy)]
 pub struct Operation {
     pub number: u16,
@@ -275,7 +277,8 @@ impl Part for Timer {
 }
 
 // What an instance waits for: the tag of its kind of part, 0 while it waits for nothing, its number, and how long at most, for data alone.
-#[derive(Clone, Copy)]
+// Kept: a tag beside what it speaks of, since a lent state may hold any of both, and step answers 1 for it (is_sound); see DECISIONS 144.
+#[derive(Clone, Copy, PartialEq, Eq)]
 pub struct Awaited {
     pub part: u8,
     pub on: u8,
@@ -291,7 +294,7 @@ impl Awaited {
 }
 
 // How an instance lives: whose it is, what it waits for, whether it is finished, whether it has failed.
-#[derive(Clone, Copy)]
+#[derive(Clone, Copy, PartialEq, Eq)]
 pub struct Life {
     pub runnable: u8,
     pub awaited: Awaited,
@@ -309,7 +312,8 @@ impl Life {
 }
 
 // The client that an instance serves, if it serves one.
-#[derive(Clone, Copy)]
+// Kept: a flag beside what it speaks of, since a lent state may hold any of both, and step answers 1 for it (is_sound); see DECISIONS 144.
+#[derive(Clone, Copy, PartialEq, Eq)]
 pub struct Owed {
     pub serving: bool,
     pub client: Client,
@@ -323,6 +327,7 @@ impl Owed {
 }
 
 // The areas that an instance holds, the last entered last; the first `held` places are in use.
+// Kept: a count beside an array, since there is no heap, and definitions name both fields (push_area, pop_area); it is no Queue, since it takes at its end.
 #[derive(Clone, Copy)]
 pub struct Stack {
     pub held: u8,
@@ -366,6 +371,7 @@ impl Stack {
 }
 
 // An instance slot: empty, or with an instance in it.
+// Kept: a flag beside what it speaks of, since a lent state may hold any of both, and step answers 1 for it (is_sound); see DECISIONS 144.
 #[derive(Clone, Copy)]
 pub struct Slot {
     pub used: bool,
@@ -421,6 +427,7 @@ impl Slots {
 }
 
 // What one instance has copied of the elements that its runnable lists, or has set: in the places of the list, and NeverReceived where there is none, or where none was set.
+// Kept: not Places of Value, since a blank copy is NeverReceived, and the blank part of Value is Void; see DECISIONS 142.
 #[derive(Clone, Copy)]
 pub struct Copies {
     pub at: [Value; Copies::MAX],

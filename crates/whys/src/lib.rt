@@ -7,7 +7,7 @@ ghost use Rattle.state.specs.Tables.{max_slots, runnable_in, slot_in};
 ghost use Rattle.whys.specs.Whys.{form_cause, slot_cause, code_cause, part_cause, there_cause, own_cause, life_cause, holds_of, holder_of, top_cause, full_cause, serves_as, bearer_of, borne_cause, open_cause, due_cause, spawn_cause, stop_cause, early_cause, still_cause, owed_cause, why_of};
 
 use config::{Config, RunnableConf};
-use rules::Row;
+use rules::{A_SLOT, NO_PART, Row, SCHEDULER};
 use state::{Life, Owed, Runnable, Slots, Stack, State};
 use values::{Step, Value};
 
@@ -76,14 +76,6 @@ pub enum Cause {
     // (17) this is the right answer
     Differs(Value),
 }
-
-// What a row says: whose step it is, and whether it names a part.
-// Kept: `Row` and the table of steps in specs/ say so by these numbers.
-const A_SLOT: u8 = 1;
-
-const SCHEDULER: u8 = 2;
-
-const NO_PART: u8 = 0;
 
 const SLOTS: u8 = Slots::MAX as u8;
 
@@ -204,6 +196,7 @@ fn holds(a: u8, s: Stack) -> bool
 }
 
 // The slot that holds the area a, or how many slots there are.
+// Kept: the number past the last stands for none, as the definition holder_of has it.
 fn holder(slots: Slots, a: u8) -> u8
     ensures { result ≡ holder_of slots a }
 {
