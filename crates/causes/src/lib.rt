@@ -6,17 +6,10 @@ ghost use Rattle.causes.specs.Causes.{claim_cause, cause_of};
 ghost use Rattle.causes.specs.Allowed.{sample_of, probe_of, allowed_of};
 
 use config::Config;
+use rules::{A_PAYLOAD, A_TIME, NOTHING};
 use state::State;
 use values::{Answer, Step, Value};
 use whys::Cause;
-
-// What a row says of its argument.
-// Kept: `Row` and the table of steps in specs/ say so by these numbers.
-const NOTHING: u8 = 0;
-
-const A_PAYLOAD: u8 = 1;
-
-const A_TIME: u8 = 3;
 
 // 17, or no cause: by the answer that the step would have.
 #[tactic(auto, unfolding(crate::specs::Causes::claim_cause))]

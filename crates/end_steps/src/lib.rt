@@ -94,7 +94,7 @@ fn finishing(x: Slot) -> Slot
 fn hands_number(l: Life, v: Value) -> bool
     ensures { result ≡ both l.failed (is_number v) }
 {
-    l.failed && v.kind == 1
+    l.failed && v.kind == Value::NUMBER
 }
 
 // What a hand back delivers: ServerErr for an instance that has failed, its argument for any other.

@@ -242,7 +242,7 @@ fn write_gap(
     let inserted = fill.length as usize;
     recording::write_step(out, (n + inserted) * numbers::SIZE_STEP, s);
     let v = Value {
-        kind: 0,
+        kind: Value::VOID.kind,
         number: passed as u32,
     };
     write_note(report, (m + inserted) * NOTE, 2, 0, 0, v, n + inserted + 1);

@@ -29,7 +29,7 @@ fn is_wait(s: Step) -> bool
     s.code == numbers::CODE_WAIT
         && s.who == 0
         && s.what == 0
-        && s.argument.kind == 1
+        && s.argument.kind == Value::NUMBER
         && s.claim.is_void()
 }
 

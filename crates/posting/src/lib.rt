@@ -25,6 +25,7 @@ pub struct Row {
 }
 
 // The last lines, the newest in row 0; the first `count` rows have one.
+// Kept: a count beside an array, since there is no heap, and definitions name both fields.
 #[derive(Clone, Copy)]
 pub struct Board {
     pub count: u8,
@@ -52,7 +53,7 @@ pub struct Posted {
 fn done_shown(v: Value) -> Shown
     ensures { result ≡ done_shown v }
 {
-    if v.kind == 1 {
+    if v.kind == Value::NUMBER {
         return Shown::Final(v.number);
     }
     if is_unplanned(v) {

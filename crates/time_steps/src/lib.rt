@@ -93,6 +93,7 @@ fn instance_of(c: RunnableConf, r: u8, x: Runnable) -> Slot
 }
 
 // The lowest empty slot.
+// Kept: a loop left by break with the number, as DECISIONS lists it.
 fn found_empty(t: Slots) -> Option<u8>
     ensures { result ≡ found_empty t }
 {
