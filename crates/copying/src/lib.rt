@@ -14,6 +14,7 @@ pub fn is_sound(s: &[u8]) -> bool
     ensures { result ≡ is_sound s.now }
 {
     let mut at = 0;
+    // Kept: a field's length is known only when it is read, and read_field takes a place, so a loop over fields moves a place by lengths.
     loop {
         match recording::read_field(s, at) {
             Field::Step(_, size) => at += size,

@@ -1,9 +1,9 @@
 // The calls of a recording as its steps go by: for each operation its latest call, where it stands, where it ended and how, and what came too late; and for
 // each slot whether its instance has failed.
 use crate::case::Case;
-use config::OperationConfs;
+use config::OperationConf;
 use recording::Field;
-use state::{Slots, State};
+use state::{Slot, State};
 use values::{Step, Value};
 
 // The most steps that are looked at.
@@ -41,9 +41,9 @@ pub struct Calls {
 }
 
 impl Calls {
-    pub const OPERATIONS: usize = OperationConfs::MAX;
+    pub const OPERATIONS: usize = OperationConf::MAX;
 
-    const SLOTS: usize = Slots::MAX;
+    const SLOTS: usize = Slot::MAX;
 
     pub const NONE: Calls = Calls {
         of: [None; Calls::OPERATIONS],
@@ -176,7 +176,7 @@ pub(crate) fn served(st: State, i: u8) -> Option<u8> {
 
 // The slot whose instance waits on an operation, and so has not collected yet.
 pub(crate) fn waiter(st: State, o: u8) -> Option<u8> {
-    for i in 0..Slots::MAX as u8 {
+    for i in 0..Slot::MAX as u8 {
         let awaited = st.slots.get(i).life.awaited;
         if awaited.part == numbers::TAG_OPERATION && awaited.on == o {
             return Some(i);

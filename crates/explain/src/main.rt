@@ -14,8 +14,6 @@ mod sections;
 mod table;
 mod words;
 
-ghost use Rattle.std.specs.Prelude.{length};
-
 use case::{Asked, Case};
 use judging::Line;
 use names::Names;

@@ -4,8 +4,8 @@ use crate::case::Case;
 use crate::names::Names;
 use crate::putting::Text;
 use crate::words::is_slots;
-use config::{Config, OperationConfs};
-use state::{Slots, State};
+use config::{Config, OperationConf};
+use state::{Slot, State};
 use values::{Answer, Step, Value};
 use whys::Cause;
 
@@ -18,9 +18,9 @@ pub struct Widths {
 }
 
 impl Widths {
-    const LANES: usize = Slots::MAX;
+    const LANES: usize = Slot::MAX;
 
-    const OPERATIONS: usize = OperationConfs::MAX;
+    const OPERATIONS: usize = OperationConf::MAX;
 
     const NONE: Widths = Widths {
         scheduler: 9,
@@ -407,7 +407,7 @@ fn put_slots(line: &mut Shown, case: Case, widths: &Widths, row: Row) {
     if widths.are_shared() {
         return put_shared(line, case, row);
     }
-    for i in 0..Slots::MAX as u8 {
+    for i in 0..Slot::MAX as u8 {
         put_cell(line, case, row, i, widths.lane(i));
     }
 }
@@ -427,7 +427,7 @@ fn show_row<R: Print>(rt: &R, case: Case, widths: &Widths, row: Row) {
     line.put_scheduled(case.names, row.step);
     line.end_cell(from, widths.scheduler);
     put_slots(&mut line, case, widths, row);
-    for o in 0..OperationConfs::MAX as u8 {
+    for o in 0..OperationConf::MAX as u8 {
         put_state(&mut line, row.after, o, widths.operation(o));
     }
     line.show_line(rt);
@@ -455,7 +455,7 @@ fn put_slot_heads(line: &mut Shown, widths: &Widths) {
         line.put("slots");
         return line.end_cell(from, Widths::SHARED);
     }
-    for i in 0..Slots::MAX as u8 {
+    for i in 0..Slot::MAX as u8 {
         put_lane_head(line, i, widths.lane(i));
     }
 }
@@ -467,7 +467,7 @@ pub(crate) fn show_head<R: Print>(rt: &R, names: &Names, widths: &Widths) {
     line.put("scheduler");
     line.end_cell(from, widths.scheduler);
     put_slot_heads(&mut line, widths);
-    for o in 0..OperationConfs::MAX as u8 {
+    for o in 0..OperationConf::MAX as u8 {
         put_operation_head(&mut line, names, o, widths.operation(o));
     }
     line.show_line(rt);
@@ -475,7 +475,7 @@ pub(crate) fn show_head<R: Print>(rt: &R, names: &Names, widths: &Widths) {
 
 // The empty lanes of the slots before the one that acts.
 fn put_before(line: &mut Shown, widths: &Widths, who: u8) {
-    for i in 0..who.min(Slots::MAX as u8) {
+    for i in 0..who.min(Slot::MAX as u8) {
         if widths.lane(i) != 0 {
             let from = line.len();
             line.end_cell(from, widths.lane(i));

@@ -69,6 +69,7 @@ fn judge_sound(cfg: Config, st: State, s: &[u8], allowance: u32) -> Judged
     let mut left = allowance;
     let mut count: usize = 0;
     let mut at: usize = 0;
+    // Kept: a field's length is known only when it is read, and read_field takes a place, so a loop over fields moves a place by lengths.
     loop {
         let f = recording::read_field(s, at);
         let Field::Step(x, size) = f else {

@@ -76,6 +76,7 @@ fn survey(s: &[u8]) -> Merged
     let mut count: usize = 0;
     let mut steps: usize = 0;
     let mut at: usize = 0;
+    // Kept: a field's length is known only when it is read, and read_field takes a place, so a loop over fields moves a place by lengths.
     loop {
         let f = recording::read_field(s, at);
         let Field::Step(x, size) = f else {

@@ -49,6 +49,7 @@ fn survey(s: &[u8]) -> Moved
     let mut count: usize = 0;
     let mut size: usize = forms::SIZE_EDITION + numbers::SIZE_END;
     let mut at: usize = 0;
+    // Kept: a field's length is known only when it is read, and read_field takes a place, so a loop over fields moves a place by lengths.
     loop {
         let f = recording::read_field(s, at);
         let Field::Step(x, n) = f else {
