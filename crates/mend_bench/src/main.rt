@@ -16,8 +16,9 @@ fn main(rt: HostRuntime) {
     let mut recording = [0u8; judging::RECORDING_ROOM];
     let both = program_io::read_both(&rt, &rt.stderr(), &mut config, &mut recording);
     if let Ok((config, recording)) = both {
-        let times = program_io::arg_count(&rt);
-        let told = program_io::repeat(times, || once(config, recording));
-        mender::print_told(&mut io::writer(&rt), told);
+        for _ in 1..program_io::arg_count(&rt) {
+            once(config, recording);
+        }
+        mender::print_told(&mut io::writer(&rt), once(config, recording));
     }
 }

@@ -221,17 +221,6 @@ pub fn sum_of(text: &[u8]) -> u32
     sum
 }
 
-// What f gives, called as often as is said, once at least.
-pub fn repeat<T: Drop, F: Fn() -> T>(times: usize, f: F) -> T
-    requires { F.IsAlwaysCallable f }
-    ensures { F.post f result }
-{
-    for _ in 1..times {
-        f();
-    }
-    f()
-}
-
 // Reads rte.cfg and a recording on standard input, judges it as often as is said, once at least, and prints the last line. On a read that fails it prints none, and says what failed on standard error.
 pub fn run<R: Files + Input + Print, E: Print>(
     rt: &R,
@@ -241,8 +230,10 @@ pub fn run<R: Files + Input + Print, E: Print>(
     times: u32,
 ) {
     if let Ok((config, recording)) = read_both(rt, stderr, config, recording) {
-        let line = repeat(times as usize, || judging::line_of(config, recording));
-        print(&mut io::writer(rt), line);
+        for _ in 1..times {
+            judging::line_of(config, recording);
+        }
+        print(&mut io::writer(rt), judging::line_of(config, recording));
     }
 }
 
