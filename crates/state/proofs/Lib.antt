@@ -1,2 +1,3 @@
 -- Laws of the state's arrays.
+mod Ends
 mod Turning

@@ -38,7 +38,7 @@ impl<T: Part, const N: usize> Places<T, N> {
     pub fn get(self, i: u8) -> T
         ensures { result ≡ place_in T.blank self i }
     {
-        entry(self.at, i, T::blank())
+        entry(&self.at, i, T::blank())
     }
 
     // The table with x at place i; nothing changes past the last place.
@@ -46,9 +46,9 @@ impl<T: Part, const N: usize> Places<T, N> {
     pub fn with(self, i: u8, x: T) -> Places<T, N>
         ensures { result ≡ with_place self i x }
     {
-        Places {
-            at: put(self.at, i, x),
-        }
+        let mut t = self;
+        put(&mut t.at, i, x);
+        t
     }
 }
 
@@ -65,7 +65,7 @@ impl<T: Part> Queue<T> {
     pub fn get(self, j: u8) -> T
         ensures { result ≡ slice_index_or self.at j T.blank }
     {
-        entry(self.at, j, T::blank())
+        entry(&self.at, j, T::blank())
     }
 
     // One more, at the end.
@@ -73,10 +73,10 @@ impl<T: Part> Queue<T> {
     pub fn push(self, x: T) -> Queue<T>
         ensures { result ≡ pushed self x }
     {
-        Queue {
-            queued: up_one(self.queued),
-            at: put(self.at, self.queued, x),
-        }
+        let mut t = self;
+        put(&mut t.at, self.queued, x);
+        t.queued = up_one(self.queued);
+        t
     }
 
     #[tactic(auto, unfolding(crate::specs::Queues::oldest))]
@@ -344,10 +344,10 @@ impl Stack {
     pub fn push(self, a: u8) -> Stack
         ensures { result ≡ push_area self a }
     {
-        Stack {
-            held: up_one(self.held),
-            at: put(self.at, self.held, a),
-        }
+        let mut t = self;
+        put(&mut t.at, self.held, a);
+        t.held = up_one(self.held);
+        t
     }
 
     // The last entered.
@@ -355,18 +355,17 @@ impl Stack {
     pub fn top(self) -> u8
         ensures { result ≡ top_area self }
     {
-        entry(self.at, down_one(self.held), 0)
+        entry(&self.at, down_one(self.held), 0)
     }
 
     #[tactic(auto, unfolding(crate::specs::Queues::pop_area))]
     pub fn pop(self) -> Stack
         ensures { result ≡ pop_area self }
     {
-        let n = down_one(self.held);
-        Stack {
-            held: n,
-            at: put(self.at, n, 0),
-        }
+        let mut t = self;
+        t.held = down_one(self.held);
+        put(&mut t.at, t.held, 0);
+        t
     }
 }
 
@@ -445,7 +444,7 @@ impl Copies {
     pub fn get(self, j: u8) -> Value
         ensures { result ≡ copy_in self j }
     {
-        entry(self.at, j, Value::NEVER_RECEIVED)
+        entry(&self.at, j, Value::NEVER_RECEIVED)
     }
 
     // The copies with v at place j; nothing changes past the last place.
@@ -453,9 +452,9 @@ impl Copies {
     pub fn with(self, j: u8, v: Value) -> Copies
         ensures { result ≡ with_copy self j v }
     {
-        Copies {
-            at: put(self.at, j, v),
-        }
+        let mut t = self;
+        put(&mut t.at, j, v);
+        t
     }
 }
 
@@ -573,8 +572,8 @@ fn started<C: Starts, const N: usize>(t: Table<C, N>) -> Places<C::Begun, N>
     ensures { result ≡ started C.begun C.blank C.Begun.blank t }
 {
     let mut s = Places::none();
-    for k in 0..t.n {
-        s = s.with(k, t.get(k).start());
+    for k in 0..usize::from(t.n).min(N) {
+        s.at[k] = t.part(k).start();
     }
     s
 }
@@ -596,8 +595,8 @@ pub fn down_one(n: u8) -> u8
 // ---- arrays of any kind of entry
 
 // What stands at place i, or the blank entry past the last place.
-fn entry<T: Copy, const N: usize>(at: [T; N], i: u8, blank: T) -> T
-    ensures { result ≡ slice_index_or at i blank }
+fn entry<T: Copy, const N: usize>(at: &[T; N], i: u8, blank: T) -> T
+    ensures { result ≡ slice_index_or at.now i blank }
 {
     let k = i as usize;
     if k < N {
@@ -606,16 +605,14 @@ fn entry<T: Copy, const N: usize>(at: [T; N], i: u8, blank: T) -> T
     blank
 }
 
-// The array with x at place i; nothing changes past the last place.
-fn put<T: Copy, const N: usize>(at: [T; N], i: u8, x: T) -> [T; N]
-    ensures { result ≡ slice_set at i x }
+// Puts x at place i; nothing changes past the last place.
+fn put<T: Copy, const N: usize>(at: &mut [T; N], i: u8, x: T)
+    ensures { at.new ≡ slice_set at.old i x }
 {
-    let mut t = at;
     let k = i as usize;
     if k < N {
-        t[k] = x;
+        at[k] = x;
     }
-    t
 }
 
 // The places of a queue.

@@ -1,24 +1,28 @@
--- `feeding::fed_runnables` meets its contract.
+-- `feeding::fed_runnables` meets its contract. The loop has been over the places below its counter (`each_below`), and takes one more by `each-put`.
 -- Assumes nothing.
-use Prim.Native.Nat.{ℕ}
 use borrow.Author.Rules.{rules}
 use lib.ListN.{length}
 use mathlib.Core.Path.{◌∙◌, ◌≡◌}
-use Rattle.std.proofs.Common.{tests}
-use Rattle.laws.specs.Choice.{pick}
-use Rattle.laws.proofs.Places.{length-mapped}
-use Rattle.faces.specs.Types.{Runnable}
-use Rattle.config.specs.Tables.{runnable_conf_in}
-use Rattle.state.specs.Parts.{no_runnable}
-use Rattle.effects.specs.Steps.{woken}
-use Rattle.feeding.specs.Rooms.{is_fed_by, fed_runnables_by}
-use Rattle.shared_steps.proofs.Stopping.{each_within, runnables-made}
+use native.Mathlib.Omega.{arith}
+use Rattle.config.specs.Table.{part_in}
+use Rattle.laws.proofs.Places.{each_none, length-mapped}
+use Rattle.shared_steps.proofs.Stopping.{each-put, each_within, runnables-made}
+use Rattle.feeding.specs.Rooms.{fed_runnables_by}
 use Rattle.feeding.proofs.fed_runnables.Goals as goal
+
+pub loop-r-init : goal.loop-r-init
+loop-r-init c = rw each_none
+
+pub loop-r-preserved : goal.loop-r-preserved
+unfolding part_in
+loop-r-preserved c =
+    let e : length c.args.rs.at ≡ 16 = search (rules, length-mapped, c.well_formed.1) in
+    rw (c.woken_if.ensures, c.is_fed.ensures) (each-put _ _ _ _ _ _ e (omega (arith, c.within-n.ensures.0)) c.loop-r.invariant)
 
 pub returns : goal.returns
 unfolding fed_runnables_by
 returns c =
     let a = c.args in
     let e : length a.rs.at ≡ 16 = search (rules, length-mapped, c.well_formed.1) in
-    let h = c.each.ensures (λ (r : ℕ) (x : Runnable). pick (is_fed_by a.cfg a.rooms a.p r) (woken (runnable_conf_in a.cfg.runnables r) x) x) no_runnable (λ k x y q. search (rules, tests)) in
-    runnables-made (rw c.within-n.ensures.1 at h ∙ each_within 16 _ _ a.cfg.runnables.n _ e)
+    let k : c.loop-r.r ≡ c.within-n.result = omega arith in
+    runnables-made (rw (k, c.within-n.ensures.1) at c.loop-r.invariant ∙ each_within 16 _ _ a.cfg.runnables.n _ e)
