@@ -2,6 +2,7 @@
 #![tactic(auto)]
 
 ghost use Rattle.std.specs.Prelude.{◌≡◌, ◌%◌, ◌*◌, ◌+◌, ◌<◌, ◌≤◌, [], ◌∷◌, fold, length, IfOk};
+ghost use Rattle.judging.specs.Line.{line_of};
 ghost use Rattle.lines.specs.Lines.{line_bytes};
 ghost use Rattle.printing.specs.Printed.{printed_of};
 ghost use Rattle.program_io.specs.Got.{Fits, Reads};
@@ -200,7 +201,8 @@ pub fn next_number<R: Read>(input: &mut R) -> io::Result<usize>
 
 // As many bytes as the number that stands next says, or as are left, read into buf. It is an error where buf is too short for them.
 pub fn next_text<'a, R: Read>(input: &mut R, buf: &'a mut [u8]) -> io::Result<&'a [u8]>
-    ensures { IfOk result (λ text. IsText (R.remaining input.old) (R.remaining input.new) text.now) }
+    ensures fits { IfOk result (λ text. length text.now ≤ length buf.old) }
+    ensures packed { IfOk result (λ text. IsText (R.remaining input.old) (R.remaining input.new) text.now) }
 {
     let size = next_number(input)?;
     if buf.len() < size {
@@ -230,11 +232,19 @@ pub fn run<R: Files + Input + Print, E: Print>(
     times: u32,
 ) {
     if let Ok((config, recording)) = read_both(rt, stderr, config, recording) {
-        for _ in 1..times {
-            judging::line_of(config, recording);
-        }
-        print(&mut io::writer(rt), judging::line_of(config, recording));
+        print(&mut io::writer(rt), judged(config, recording, times));
     }
+}
+
+// The line of two texts, found as often as is said, once at least.
+fn judged(config: &[u8], recording: &[u8], times: u32) -> Line
+    ensures { result ≡ line_of config.now recording.now }
+{
+    let line = judging::line_of(config, recording);
+    for _ in 1..times {
+        judging::line_of(config, recording);
+    }
+    line
 }
 
 // Prints the line, in one write; whether all of it went out.
