@@ -1,5 +1,5 @@
 // Fields: a tag, and a body.
-ghost use Rattle.std.specs.Prelude.{◌≤◌};
+ghost use Rattle.std.specs.Prelude.{◌≡◌, ◌≤◌, ◌++◌, Some, length, take, drop, replicate, min};
 
 use crate::forms::{Row, Subject, choosing, size_of};
 use crate::room::Room;
@@ -38,15 +38,17 @@ impl Field {
     }
 
     // The field that a file has with this tag and this body.
-    pub(crate) fn of_file(tag: u8, body: &[u8]) -> Field {
-        let mut field = Field {
+    pub(crate) fn of_file(tag: u8, body: &[u8]) -> Field
+        ensures tagged { result.tag ≡ Some tag }
+        ensures same_body { result.body ≡ take (min (length body.now) 13) body.now ++ drop (min (length body.now) 13) (replicate 13 0) }
+    {
+        let mut all = [0; BODY];
+        let size = body.len().min(BODY);
+        all[..size].copy_from_slice(&body[..size]);
+        Field {
             tag: Some(tag),
-            body: [0; BODY],
-        };
-        for (place, b) in body.iter().enumerate() {
-            field.set(place, *b);
+            body: all,
         }
-        field
     }
 
     pub(crate) fn tag(&self) -> Option<u8> {

@@ -72,26 +72,31 @@ fn damage_of(bytes: &[u8]) -> Option<Damage> {
     }
 }
 
-// The line, taken as any line is, gives the field back.
-fn gives_back(forms: &[u8], line: &[u8], known: &Known, field: &Field) -> bool {
+// The line, taken and put as any line is, gives the bytes of the file back.
+fn gives_back(forms: &[u8], line: &[u8], known: &Known, bytes: &[u8]) -> bool {
     match take_line(forms, Line::of(line), known) {
-        Ok(taken) => taken.field == *field,
+        Ok(taken) => {
+            let mut back = Room::<{ numbers::SIZE_STEP }>::new();
+            taken.field.put(&mut back);
+            back.as_bytes() == bytes
+        }
         Err(_) => false,
     }
 }
 
-// The line of a field: the first that gives the field back. Whether there is one.
+// The line of a field, whose bytes the file has: the first that gives them back. Whether there is one.
 fn put_field<const N: usize>(
     line: &mut Room<N>,
     forms: &[u8],
     field: &Field,
+    bytes: &[u8],
     known: &Known,
 ) -> bool {
     for row in Rows(forms) {
         if field.may_be_of(&row) {
             line.clear();
             put_form(line, forms, row, known, field);
-            if gives_back(forms, line.as_bytes(), known, field) {
+            if gives_back(forms, line.as_bytes(), known, bytes) {
                 return true;
             }
         }
@@ -115,7 +120,7 @@ fn put_raw<const N: usize>(out: &mut Room<N>, bytes: &[u8]) {
 fn show_field<const N: usize>(out: &mut Room<N>, forms: &[u8], bytes: &[u8], known: &mut Known) {
     if let [tag, _, _, body @ ..] = bytes {
         let mut line = Room::<512>::new();
-        if put_field(&mut line, forms, &Field::of_file(*tag, body), known) {
+        if put_field(&mut line, forms, &Field::of_file(*tag, body), bytes, known) {
             known.count_tag(*tag);
             out.put_all(line.as_bytes());
             out.put(b'\n');

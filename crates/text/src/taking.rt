@@ -72,7 +72,9 @@ fn is_blank(c: u8) -> bool {
 }
 
 // How much of a line stands before its comment. In quotation marks `#` starts none.
-pub(crate) fn before_comment(line: &[u8]) -> &[u8] {
+pub(crate) fn before_comment(line: &[u8]) -> &[u8]
+    ensures { length result.now ≤ length line.now }
+{
     let mut quoted = false;
     for (i, c) in line.iter().enumerate() {
         match c {
@@ -147,12 +149,15 @@ impl<'a> Line<'a> {
     pub(crate) fn take_number(&mut self) -> Option<u32>
         ensures { IfSome result (λ _. length self.new.rest.now < length self.old.rest.now) }
     {
-        let others = self.rest.iter().position(|c| !c.is_ascii_digit());
-        let (digits, rest) = self.rest.split_at(others.unwrap_or(self.rest.len()));
-        if digits.is_empty() || !(Line { rest }).is_at_break() {
+        let mut number: u32 = 0;
+        let mut rest = self.rest;
+        while let [d @ b'0'..=b'9', behind @ ..] = rest {
+            number = number.checked_mul(10)?.checked_add(u32::from(*d - b'0'))?;
+            rest = behind;
+        }
+        if rest.len() == self.rest.len() || !(Line { rest }).is_at_break() {
             return None;
         }
-        let number = std::str::from_utf8(digits).ok()?.parse::<u32>().ok()?;
         self.rest = rest;
         Some(number)
     }
