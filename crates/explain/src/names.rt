@@ -1,6 +1,6 @@
 // Names of parts, as they are shown, of 16 parts of eight kinds.
 // A name is made harmless once, where it is taken: no control character is kept, and for a page nothing that could be markup.
-ghost use Rattle.std.specs.Prelude.{◌<◌, IfSome};
+ghost use Rattle.std.specs.Prelude.{◌<◌, ◌≤◌, IfSome};
 
 use crate::putting::{Text, byte_at};
 
@@ -67,7 +67,9 @@ impl Names {
 }
 
 // Where the name of a part stands; past the end if it can't have one.
-fn place_of(tag: u8, number: u8) -> usize {
+fn place_of(tag: u8, number: u8) -> usize
+    ensures { result ≤ 128 }
+{
     match tag {
         numbers::TAG_RUNNABLE..=numbers::TAG_TIMER if (number as usize) < EACH => {
             (tag - numbers::TAG_RUNNABLE) as usize * EACH + number as usize

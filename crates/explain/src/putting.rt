@@ -72,11 +72,8 @@ impl<const ROOM: usize> Text<ROOM> {
 
     // How many letters stand from a place on: a byte that goes on with a letter does not count.
     pub(crate) fn letters_from(&self, from: usize) -> usize {
-        self.as_bytes()
-            .iter()
-            .skip(from)
-            .filter(|b| !matches!(**b, 128..=191))
-            .count()
+        let behind = self.as_bytes().get(from..).unwrap_or(&[]);
+        behind.iter().filter(|b| !matches!(**b, 128..=191)).count()
     }
 
     // Spaces behind what stands from a place on, until it is as wide as is said.
